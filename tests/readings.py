@@ -817,7 +817,7 @@ def stretch_lines(number, stretch, versions, outcome):
 
 
 def is_good(state):
-    return state.split()[0] in ("whole", "woven", "agreed", "alone")
+    return state.split()[0] in ("whole", "woven", "agreed")
 
 
 def versions_of(stretch, copies):

@@ -56,8 +56,8 @@ pub fn splice_reports_whole_frames()
 {}
 
 /// What `mend` makes is what becomes of the stretches that the list lists, and nothing else: OUT is their bytes, one after the other, the
-/// lines are theirs, and it returns whether each is whole, woven, agreed or alone. What stands in a copy after its last stretch
-/// changes nothing.
+/// lines are theirs, and it returns whether each is whole, woven or agreed. What stands in a copy after its last stretch changes
+/// nothing.
 pub fn mend_makes_what_is_listed()
     ensures { ListedIsMade }
 {}
@@ -68,8 +68,9 @@ pub fn any_order_makes_one_file()
     ensures { AnyOrderMakesOneFile }
 {}
 
-/// Where `mend` returns `true`, what becomes of each stretch is vouched for: an element passes its CRC-32; a frame's chain is whole, and
-/// each of its slices passes its parity; and bytes without a checksum are what every copy has that has them.
+/// Where `mend` returns `true`, what becomes of each stretch is vouched for, and so each byte of OUT lies in a stretch that passes its
+/// checksum, or that two copies at least have alike: an element passes its CRC-32; a frame's chain is whole, and each of its slices passes
+/// its parity; and bytes without a checksum are what two copies at least have, and every copy that has them.
 pub fn mend_claims_what_is_vouched()
     ensures { TrueIsVouched }
 {}

@@ -19,7 +19,7 @@ use std::io::{Read, Write};
 
 /// Reads a list of stretches to its end, and makes the file of them in one pass over copies: writes what becomes of each stretch to `out`,
 /// and then prints its lines, as `stretch 3 plain agreed 111`: its number, counted from 1, its kind and state, and a mark for each
-/// copy. Returns whether each stretch is whole, woven, agreed or alone.
+/// copy. Returns whether each stretch is whole, woven or agreed.
 ///
 /// A line of the list is a stretch, as `crc32 4096 1 0 - 512`, or a part of the element before it, as `part 6 1000`; `read_list` says
 /// what each word means. Each copy is read once, from its start on, no further than to the end of its last stretch; a copy without a

@@ -42,8 +42,8 @@ Exit statuses
   2  The words were refused.
   3  picture wrote OUT, and some tile has no samples; or splice wrote OUT, and
      some place is neither settled nor woven, or the end is broken; or mend
-     wrote OUT, and some stretch is missing, disputed or open; or scan found a
-     range that is not whole, has no slice, or has one that fails.
+     wrote OUT, and some stretch is missing, disputed, open or alone; or scan
+     found a range that is not whole, has no slice, or has one that fails.
 
 Faults
   cannot read PATH

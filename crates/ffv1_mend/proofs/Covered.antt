@@ -20,7 +20,7 @@ use Rattle.ffv1_splice.proofs.WovenLaws.{given_back_is_original}
 use Rattle.ffv1_splice.proofs.Versions.{mapped_there, mapped_of}
 use Rattle.ffv1_mend.specs.Improved.{IsWithin, IsRight, Patch, patched, given_patches, improved}
 use Rattle.ffv1_mend.specs.Inner.Improved.{AreFitting}
-use Rattle.ffv1_mend.specs.Mended.{MendedValue, ElementStands, IsElementMend, IsMendOf, is_good}
+use Rattle.ffv1_mend.specs.Mended.{MendedValue, ElementStands, FrameStands, IsElementMend, IsMendOf, is_good}
 use Rattle.ffv1_mend.specs.Laws.{IsOriginalOf, MendKeepsOriginal, HasOriginal, OriginalIsMended}
 use Rattle.ffv1_mend.specs.declared.kind.Kind.{Kind}
 use Rattle.ffv1_mend.specs.declared.kind.Kind.TheVariants.{Frame, Crc32, Plain}
@@ -28,7 +28,7 @@ use Rattle.ffv1_mend.specs.declared.part.Part.{Part}
 use Rattle.ffv1_mend.specs.declared.state.State.{State}
 use Rattle.ffv1_mend.specs.declared.state.State.TheVariants.{Whole, Disputed, Woven, Missing, Alone, Agreed, Open}
 use Rattle.ffv1_mend.proofs.Fitting.{Fits, length-patched, given_fit, splices_fit}
-use Rattle.ffv1_mend.proofs.Vouched.{good_given, good_only}
+use Rattle.ffv1_mend.proofs.Vouched.{good_given, only_version}
 use Rattle.ffv1_weave.proofs.WiderRegions.{region_around}
 
 module _ (original : List ℕ) where
@@ -185,15 +185,28 @@ good_kept original versions parts mended Missing h good = absurd (cc)
 good_kept original versions parts mended Disputed h good = absurd h
 good_kept original versions parts mended Open h good = h
 
+-- a frame is not alone, and nor is an element
+frame_good : (spliced : SplicedValue) (state : State) → FrameStands spliced state → (is_good state ≡ true) ⊎ (state ≡ Alone) → is_good state ≡ true
+frame_good spliced state stands (inl good) = good
+frame_good spliced state stands (inr is_alone) = absurd (subst (FrameStands spliced) is_alone stands)
+
+element_good : (versions : List (List ℕ)) (from : List ℕ) (parts : List Part) (splices : List SplicedValue) (bytes : List ℕ) (state : State)
+    → ElementStands versions from parts splices bytes state → (is_good state ≡ true) ⊎ (state ≡ Alone) → is_good state ≡ true
+element_good versions from parts splices bytes state stands (inl good) = good
+element_good versions from parts splices bytes state stands (inr is_alone) =
+    absurd (subst (ElementStands versions from parts splices bytes) is_alone stands)
+
 good_original : (kind : Kind) (original : List ℕ) (versions : List (List ℕ)) (from : List ℕ) (parts : List Part) (mended : MendedValue)
-    → HasOriginal kind original versions parts mended → IsMendOf kind versions from parts mended → is_good mended.state ≡ true
-    → mended.bytes ≡ original
-good_original Frame original versions from parts mended of h good =
+    → HasOriginal kind original versions parts mended → IsMendOf kind versions from parts mended
+    → (is_good mended.state ≡ true) ⊎ (mended.state ≡ Alone) → mended.bytes ≡ original
+good_original Frame original versions from parts mended of h reason =
+    let good = frame_good h.spliced mended.state h.stands reason in
     h.bytes ∙ (given_back_is_original original versions h.spliced of.0 of.1 h.is_splice (good_given h.spliced mended.state h.stands good)).1
-good_original Crc32 original versions from parts mended of h good =
+good_original Crc32 original versions from parts mended of h reason =
+    let good = element_good versions from parts mended.splices mended.bytes mended.state h.stands reason in
     good_kept original versions parts mended mended.state (kept original versions from parts mended of mended.state h.stands) good
-good_original Plain original versions from parts mended of h good =
-    sym ((good_only versions from mended.bytes mended.state h.stands good).others original of)
+good_original Plain original versions from parts mended of h reason =
+    sym ((only_version versions from mended.bytes mended.state h.stands reason).others original of)
 
 pub original_is_mended : OriginalIsMended
 original_is_mended =

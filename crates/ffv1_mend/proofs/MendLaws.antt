@@ -230,7 +230,7 @@ module _ (versions others : List (List ℕ)) (same : HasSameMembers versions oth
   open_not_agreed h k = h.differ (k.others h.one ((same h.one).0 h.one_there) ∙ sym (k.others h.other ((same h.other).0 h.other_there)))
 
   one_plain : (s t : State) → PlainStands versions from a s → PlainStands others other_from b t
-      → ((s ≡ t) ⊎ (IsUnanimous s × IsUnanimous t)) × ((is_good s ≡ true) ⊎ (from ≡ other_from) → a ≡ b) × (length versions ≡ length others → s ≡ t)
+      → ((s ≡ t) ⊎ (IsUnanimous s × IsUnanimous t)) × ((is_good s ≡ true) ⊎ (s ≡ Alone) ⊎ (from ≡ other_from) → a ≡ b) × (length versions ≡ length others → s ≡ t)
   one_plain Alone Alone h k = (inl refl, λ reason. agreed (only_alone versions a h) (only_alone others b k), λ many. refl)
   one_plain Alone Agreed h k = (
     inr (tt, tt),
@@ -247,7 +247,14 @@ module _ (versions others : List (List ℕ)) (same : HasSameMembers versions oth
   one_plain Agreed Open h k = absurd (agreed_not_open h.1 k.0)
   one_plain Open Alone h k = absurd (open_not_agreed h.0 (only_alone others b k))
   one_plain Open Agreed h k = absurd (open_not_agreed h.0 k.1)
-  one_plain Open Open h k = (inl refl, λ reason. elim reason [ inl good ↦ absurd (cc) | inr taken ↦ h.1 ∙ taken ∙ sym k.1 ], λ many. refl)
+  one_plain Open Open h k = (
+    inl refl,
+    λ reason. elim reason [
+      | inl good ↦ absurd (cc)
+      | inr rest ↦ elim rest [ inl is_alone ↦ absurd (cc) | inr taken ↦ h.1 ∙ taken ∙ sym k.1 ]
+    ],
+    λ many. refl,
+  )
   one_plain Whole t h k = absurd h
   one_plain Disputed t h k = absurd h
   one_plain (Woven count) t h k = absurd h
@@ -267,10 +274,19 @@ module _ (versions others : List (List ℕ)) (same : HasSameMembers versions oth
 
 -- ---- all kinds
 
--- bytes that are good are no frame's
-good_of : (kind : Kind) (s : State) (reason : Type 0) → (kind ≡ Frame → ⊥) → (is_good s ≡ true) ⊎ (kind ≡ Frame) → (is_good s ≡ true) ⊎ reason
-good_of kind s reason not (inl good) = inl good
-good_of kind s reason not (inr frame) = absurd (not frame)
+-- an element is not alone
+element_good : (versions : List (List ℕ)) (from : List ℕ) (parts : List Part) (one : MendedValue) (reason : Type 0) → IsElementMend versions from parts one
+    → (is_good one.state ≡ true) ⊎ (one.state ≡ Alone) ⊎ (Crc32 ≡ Frame) → (is_good one.state ≡ true) ⊎ reason
+element_good versions from parts one reason is (inl good) = inl good
+element_good versions from parts one reason is (inr (inl is_alone)) =
+    absurd (subst (ElementStands versions from parts one.splices one.bytes) is_alone is.stands)
+element_good versions from parts one reason is (inr (inr frame)) = absurd (cc)
+
+-- bytes without a checksum are no frame
+plain_good : (s : State) (reason : Type 0) → (is_good s ≡ true) ⊎ (s ≡ Alone) ⊎ (Plain ≡ Frame) → (is_good s ≡ true) ⊎ (s ≡ Alone) ⊎ reason
+plain_good s reason (inl good) = inl good
+plain_good s reason (inr (inl is_alone)) = inr (inl is_alone)
+plain_good s reason (inr (inr frame)) = absurd (cc)
 
 alike : (kind : Kind) (versions others : List (List ℕ)) (from other_from : List ℕ) (parts : List Part) (one other : MendedValue)
     → HasSameMembers versions others → IsMendOf kind versions from parts one → IsMendOf kind others other_from parts other → IsSameMend kind one other
@@ -286,14 +302,14 @@ alike Crc32 versions others from other_from parts one other same h k =
     record {
       state = inl element.state;
       splices = element.splices;
-      bytes = λ reason. element.bytes (good_of Crc32 one.state (from ≡ other_from) (λ frame. absurd (cc)) reason);
+      bytes = λ reason. element.bytes (element_good versions from parts one (from ≡ other_from) h reason);
     }
 alike Plain versions others from other_from parts one other same h k =
     let plain = one_plain versions others same from other_from one.bytes other.bytes one.state other.state h.stands k.stands in
     record {
       state = plain.0;
       splices = h.none ∙ sym k.none;
-      bytes = λ reason. plain.1 (good_of Plain one.state (from ≡ other_from) (λ frame. absurd (cc)) reason);
+      bytes = λ reason. plain.1 (plain_good one.state (from ≡ other_from) reason);
     }
 
 all : (kind : Kind) (versions others : List (List ℕ)) (from : List ℕ) (parts : List Part) (one other : MendedValue) → HasSameMembers versions others
@@ -304,7 +320,7 @@ all Crc32 versions others from parts one other same many h k =
     same_value one other element.state (element.bytes (inr refl)) element.splices
 all Plain versions others from parts one other same many h k =
     let plain = one_plain versions others same from from one.bytes other.bytes one.state other.state h.stands k.stands in
-    same_value one other (plain.2 many) (plain.1 (inr refl)) (h.none ∙ sym k.none)
+    same_value one other (plain.2 many) (plain.1 (inr (inr refl))) (h.none ∙ sym k.none)
 
 pub same_versions_mend : SameVersionsMend
 same_versions_mend = record { alike = alike; all = all }

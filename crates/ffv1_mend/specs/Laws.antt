@@ -1,5 +1,5 @@
 -- Laws of what becomes of a stretch.
-use Rattle.std.specs.Prelude.{ℕ, ◌<◌, ◌≡◌, ◌⊎◌, true, List, All, Contains, length}
+use Rattle.std.specs.Prelude.{ℕ, ◌<◌, ◌≤◌, ◌≡◌, ◌⊎◌, true, List, All, Contains, length}
 use Rattle.ffv1_bits.specs.Parity.{AreBytes}
 use Rattle.ebml_crc.specs.Element.{PassesCrc32, DivideWithin32}
 use Rattle.ffv1_slice.specs.Chain.{IsLinkOf}
@@ -26,11 +26,12 @@ IsUnanimous Alone = Unit {0}
 IsUnanimous Agreed = Unit {0}
 IsUnanimous _ = ⊥
 
--- The same splices, and the same state, but that what is alone may be agreed; and the same bytes where the stretch is good, or a frame.
+-- The same splices, and the same state, but that what is alone may be agreed; and the same bytes where the stretch is good or alone, or a
+-- frame.
 pub record IsSameMend (kind : Kind) (one other : MendedValue) : Type 0 where
   pub state : (one.state ≡ other.state) ⊎ (IsUnanimous one.state × IsUnanimous other.state)
   pub splices : one.splices ≡ other.splices
-  pub bytes : (is_good one.state ≡ true) ⊎ (kind ≡ Frame) → one.bytes ≡ other.bytes
+  pub bytes : (is_good one.state ≡ true) ⊎ (one.state ≡ Alone) ⊎ (kind ≡ Frame) → one.bytes ≡ other.bytes
 
 -- However the same versions are ordered or repeated, and whichever is taken where nothing vouches, they mend alike; and where there are as
 -- many and the same is taken, all is the same.
@@ -43,12 +44,17 @@ pub record SameVersionsMend : Type 0 where
 
 -- ---- what vouches
 
+-- There are two versions at least, and each is these bytes.
+pub record AreAlike (versions : List (List ℕ)) (bytes : List ℕ) : Type 0 where
+  pub count : 2 ≤ length versions
+  pub each : IsOnly (Contains versions) bytes
+
 -- An element passes its CRC-32. A frame is whole, and each of its slices has content and passes its parity. Bytes without a checksum are
--- every version.
+-- what two versions at least have alike, and no version has others.
 abbrev pub IsVouched : Kind → List (List ℕ) → List ℕ → Type 0
 IsVouched Frame versions bytes = IsWholeFrame bytes
 IsVouched Crc32 versions bytes = PassesCrc32 bytes
-IsVouched Plain versions bytes = IsOnly (Contains versions) bytes
+IsVouched Plain versions bytes = AreAlike versions bytes
 
 -- So it is of the bytes of a stretch that is good.
 abbrev pub GoodIsVouched : Type 0
@@ -79,13 +85,13 @@ HasOriginal Frame original versions parts mended = AreCopiesOf original versions
 HasOriginal Crc32 original versions parts mended = IsOriginalOf original versions parts mended
 HasOriginal Plain original versions parts mended = Contains versions original
 
--- Then a stretch that is good is the original, and an element is kept. The original of an element is among the combinations where each
+-- Then a stretch that is good or alone is the original, and an element is kept. The original of an element is among the combinations where each
 -- region in which the improved versions differ is intact in one of them, and where all agree they are right; and so where it is so of the
 -- versions as they were given, and what the splices give, voted and repaired places too, is right.
 pub record OriginalIsMended : Type 0 where
   pub original : (kind : Kind) (original : List ℕ) (versions : List (List ℕ)) (from : List ℕ) (parts : List Part) (mended : MendedValue)
-      → HasOriginal kind original versions parts mended → IsMendOf kind versions from parts mended → is_good mended.state ≡ true
-      → mended.bytes ≡ original
+      → HasOriginal kind original versions parts mended → IsMendOf kind versions from parts mended
+      → (is_good mended.state ≡ true) ⊎ (mended.state ≡ Alone) → mended.bytes ≡ original
   pub kept : (original : List ℕ) (versions : List (List ℕ)) (from : List ℕ) (parts : List Part) (mended : MendedValue)
       → IsOriginalOf original versions parts mended → IsElementMend versions from parts mended → MendKeepsOriginal original versions parts mended mended.state
   pub among : (original : List ℕ) (versions : List (List ℕ)) (parts : List Part) (mended : MendedValue)

@@ -21,12 +21,11 @@ pub record MendedValue : Type 0 where
   pub bytes : List ℕ
   pub splices : List SplicedValue
 
--- a checksum or all copies vouch for the bytes
+-- a checksum vouches for the bytes, or several versions that are all equal
 abbrev pub is_good : State → Bool
 is_good Whole = true
 is_good (Woven count) = true
 is_good Agreed = true
-is_good Alone = true
 is_good _ = false
 
 -- ---- elements with a CRC-32

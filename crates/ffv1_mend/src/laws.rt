@@ -2,19 +2,19 @@
 ghost use Rattle.ffv1_mend.specs.Laws.{SameVersionsMend, GoodIsVouched, OriginalIsMended, NearVersionsMend};
 
 /// However the same versions are ordered or repeated, and whichever of them is taken where nothing vouches, they have one state, but that
-/// what is alone may be agreed, and one list of splices; and one list of bytes where the stretch is good, and of a frame always. Where as
-/// many versions are given, and the same one is taken, all is the same.
+/// what is alone may be agreed, and one list of splices; and one list of bytes where the stretch is good or alone, and of a frame always.
+/// Where as many versions are given, and the same one is taken, all is the same.
 pub fn same_versions_mend()
     ensures { SameVersionsMend }
 {}
 
 /// Where a stretch is good, an element passes its CRC-32; a frame is whole by its own footers: its chain is whole, and each of its
-/// slices has content and passes its parity; and bytes without a checksum are what every version has.
+/// slices has content and passes its parity; and bytes without a checksum are what two versions at least have, and every version.
 pub fn good_is_vouched()
     ensures { GoodIsVouched }
 {}
 
-/// Where a stretch is good, it is the original: of an element, where the original passes, no version that passes differs from it, and it is
+/// Where a stretch is good or alone, it is the original: of an element, where the original passes, no version that passes differs from it, and it is
 /// among the combinations of the improved versions; of a frame, where no slice that passes its parity differs from the original's, the
 /// start of each of its slices is claimed by some version, and each is among the combinations; of bytes without a checksum, where some
 /// version has them.

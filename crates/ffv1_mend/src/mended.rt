@@ -67,13 +67,10 @@ impl<'a> Mended<'a> {
         self.splices.as_slice()
     }
 
-    /// Whether a checksum vouches for its bytes, or no version differs from them: it is `Whole`, `Woven`, `Agreed` or `Alone`.
+    /// Whether a checksum vouches for its bytes, or two versions at least that are all equal: it is `Whole`, `Woven` or `Agreed`.
     pub fn is_good(&self) -> bool
         ensures { result ≡ is_good self.now.state }
     {
-        matches!(
-            self.state,
-            State::Whole | State::Woven(_) | State::Agreed | State::Alone
-        )
+        matches!(self.state, State::Whole | State::Woven(_) | State::Agreed)
     }
 }

@@ -20,8 +20,8 @@ use std::alloc::{AllocError, Global};
 /// versions that differ pass, it has what each splice has in its part, and elsewhere the bytes of `from`. Bytes without a checksum are
 /// those of `from`.
 ///
-/// The order of the versions changes nothing, and repeating one changes only `Alone` to `Agreed`; `from` changes only bytes that are not
-/// good (`same_versions_mend`). Bytes that are good pass the checksum (`good_is_vouched`), and are the original's where that is among the
+/// The order of the versions changes nothing, and repeating one changes only `Alone` to `Agreed`; `from` changes only bytes that are
+/// neither good nor alone (`same_versions_mend`). Bytes that are good pass the checksum (`good_is_vouched`), and are the original's where that is among the
 /// combinations (`original_is_mended`). Equal versions are judged once, and a version that stands as it is is lent, and not copied. The
 /// only refusal is that of an allocation of memory.
 pub fn mend<'a>(

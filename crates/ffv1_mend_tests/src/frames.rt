@@ -102,7 +102,7 @@ fn is_taken(
 #[test]
 fn bytes_without_a_checksum_stand_by_their_versions(rt: HostRuntime) {
     let alone = mend(rt.alloc(), Kind::Plain, &[b"abc"], b"abc", &[]);
-    let is_alone = is_taken(alone, (State::Alone, true), b"abc");
+    let is_alone = is_taken(alone, (State::Alone, false), b"abc");
     let agreed = mend(rt.alloc(), Kind::Plain, &[b"abc", b"abc"], b"abc", &[]);
     let is_agreed = is_taken(agreed, (State::Agreed, true), b"abc");
     let open = mend(rt.alloc(), Kind::Plain, &[b"abc", b"abd"], b"abd", &[]);

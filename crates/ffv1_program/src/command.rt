@@ -56,7 +56,7 @@ fn all_printed(printed: Result<(), WriteFailed>) -> Result<bool, CliFault>
 
 /// Runs a command on the files that its words name; `made` is the one that it makes. Returns `false` where `picture` wrote its file and
 /// some tile has no samples, or `splice` its own and not all of the frame is given back, or `mend` its own and a stretch is missing,
-/// disputed or open, or `scan` found a range that is not whole with all its links passing; else `true`.
+/// disputed, open or alone, or `scan` found a range that is not whole with all its links passing; else `true`.
 ///
 /// It stops where the command does. A command that makes no file leaves `made` untouched.
 pub fn run<'a, F: FileSystem<'a>, O: MakeFile, W: Write>(

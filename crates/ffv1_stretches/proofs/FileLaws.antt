@@ -1,5 +1,5 @@
 -- The laws of what becomes of the stretches of a file.
-use Rattle.std.proofs.Common.{◌≡◌, ℕ, zero, suc, ◌<◌, Bool, true, false, ◌&&◌, List, [], ◌∷◌, ◌++◌, Option, Some, None, length, get_or, map, replicate, refl, sym, ap, ◌∙◌, subst, arith, Contains}
+use Rattle.std.proofs.Common.{◌≡◌, ℕ, zero, suc, ◌<◌, Bool, true, false, ◌&&◌, List, [], ◌∷◌, ◌++◌, Option, Some, None, length, get_or, map, replicate, refl, sym, ap, ◌∙◌, subst, arith, inl, Contains}
 use Rattle.std.specs.List.{list_all, sum_by, zip}
 use Rattle.std.specs.List.Sorted.{IsPermutation}
 use Rattle.std.proofs.lemmas.List.Sorted.{IsPermutation-map, IsPermutation-sym, Contains-permutation, sum_by-IsPermutation}
@@ -128,7 +128,7 @@ original_file_is_mended files (s ∷ ss) (m ∷ ms) [] outcomes originals good =
 original_file_is_mended files (s ∷ ss) (m ∷ ms) (o ∷ os) outcomes originals good =
     let all = both_true (is_good m.state) (list_all (λ one. is_good one.state) ms) good in
     ap (λ bytes. bytes ++ bytes_of ms)
-    (original_is_mended.original s.kind o (versions_in (cells_of files s)) outcomes.0.from s.parts m originals.0 outcomes.0.mends all.0)
+    (original_is_mended.original s.kind o (versions_in (cells_of files s)) outcomes.0.from s.parts m originals.0 outcomes.0.mends (inl all.0))
     ∙ ap (λ rest. o ++ rest) (original_file_is_mended files ss ms os outcomes.1 originals.1 all.1)
 
 -- ---- what stands after the last stretches

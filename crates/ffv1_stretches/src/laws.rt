@@ -8,7 +8,8 @@ pub fn any_order_mends()
 {}
 
 /// What becomes of a stretch that is good is vouched for: an element passes its CRC-32 (RFC 8794, section 11.3.1); a frame is whole, each
-/// of whose slices passes its parity (RFC 9043, section 4.9); and bytes without a checksum are what every copy has that has them.
+/// of whose slices passes its parity (RFC 9043, section 4.9); and bytes without a checksum are what two copies at least have, and every
+/// copy that has them.
 pub fn good_stretches_are_vouched()
     ensures { GoodStretchesAreVouched }
 {}

@@ -128,7 +128,7 @@ fn write_output<W: Sink>(output: &mut W, lines: &str) -> Result<(), MendFault>
 /// over what stands between stretches; writes what becomes of it to `out`; and then prints its lines to `output`, as `stretch 3 plain
 /// agreed 111`: its number, from 1, its kind and state, and for each copy `1` where it has what OUT has, `0` where it has others,
 /// and `-` where it does not have the stretch; and below it of what is damaged or differs the lines of its slices. Returns whether each
-/// stretch is whole, woven, agreed or alone.
+/// stretch is whole, woven or agreed.
 ///
 /// Each copy is read once, from its start on, and no further than to the end of its last stretch; a copy that has none is not read. One
 /// stretch of each copy is held, and room for it grows as its bytes come. Returns `Read` with the copy that failed or ended within a

@@ -57,7 +57,7 @@ fn copies_are_read_no_further_than_their_stretches(rt: HostRuntime) {
     let is_whole = two_come_to(rt.alloc(), LIST, one, other, AMPLE, ALL);
     let (one, other) = (Input::failing(b""), Input::ending(b"ab"));
     let wanted = Wanted {
-        answer: Ok(true),
+        answer: Ok(false),
         made: b"ab",
         printed: "stretch 1 plain alone -1\n",
     };

@@ -214,7 +214,7 @@ fn interruptions_are_counted(alloc: Global, device: Device) -> bool {
     let failed = interrupted(alloc, device, 65);
     match (&passed, &failed) {
         (Ok(passed), Ok(failed)) => {
-            matches!(passed.answer, Ok(true))
+            matches!(passed.answer, Ok(false))
                 && has_left(passed, (27, 127))
                 && is_named(&failed.answer, device)
                 && has_left(failed, left_after(device, 0))
