@@ -13,7 +13,7 @@ use Rattle.ffv1_weave.specs.Inner.Parts.{Part, ArePartsFrom, IsFit, chosen}
 use Rattle.ffv1_weave.specs.Parts.{written}
 use Rattle.ffv1_weave.specs.Inner.Changes.{remainder_in, change_of, changes_of, changed}
 use Rattle.ffv1_weave.specs.declared.check.Check.{Check}
-use Rattle.ffv1_weave.specs.declared.check.Check.TheVariants.{Slice, Element}
+use Rattle.ffv1_weave.specs.declared.check.Check.TheVariants.{Slice, Element, Record, Flac}
 use Rattle.ffv1_weave.specs.declared.grains.Grain.{Grain}
 use Rattle.ffv1_weave.proofs.GrainSteps.{part_some}
 use Rattle.ffv1_weave.proofs.References.{values_of, value_at, length-values_of}
@@ -24,11 +24,15 @@ use Rattle.ffv1_weave.proofs.Choices.{length-written, written_after, same_range,
 pub passes_leaves_none : (check : Check) (bytes : List ℕ) → PassesBy check bytes → remainder_in check bytes ≡ 0
 passes_leaves_none Slice bytes passes = passes.1.1
 passes_leaves_none Element bytes passes = right_leaves_none bytes passes
+passes_leaves_none Record bytes passes = passes.0.1
+passes_leaves_none Flac bytes passes = refl
 
 same_changes : (check : Check) (a b c d : List ℕ) → AreSameChanges a b c d
     → bit_xor (remainder_in check a) (remainder_in check b) ≡ bit_xor (remainder_in check c) (remainder_in check d)
 same_changes Slice a b c d h = remainder_changes a b c d h
 same_changes Element a b c d h = element_changes a b c d h
+same_changes Record a b c d h = remainder_changes a b c d h
+same_changes Flac a b c d h = refl
 
 -- ---- what is left of bytes with a byte string written over them
 

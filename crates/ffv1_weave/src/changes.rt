@@ -1,6 +1,7 @@
 //! What the choices of parts change of what is left: each is computed once, and a combination's remainder is the
 //! sum of those of its choices.
 ghost use Rattle.std.specs.Prelude.{◌≡◌, ◌+◌, ◌≤◌, ◌<◌, length, map, All, IfOk};
+ghost use Rattle.ffv1_weave.specs.Checks.{CanWeave};
 ghost use Rattle.ffv1_weave.specs.Inner.Parts.{IsFit};
 ghost use Rattle.ffv1_weave.specs.Inner.Changes.{remainder_in, change_of, changes_of, changed};
 
@@ -18,6 +19,7 @@ fn change_of(
     start: usize,
     choice: &[u8],
 ) -> u32
+    requires weaves { CanWeave check }
     requires same { length scratch.old ≡ length first.now }
     requires fits { start + length choice.now ≤ length first.now }
     requires base { base ≡ remainder_in check first.now }
@@ -41,6 +43,7 @@ fn changes_of(
     base: u32,
     part: &Part<'_>,
 ) -> Result<Vec<u32>, AllocError>
+    requires weaves { CanWeave check }
     requires same { length scratch.old ≡ length first.now }
     requires fits { IsFit (length first.now) part.now }
     requires base { base ≡ remainder_in check first.now }
@@ -62,6 +65,7 @@ pub(crate) fn tables_of(
     base: u32,
     parts: &[Part<'_>],
 ) -> Result<Vec<Vec<u32>>, AllocError>
+    requires weaves { CanWeave check }
     requires fits { All (IsFit (length first.now)) parts.now }
     requires base { base ≡ remainder_in check first.now }
     ensures { IfOk result (λ tables. map (λ changes. changes.items) tables.items ≡ map (changes_of check first.now) parts.now) }

@@ -1,6 +1,7 @@
 //! Combinations that are tried: what is left of each is summed of what each of its choices changes of the first one, and only where that is
 //! 0 are its bytes written and looked at. A part with one choice changes nothing, so no parity is taken of it.
 ghost use Rattle.std.specs.Prelude.{◌≡◌, ◌<◌, ◌++◌, ℕ, List, [], length, map, All, IfOk, slice_index_or};
+ghost use Rattle.ffv1_weave.specs.Checks.{CanWeave};
 ghost use Rattle.ffv1_weave.specs.Inner.Found.{IsFoundAmong};
 ghost use Rattle.ffv1_weave.specs.Inner.Parts.{AreFewParts, chosen_below};
 ghost use Rattle.ffv1_weave.specs.declared.grains.Grain.{Grain};
@@ -19,6 +20,7 @@ pub(crate) fn with_combinations(
     tried: &Parts<'_>,
     mut found: Found,
 ) -> Result<Found, AllocError>
+    requires weaves { CanWeave check }
     requires some { 0 < length versions.now }
     requires lengths { All (λ version. length version.now ≡ length (slice_index_or (map (λ version. version.now) versions.now) 0 [])) versions.now }
     requires few { (grain : Grain) × AreFewParts grain (map (λ version. version.now) versions.now)

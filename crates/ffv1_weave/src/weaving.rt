@@ -1,5 +1,6 @@
 //! The weave of versions of one slice or element: each combination is tried.
 ghost use Rattle.std.specs.Prelude.{◌≡◌, ◌<◌, [], length, map, All, IfOk, slice_index_or};
+ghost use Rattle.ffv1_weave.specs.Checks.{CanWeave};
 ghost use Rattle.ffv1_weave.specs.Weave.{IsWeaveOf, weave_tally};
 ghost use Rattle.ffv1_weave.specs.Inner.Parts.{AreDistinct};
 
@@ -12,9 +13,9 @@ use std::alloc::{AllocError, Global};
 /// The greatest number of combinations that are tried: where versions have more however they are parted, none is.
 pub const MOST_COMBINATIONS: usize = 4096;
 
-/// What comes of weaving versions of a slice or of an element. A combination is valid where it passes the check: a slice where its
-/// footer gives its length (RFC 9043, section 4.9.1) and it passes the parity (section 4.9.3), an element where it begins with its
-/// CRC-32 (RFC 8794, section 11.3.1).
+/// What comes of weaving versions of a slice, of an element or of a record. A combination is valid where it passes the check: a slice
+/// where its footer gives its length (RFC 9043, section 4.9.1) and it passes the parity (section 4.9.3), an element where it begins with its
+/// CRC-32 (RFC 8794, section 11.3.1), a record where it passes its parity (RFC 9043, section 4.3.2) and is not all zeros.
 #[derive(Debug, Drop)]
 pub enum Outcome {
     /// One combination alone is valid: these bytes, among so many that are tried, which are at most `MOST_COMBINATIONS`.
@@ -29,6 +30,7 @@ pub enum Outcome {
 
 /// Weaves different versions of one length, of which there is one at least, by the check.
 fn weave_distinct(alloc: Global, check: Check, versions: &[&[u8]]) -> Result<Outcome, AllocError>
+    requires weaves { CanWeave check }
     requires some { 0 < length versions.now }
     requires lengths { All (λ version. length version.now ≡ length (slice_index_or (map (λ version. version.now) versions.now) 0 [])) versions.now }
     requires distinct { AreDistinct (map (λ version. version.now) versions.now) }
@@ -44,8 +46,8 @@ fn weave_distinct(alloc: Global, check: Check, versions: &[&[u8]]) -> Result<Out
     }
 }
 
-/// Weaves versions of a slice, each with its footer, or of an element, by the check: what several copies have at its place. There is one
-/// at least, and all are as long as the first.
+/// Weaves versions of a slice, each with its footer, of an element or of a record, by the check: what several copies have at its place.
+/// There is one at least, and all are as long as the first. By the check of a FLAC frame none are woven.
 ///
 /// Versions are parted at places, counted in bytes from their start. A combination has in each part the bytes of one version, which may be
 /// another one in each. The parts are segments or regions:
@@ -67,6 +69,7 @@ fn weave_distinct(alloc: Global, check: Check, versions: &[&[u8]]) -> Result<Out
 /// It takes memory for two copies of a version, for a list of the different versions, and for one of the parts at which they differ.
 /// The only refusal is that of such an allocation.
 pub fn weave(alloc: Global, check: Check, versions: &[&[u8]]) -> Result<Outcome, AllocError>
+    requires weaves { CanWeave check }
     requires some { 0 < length versions.now }
     requires lengths { All (λ version. length version.now ≡ length (slice_index_or (map (λ version. version.now) versions.now) 0 [])) versions.now }
     ensures { IfOk result (λ outcome. IsWeaveOf check (map (λ version. version.now) versions.now) (weave_tally outcome)) }

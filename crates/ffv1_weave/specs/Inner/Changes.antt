@@ -6,12 +6,15 @@ use Rattle.ebml_crc.specs.Element.{element_left}
 use Rattle.ffv1_weave.specs.Inner.Parts.{Part}
 use Rattle.ffv1_weave.specs.Parts.{written}
 use Rattle.ffv1_weave.specs.declared.check.Check.{Check}
-use Rattle.ffv1_weave.specs.declared.check.Check.TheVariants.{Slice, Element}
+use Rattle.ffv1_weave.specs.declared.check.Check.TheVariants.{Slice, Element, Record, Flac}
 
--- what is left of bytes, which is 0 where they pass: of a slice the parity's remainder, of an element the CRC-32's
+-- What is left of bytes, which is 0 where they pass: of a slice and of a record the parity's remainder, of an element the CRC-32's. No
+-- versions are woven by the check of a FLAC frame, and nothing is taken to be left of it.
 abbrev pub remainder_in : Check → List ℕ → ℕ
 remainder_in Slice bytes = remainder_of (bits_of bytes)
 remainder_in Element bytes = element_left bytes
+remainder_in Record bytes = remainder_of (bits_of bytes)
+remainder_in Flac bytes = 0
 
 -- what a byte string changes of the remainder of bytes, where it is written over them
 abbrev pub change_of : Check → List ℕ → ℕ → List ℕ → ℕ
