@@ -1,13 +1,17 @@
--- Where the versions cover an original, and what the splices give is right, the improved versions have it among their combinations.
+-- Where the versions cover an original, and what the parts give is right, the improved versions have it among their combinations.
 use Rattle.std.proofs.Common.{◌≡◌, ℕ, ◌+◌, ◌-◌, ◌<◌, ◌≤◌, true, List, [], ◌∷◌, length, get_or, sym, ap, ◌∙◌, subst, arith, refl, inl, inr}
 use Rattle.std.specs.Prelude.{◌⊎◌, All, Contains}
 use Rattle.std.proofs.lemmas.Bool.{cases_lt}
 use Rattle.std.proofs.lemmas.List.Elements.{All-head, All-tail, Contains-get_or}
 use Rattle.ffv1_weave.specs.Parts.{written}
 use Rattle.ffv1_weave.specs.Regions.{AgreeAt}
-use Rattle.ffv1_weave.specs.Combinations.{IsCombination}
-use Rattle.ffv1_weave.specs.Weave.{Weave, IsWeaveOf}
+use Rattle.ffv1_slice.specs.Members.{IsOfTwo}
+use Rattle.ffv1_weave.specs.Checks.{CanWeave}
+use Rattle.ffv1_weave.specs.Combinations.{IsCombination, IsValid}
+use Rattle.ffv1_weave.specs.Weave.{Weave, IsWeaveOf, AreMany}
 use Rattle.ffv1_weave.specs.Weave.Weave.{woven, missing}
+use Rattle.ffv1_weave.specs.declared.check.Check.{Check}
+use Rattle.ffv1_weave.specs.declared.check.Check.TheVariants as checks
 use Rattle.ffv1_weave.specs.declared.check.Check.TheVariants.{Element}
 use Rattle.ffv1_weave.specs.Laws.{IsCovered}
 use Rattle.ffv1_weave.specs.Laws as weave_laws
@@ -18,16 +22,16 @@ use Rattle.ffv1_weave.proofs.Choices.{length-written, written_before, written_in
 use Rattle.ffv1_splice.specs.Splice.{SplicedValue}
 use Rattle.ffv1_splice.proofs.WovenLaws.{given_back_is_original}
 use Rattle.ffv1_splice.proofs.Versions.{mapped_there, mapped_of}
-use Rattle.ffv1_mend.specs.Improved.{IsWithin, IsRight, Patch, patched, given_patches, improved}
+use Rattle.ffv1_mend.specs.Improved.{PartValue, IsWithin, IsRight, Patch, patched, given_patches, improved, fallback}
 use Rattle.ffv1_mend.specs.Inner.Improved.{AreFitting}
-use Rattle.ffv1_mend.specs.Mended.{MendedValue, ElementStands, FrameStands, IsElementMend, IsMendOf, is_good}
-use Rattle.ffv1_mend.specs.Laws.{IsOriginalOf, MendKeepsOriginal, HasOriginal, OriginalIsMended}
+use Rattle.ffv1_mend.specs.Mended.{MendedValue, IsNotWoven, StandsBy, FrameStands, IsElementMend, IsMendOf, is_good}
+use Rattle.ffv1_mend.specs.Laws.{IsOriginalBy, MendKeepsOriginal, HasOriginal, OriginalIsMended}
 use Rattle.ffv1_mend.specs.declared.kind.Kind.{Kind}
-use Rattle.ffv1_mend.specs.declared.kind.Kind.TheVariants.{Frame, Crc32, Plain}
+use Rattle.ffv1_mend.specs.declared.kind.Kind.TheVariants.{Frame, Crc32, Record, Flac, Plain}
 use Rattle.ffv1_mend.specs.declared.part.Part.{Part}
 use Rattle.ffv1_mend.specs.declared.state.State.{State}
 use Rattle.ffv1_mend.specs.declared.state.State.TheVariants.{Whole, Disputed, Woven, Missing, Alone, Agreed, Open}
-use Rattle.ffv1_mend.proofs.Fitting.{Fits, length-patched, given_fit, splices_fit}
+use Rattle.ffv1_mend.proofs.Fitting.{Fits, length-patched, given_fit, parts_fit}
 use Rattle.ffv1_mend.proofs.Vouched.{good_given, only_version}
 use Rattle.ffv1_weave.proofs.WiderRegions.{region_around}
 
@@ -55,26 +59,26 @@ module _ (original : List ℕ) where
         ]
       ]
 
-module _ (original : List ℕ) (versions : List (List ℕ)) (parts : List Part) (splices : List SplicedValue) (covered : IsCovered original versions)
-    (fit : AreFitting (length original) parts splices) (right : All (IsRight original) (given_patches parts splices)) where
+module _ (original : List ℕ) (versions : List (List ℕ)) (parts : List Part) (mends : List PartValue) (covered : IsCovered original versions)
+    (fit : AreFitting (length original) parts mends) (right : All (IsRight original) (given_patches parts mends)) where
   better : List ℕ → List ℕ
-  better version = patched version (given_patches parts splices)
+  better version = patched version (given_patches parts mends)
 
-  at : (i : ℕ) → ((bytes : List ℕ) → length bytes ≡ length original → get_or (patched bytes (given_patches parts splices)) i 0 ≡ get_or bytes i 0)
-      ⊎ ((bytes : List ℕ) → length bytes ≡ length original → get_or (patched bytes (given_patches parts splices)) i 0 ≡ get_or original i 0)
-  at i = patched_at original (given_patches parts splices) (given_fit (length original) parts splices fit) right i
+  at : (i : ℕ) → ((bytes : List ℕ) → length bytes ≡ length original → get_or (patched bytes (given_patches parts mends)) i 0 ≡ get_or bytes i 0)
+      ⊎ ((bytes : List ℕ) → length bytes ≡ length original → get_or (patched bytes (given_patches parts mends)) i 0 ≡ get_or original i 0)
+  at i = patched_at original (given_patches parts mends) (given_fit (length original) parts mends fit) right i
 
-  of : (one : List ℕ) → Contains (improved versions parts splices) one
-      → (version : List ℕ) × Contains versions version × (one ≡ patched version (given_patches parts splices))
-  of one there = mapped_of (λ version. patched version (given_patches parts splices)) versions one there
+  of : (one : List ℕ) → Contains (improved versions parts mends) one
+      → (version : List ℕ) × Contains versions version × (one ≡ patched version (given_patches parts mends))
+  of one there = mapped_of (λ version. patched version (given_patches parts mends)) versions one there
 
-  long : (version : List ℕ) → Contains versions version → length (patched version (given_patches parts splices)) ≡ length original
+  long : (version : List ℕ) → Contains versions version → length (patched version (given_patches parts mends)) ≡ length original
   long version there =
-      length-patched (length original) (given_patches parts splices) version (covered.one_length version there)
-      (given_fit (length original) parts splices fit)
+      length-patched (length original) (given_patches parts mends) version (covered.one_length version there)
+      (given_fit (length original) parts mends fit)
 
   -- where the versions agree, the improved ones do
-  agree_on : (i : ℕ) → AgreeAt versions i → AgreeAt (improved versions parts splices) i
+  agree_on : (i : ℕ) → AgreeAt versions i → AgreeAt (improved versions parts mends) i
   agree_on i agree one other there here =
       let a = of one there in
       let b = of other here in
@@ -85,10 +89,10 @@ module _ (original : List ℕ) (versions : List (List ℕ)) (parts : List Part) 
         | inr given ↦ first ∙ given a.0 (covered.one_length a.0 a.1) ∙ sym (second ∙ given b.0 (covered.one_length b.0 b.1))
       ]
 
-  there_of : (version : List ℕ) → Contains versions version → Contains (improved versions parts splices) (patched version (given_patches parts splices))
-  there_of version there = mapped_there (λ version. patched version (given_patches parts splices)) versions version there
+  there_of : (version : List ℕ) → Contains versions version → Contains (improved versions parts mends) (patched version (given_patches parts mends))
+  there_of version there = mapped_there (λ version. patched version (given_patches parts mends)) versions version there
 
-  pub original_among : IsCombination (improved versions parts splices) original
+  pub original_among : IsCombination (improved versions parts mends) original
   original_among =
       record {
         same_length = λ one there. let a = of one there in sym (ap length a.2 ∙ long a.0 a.1);
@@ -99,12 +103,12 @@ module _ (original : List ℕ) (versions : List (List ℕ)) (parts : List Part) 
               | inr given ↦ sym (first ∙ given a.0 (covered.one_length a.0 a.1))
               | inl stays ↦
                   let same : AgreeAt versions i = λ v w in_v in_w. sym (stays v (covered.one_length v in_v))
-                  ∙ agree (patched v (given_patches parts splices)) (patched w (given_patches parts splices)) (there_of v in_v) (there_of w in_w)
+                  ∙ agree (patched v (given_patches parts mends)) (patched w (given_patches parts mends)) (there_of v in_v) (there_of w in_w)
                   ∙ stays w (covered.one_length w in_w) in
                   sym (first ∙ stays a.0 (covered.one_length a.0 a.1) ∙ covered.right i same a.0 a.1)
             ];
         parts = λ start end region.
-            let wide = region_around versions (improved versions parts splices) (length original) start end covered.one_length agree_on region in
+            let wide = region_around versions (improved versions parts mends) (length original) start end covered.one_length agree_on region in
             let intact = covered.intact wide.begin wide.last wide.region in
             let version : List ℕ = intact.0 in
             let low = wide.before in
@@ -113,12 +117,12 @@ module _ (original : List ℕ) (versions : List (List ℕ)) (parts : List Part) 
             let some = region.some in
             let inside : end ≤ length original = elim (cases_lt (end - 1) (length original)) [
               | inl below ↦ omega arith
-              | inr past ↦ absurd (region.last (agree_past (improved versions parts splices) (length original) (end - 1)
+              | inr past ↦ absurd (region.last (agree_past (improved versions parts mends) (length original) (end - 1)
                   (λ one there. let a = of one there in ap length a.2 ∙ long a.0 a.1) past))
             ] in (
-              patched version (given_patches parts splices),
+              patched version (given_patches parts mends),
               there_of version intact.1,
-              same_range original (patched version (given_patches parts splices)) start end (omega arith) (omega arith)
+              same_range original (patched version (given_patches parts mends)) start end (omega arith) (omega arith)
                   (λ i above below. elim (at i) [
                     | inr given ↦ sym (given version (covered.one_length version intact.1))
                     | inl stays ↦ sym (stays version (covered.one_length version intact.1)
@@ -129,7 +133,7 @@ module _ (original : List ℕ) (versions : List (List ℕ)) (parts : List Part) 
             );
       }
 
--- ---- an element without splices
+-- ---- an element whose parts were not looked at
 
 patched_none : (version : List ℕ) (parts : List Part) → patched version (given_patches parts []) ≡ version
 patched_none version [] = refl
@@ -144,67 +148,75 @@ improved_none (version ∷ versions) parts =
 
 covered_among : (original : List ℕ) (versions : List (List ℕ)) (from : List ℕ) (parts : List Part) (mended : MendedValue)
     → IsElementMend versions from parts mended → All (IsWithin (length original)) parts → 0 < length versions → IsCovered original versions
-    → All (IsRight original) (given_patches parts mended.splices) → IsCombination (improved versions parts mended.splices) original
-covered_among original versions from parts mended is within some covered right = elim is.splices [
+    → All (IsRight original) (given_patches parts mended.parts) → IsCombination (improved versions parts mended.parts) original
+covered_among original versions from parts mended is within some covered right = elim is.mends [
   | inl all ↦ subst (λ ss. IsCombination (improved versions parts ss) original) (sym all.1)
       (subst (λ vs. IsCombination vs original) (sym (improved_none versions parts)) (covered_is_combination original versions covered))
   | inr each ↦
       let first : List ℕ = get_or versions 0 [] in
       let there = Contains-get_or versions 0 [] some in
-      original_among original versions parts mended.splices covered
-      (splices_fit versions (length original) first there (covered.one_length first there) parts mended.splices within each.1) right
+      original_among original versions parts mended.parts covered
+      (parts_fit versions (length original) covered.one_length first there parts mended.parts within each.1) right
 ]
 
 -- ---- an original
 
-module _ (original : List ℕ) (versions : List (List ℕ)) (from : List ℕ) (parts : List Part) (mended : MendedValue)
-    (of : IsOriginalOf original versions parts mended) where
-  kept_weave : (weave : Weave) → IsWeaveOf Element (improved versions parts mended.splices) weave → weave_laws.KeepsOriginal original weave
-  kept_weave weave h = original_is_woven Element original (improved versions parts mended.splices) weave of.passes of.among h
+module _ (check : Check) (original : List ℕ) (versions tried : List (List ℕ)) (taken bytes : List ℕ) (of : IsOriginalBy check original versions tried) where
+  kept_weave : CanWeave check → (weave : Weave) → IsWeaveOf check tried weave → weave_laws.KeepsOriginal original weave
+  kept_weave weaves weave h = original_is_woven check original tried weave of.passes (of.among weaves) h
 
-  kept : (state : State) → ElementStands versions from parts mended.splices mended.bytes state → MendKeepsOriginal original versions parts mended state
-  kept Whole h = of.alone mended.bytes h.there.there h.there.passes
+  not_kept : CanWeave check → IsNotWoven check tried → AreMany tried ⊎ IsOfTwo (IsValid check tried)
+  not_kept weaves (inl two) = inr two.0
+  not_kept weaves (inr (inl none)) = absurd (kept_weave weaves (missing none.0) none.1)
+  not_kept weaves (inr (inr many)) = inl many
+
+  pub kept : (state : State) → StandsBy check versions tried taken bytes state → MendKeepsOriginal check original tried bytes state
+  kept Whole h = of.alone bytes h.there.there h.there.passes
   kept Disputed h =
       h.0.differ (of.alone h.0.one h.0.one_there.there h.0.one_there.passes ∙ sym (of.alone h.0.other h.0.other_there.there h.0.other_there.passes))
-  kept (Woven count) h = kept_weave (woven mended.bytes count) h.1
-  kept Missing h = elim h.1 [
-    | inl two ↦ inr two.0
-    | inr rest ↦ elim rest [ inl none ↦ absurd (kept_weave (missing none.0) none.1) | inr many ↦ inl many ]
-  ]
+  kept (Woven count) h = kept_weave h.1 (woven bytes count) h.2
+  kept Missing h = λ weaves. not_kept weaves (h.1 weaves)
   kept Alone h = absurd h
   kept Agreed h = absurd h
   kept Open h = absurd h
 
-good_kept : (original : List ℕ) (versions : List (List ℕ)) (parts : List Part) (mended : MendedValue) (state : State)
-    → MendKeepsOriginal original versions parts mended state → is_good state ≡ true → mended.bytes ≡ original
-good_kept original versions parts mended Whole h good = h
-good_kept original versions parts mended (Woven count) h good = h
-good_kept original versions parts mended Alone h good = h
-good_kept original versions parts mended Agreed h good = h
-good_kept original versions parts mended Missing h good = absurd (cc)
-good_kept original versions parts mended Disputed h good = absurd h
-good_kept original versions parts mended Open h good = h
+good_kept : (check : Check) (original : List ℕ) (tried : List (List ℕ)) (bytes : List ℕ) (state : State)
+    → MendKeepsOriginal check original tried bytes state → is_good state ≡ true → bytes ≡ original
+good_kept check original tried bytes Whole h good = h
+good_kept check original tried bytes (Woven count) h good = h
+good_kept check original tried bytes Alone h good = h
+good_kept check original tried bytes Agreed h good = h
+good_kept check original tried bytes Missing h good = absurd (cc)
+good_kept check original tried bytes Disputed h good = absurd h
+good_kept check original tried bytes Open h good = h
 
--- a frame is not alone, and nor is an element
-frame_good : (spliced : SplicedValue) (state : State) → FrameStands spliced state → (is_good state ≡ true) ⊎ (state ≡ Alone) → is_good state ≡ true
-frame_good spliced state stands (inl good) = good
-frame_good spliced state stands (inr is_alone) = absurd (subst (FrameStands spliced) is_alone stands)
+-- a frame is not alone
+frame_good : (splice : SplicedValue) (state : State) → FrameStands splice state → (is_good state ≡ true) ⊎ (state ≡ Alone) → is_good state ≡ true
+frame_good splice state stands (inl good) = good
+frame_good splice state stands (inr is_alone) = absurd (subst (FrameStands splice) is_alone stands)
 
-element_good : (versions : List (List ℕ)) (from : List ℕ) (parts : List Part) (splices : List SplicedValue) (bytes : List ℕ) (state : State)
-    → ElementStands versions from parts splices bytes state → (is_good state ≡ true) ⊎ (state ≡ Alone) → is_good state ≡ true
-element_good versions from parts splices bytes state stands (inl good) = good
-element_good versions from parts splices bytes state stands (inr is_alone) =
-    absurd (subst (ElementStands versions from parts splices bytes) is_alone stands)
+-- nor are bytes with a checksum of their own, so where they are good, they are the original
+checked_original : (check : Check) (original : List ℕ) (versions tried : List (List ℕ)) (taken bytes : List ℕ) (state : State)
+    → IsOriginalBy check original versions tried → StandsBy check versions tried taken bytes state → (is_good state ≡ true) ⊎ (state ≡ Alone)
+    → bytes ≡ original
+checked_original check original versions tried taken bytes state of stands (inl good) =
+    good_kept check original tried bytes state (kept check original versions tried taken bytes of state stands) good
+checked_original check original versions tried taken bytes state of stands (inr is_alone) =
+    absurd (subst (StandsBy check versions tried taken bytes) is_alone stands)
 
 good_original : (kind : Kind) (original : List ℕ) (versions : List (List ℕ)) (from : List ℕ) (parts : List Part) (mended : MendedValue)
     → HasOriginal kind original versions parts mended → IsMendOf kind versions from parts mended
     → (is_good mended.state ≡ true) ⊎ (mended.state ≡ Alone) → mended.bytes ≡ original
 good_original Frame original versions from parts mended of h reason =
-    let good = frame_good h.spliced mended.state h.stands reason in
-    h.bytes ∙ (given_back_is_original original versions h.spliced of.0 of.1 h.is_splice (good_given h.spliced mended.state h.stands good)).1
+    let good = frame_good h.splice mended.state h.stands reason in
+    h.bytes ∙ (given_back_is_original original versions h.splice of.0 of.1 h.is_splice (good_given h.splice mended.state h.stands good)).1
 good_original Crc32 original versions from parts mended of h reason =
-    let good = element_good versions from parts mended.splices mended.bytes mended.state h.stands reason in
-    good_kept original versions parts mended mended.state (kept original versions from parts mended of mended.state h.stands) good
+    checked_original Element original versions (improved versions parts mended.parts) (fallback from parts mended.parts) mended.bytes mended.state of
+    h.stands reason
+good_original Record original versions from parts mended of h reason =
+    checked_original checks.Record original versions versions from mended.bytes mended.state of h.stands reason
+good_original Flac original versions from parts mended of h reason =
+    checked_original checks.Flac original versions versions from mended.bytes mended.state of h.stands reason
 good_original Plain original versions from parts mended of h reason =
     sym ((only_version versions from mended.bytes mended.state h.stands reason).others original of)
 
@@ -212,7 +224,9 @@ pub original_is_mended : OriginalIsMended
 original_is_mended =
     record {
       original = good_original;
-      kept = λ original versions from parts mended of is. kept original versions from parts mended of mended.state is.stands;
-      among = λ original versions parts mended covered. covered_is_combination original (improved versions parts mended.splices) covered;
+      kept = λ original versions from parts mended of is.
+          kept Element original versions (improved versions parts mended.parts) (fallback from parts mended.parts) mended.bytes of mended.state is.stands;
+      kept_by = λ check original versions from mended of is. kept check original versions versions from mended.bytes of mended.state is.stands;
+      among = λ original versions parts mended covered. covered_is_combination original (improved versions parts mended.parts) covered;
       covered = covered_among;
     }

@@ -1,4 +1,4 @@
--- Parts and their splices, one more at a time, and what they give, written over a version.
+-- Parts and what becomes of them, one more at a time, and what they give, written over a version.
 use Rattle.std.proofs.Common.{◌≡◌, ℕ, zero, suc, ◌+◌, ◌-◌, ◌<◌, ◌≤◌, Bool, true, false, cond, List, [], ◌∷◌, ◌++◌, Option, Some, None, Bor, length, get_or, take, drop, take-append-drop, map, min, refl, sym, ap, ◌∙◌, subst, arith}
 use Rattle.std.specs.Prelude.{slice_range}
 use Rattle.std.specs.Iterator.{Yields}
@@ -11,14 +11,18 @@ use Rattle.std.proofs.lemmas.Iterator.{zips}
 use Rattle.std.proofs.lemmas.Slice.Zip.{AllZip-long, zip_turn, zip_end}
 use Rattle.std.specs.List.{AllZip, filter, flat_map, zip}
 use Rattle.std.proofs.lemmas.Grind.{flat_map-append}
-use Rattle.std.proofs.lemmas.List.{drop-drop, take_more, take_all, map-append, append-nil, length-append}
+use Rattle.std.proofs.Math.ListN.{get_or-map}
+use Rattle.std.proofs.lemmas.List.{drop-drop, take_more, take_all, map-append, append-nil, length-append, length-map}
 use Rattle.std.proofs.lemmas.List.Sums.{fold-append}
 use Rattle.ffv1_weave.specs.Parts.{written}
-use Rattle.ffv1_splice.specs.Splice.{SplicedValue}
 use Rattle.ffv1_splice.specs.declared.place.Place.{Place}
-use Rattle.ffv1_mend.specs.Improved.{Patch, patched, is_given, patches_of, given_patches, whole_patches}
+use Rattle.ffv1_mend.specs.Improved.{PartValue, part_value, Patch, patched, is_given}
+use Rattle.ffv1_mend.specs.Improved.PartValue.{missing}
 use Rattle.ffv1_mend.specs.Inner.Improved.{IsFitting, AreFitting}
+use Rattle.ffv1_mend.specs.declared.part.MendedPart.{MendedPart}
+use Rattle.ffv1_mend.specs.declared.part.MendedPart.TheVariants.{Missing}
 use Rattle.ffv1_mend.specs.declared.part.Part.{Part}
+use Rattle.ffv1_mend.specs.declared.part.Sort.TheVariants.{Frame}
 
 -- ---- two lists, place by place
 
@@ -106,113 +110,100 @@ module _ (part : Part) (payload : List ℕ) (places : List Place) (version : Lis
   place_not_given old not so_far =
       so_far ∙ sym (ap (patched version) (with_next false not ∙ append-nil (given_of part payload (take i places))))
 
--- ---- what all splices give
+-- ---- what all parts give
 
--- a part and a splice where there is none
+-- a part where there is none, and what becomes of it
 abbrev pub no_part : Part
-no_part = record { start = 0; end = 0 }
+no_part = record { start = 0; end = 0; sort = Frame }
 
-abbrev pub no_splice : SplicedValue
-no_splice = record { places = []; front = 0; payload = [] }
+abbrev pub no_mend : MendedPart
+no_mend = Missing
 
-module _ {Y : Type 0} (parts : List Part) (splices : List SplicedValue) (version : List ℕ) (yielded : List Y) (item : Y) (part : Part) (spliced : SplicedValue)
-    (long : length parts ≡ length splices) (lt : length yielded < length parts) where
+-- what all parts give, by what each does
+abbrev pub all_by : (Part → PartValue → List Patch) → List Part → List PartValue → List Patch
+all_by by parts mends = flat_map (λ pair. by pair.0 pair.1) (zip parts mends)
+
+module _ {Y : Type 0} (by : Part → PartValue → List Patch) (parts : List Part) (mends : List PartValue) (version : List ℕ) (yielded : List Y) (item : Y)
+    (part : Part) (mend : PartValue) (long : length parts ≡ length mends) (lt : length yielded < length parts) where
   abbrev i : ℕ
   i = length yielded
 
-  pairs : zip (take (length (yielded ++ item ∷ [])) parts) (take (length (yielded ++ item ∷ [])) splices)
-      ≡ zip (take (length yielded) parts) (take (length yielded) splices) ++ (get_or parts (length yielded) part, get_or splices (length yielded) spliced) ∷ []
+  pairs : zip (take (length (yielded ++ item ∷ [])) parts) (take (length (yielded ++ item ∷ [])) mends)
+      ≡ zip (take (length yielded) parts) (take (length yielded) mends) ++ (get_or parts (length yielded) part, get_or mends (length yielded) mend) ∷ []
   pairs =
       let more : length (yielded ++ item ∷ []) ≡ suc (length yielded) = length-append yielded (item ∷ []) ∙ omega arith in
-      ap (λ n. zip (take n parts) (take n splices)) more ∙ zip_take parts splices (length yielded) part spliced long lt
+      ap (λ n. zip (take n parts) (take n mends)) more ∙ zip_take parts mends (length yielded) part mend long lt
 
-  pub part_given : (old new : List ℕ) → old ≡ patched version (given_patches (take i parts) (take i splices))
-      → new ≡ patched old (patches_of (get_or parts i part) (get_or splices i spliced))
-      → new ≡ patched version (given_patches (take (length (yielded ++ item ∷ [])) parts) (take (length (yielded ++ item ∷ [])) splices))
-  part_given old new so_far made =
-      let before : List Patch = given_patches (take i parts) (take i splices) in
-      let here : List Patch = patches_of (get_or parts i part) (get_or splices i spliced) in
-      let all : given_patches (take (length (yielded ++ item ∷ [])) parts) (take (length (yielded ++ item ∷ [])) splices) ≡ before ++ here =
-      ap (flat_map (λ pair. patches_of pair.0 pair.1)) pairs
-      ∙ flat_map-append (λ pair. patches_of pair.0 pair.1) (zip (take i parts) (take i splices)) ((get_or parts i part, get_or splices i spliced) ∷ [])
+  pub part_more : (old new : List ℕ) → old ≡ patched version (all_by by (take i parts) (take i mends))
+      → new ≡ patched old (by (get_or parts i part) (get_or mends i mend))
+      → new ≡ patched version (all_by by (take (length (yielded ++ item ∷ [])) parts) (take (length (yielded ++ item ∷ [])) mends))
+  part_more old new so_far made =
+      let before : List Patch = all_by by (take i parts) (take i mends) in
+      let here : List Patch = by (get_or parts i part) (get_or mends i mend) in
+      let all : all_by by (take (length (yielded ++ item ∷ [])) parts) (take (length (yielded ++ item ∷ [])) mends) ≡ before ++ here =
+      ap (flat_map (λ pair. by pair.0 pair.1)) pairs
+      ∙ flat_map-append (λ pair. by pair.0 pair.1) (zip (take i parts) (take i mends)) ((get_or parts i part, get_or mends i mend) ∷ [])
       ∙ ap (λ last. before ++ last) (append-nil here) in
       made ∙ ap (λ z. patched z here) so_far
       ∙ sym (ap (patched version) all ∙ fold-append (λ before patch. written before patch.start patch.bytes) version before here)
 
-  pub part_whole : (old new : List ℕ) → old ≡ patched version (whole_patches (take i parts) (take i splices))
-      → new ≡ written old (get_or parts i part).start (get_or splices i spliced).payload
-      → new ≡ patched version (whole_patches (take (length (yielded ++ item ∷ [])) parts) (take (length (yielded ++ item ∷ [])) splices))
-  part_whole old new so_far made =
-      let before : List Patch = whole_patches (take i parts) (take i splices) in
-      let here : List Patch = record { start = (get_or parts i part).start; bytes = (get_or splices i spliced).payload } ∷ [] in
-      let all : whole_patches (take (length (yielded ++ item ∷ [])) parts) (take (length (yielded ++ item ∷ [])) splices) ≡ before ++ here =
-      ap (map (λ (pair : Part × SplicedValue). record { start = pair.0.start; bytes = pair.1.payload })) pairs
-      ∙ map-append (λ (pair : Part × SplicedValue). record { start = pair.0.start; bytes = pair.1.payload }) (zip (take i parts) (take i splices))
-      ((get_or parts i part, get_or splices i spliced) ∷ []) in
-      made ∙ ap (λ z. patched z here) so_far
-      ∙ sym (ap (patched version) all ∙ fold-append (λ before patch. written before patch.start patch.bytes) version before here)
+pub all_taken : (parts : List Part) (mends : List PartValue) (i : ℕ) → length parts ≡ length mends → length parts ≤ i
+    → (take i parts ≡ parts) × (take i mends ≡ mends)
+all_taken parts mends i long past = (take_all i parts past, take_all i mends (omega arith))
 
-pub all_taken : (parts : List Part) (splices : List SplicedValue) (i : ℕ) → length parts ≡ length splices → length parts ≤ i
-    → (take i parts ≡ parts) × (take i splices ≡ splices)
-all_taken parts splices i long past = (take_all i parts past, take_all i splices (omega arith))
+-- ---- a loop over parts, and over what becomes of them
 
--- ---- a loop over parts and their splices
-
--- The pair that comes next: the splice fits, and both are those at the place that the loop has come to.
-pub record IsNextPair (parts : List Part) (splices : List SplicedValue) (size i : ℕ) (part : Part) (spliced : SplicedValue) : Type 0 where
+-- The pair that comes next: what becomes of the part fits, and both are those at the place that the loop has come to.
+pub record IsNextPair (parts : List Part) (mends : List PartValue) (size i : ℕ) (part : Part) (mend : PartValue) : Type 0 where
   pub more : i < length parts
-  pub fits : IsFitting size part spliced
+  pub fits : IsFitting size part mend
   pub part_is : part ≡ get_or parts i no_part
-  pub splice_is : spliced ≡ get_or splices i no_splice
+  pub mend_is : mend ≡ get_or mends i missing
 
-module _ (parts : List Part) (splices : List SplicedValue) (size : ℕ) (fit : AreFitting size parts splices) (yielded : List (Bor Part × Bor SplicedValue))
-    (start now then : Zip (Iter Part) (Iter SplicedValue)) (item : Option (Bor Part × Bor SplicedValue)) (first : iter_rest (zip_first start) ≡ parts)
-    (second : iter_rest (zip_second start) ≡ splices) (come : Yields (zips fronts fronts) start yielded now) where
-  pub next_pair : (part : Bor Part) (spliced : Bor SplicedValue) → item ≡ Some (part, spliced) → zips fronts fronts now item then
-      → IsNextPair parts splices size (length yielded) part.now spliced.now
-  next_pair part spliced is steps =
-      let turn = zip_turn parts splices yielded start now then item first second come (part, spliced) is steps in
+module _ (parts : List Part) (items : List MendedPart) (size : ℕ) (fit : AreFitting size parts (map part_value items))
+    (yielded : List (Bor Part × Bor MendedPart)) (start now then : Zip (Iter Part) (Iter MendedPart)) (item : Option (Bor Part × Bor MendedPart))
+    (first : iter_rest (zip_first start) ≡ parts) (second : iter_rest (zip_second start) ≡ items) (come : Yields (zips fronts fronts) start yielded now) where
+  pub next_pair : (part : Bor Part) (mend : Bor MendedPart) → item ≡ Some (part, mend) → zips fronts fronts now item then
+      → IsNextPair parts (map part_value items) size (length yielded) part.now (part_value mend.now)
+  next_pair part mend is steps =
+      let turn = zip_turn parts items yielded start now then item first second come (part, mend) is steps in
+      let mend_is : part_value mend.now ≡ get_or (map part_value items) (length yielded) missing =
+      ap part_value (turn.3 no_mend) ∙ sym (get_or-map part_value items (length yielded) no_mend) in
       record {
         more = turn.0;
-        fits = subst (λ p. IsFitting size p spliced.now) (sym (turn.2 no_part))
-            (subst (IsFitting size (get_or parts (length yielded) no_part)) (sym (turn.3 no_splice))
-            (zip_at (IsFitting size) parts splices (length yielded) no_part no_splice fit turn.0));
+        fits = subst (λ p. IsFitting size p (part_value mend.now)) (sym (turn.2 no_part))
+            (subst (IsFitting size (get_or parts (length yielded) no_part)) (sym mend_is)
+            (zip_at (IsFitting size) parts (map part_value items) (length yielded) no_part missing fit turn.0));
         part_is = turn.2 no_part;
-        splice_is = turn.3 no_splice;
+        mend_is = mend_is;
       }
 
-  long : length parts ≡ length splices
-  long = sym (AllZip-long (IsFitting size) parts splices fit)
+  long : length parts ≡ length (map part_value items)
+  long = sym (AllZip-long (IsFitting size) parts (map part_value items) fit)
 
-  no_pair_left : item ≡ None → zips fronts fronts now item then → (take (length yielded) parts ≡ parts) × (take (length yielded) splices ≡ splices)
+  no_pair_left : item ≡ None → zips fronts fronts now item then
+      → (take (length yielded) parts ≡ parts) × (take (length yielded) (map part_value items) ≡ map part_value items)
   no_pair_left is steps =
-      let end : length yielded ≡ min (length parts) (length splices) = zip_end parts splices yielded start now then item first second come is steps in
-      all_taken parts splices (length yielded) long (let same = AllZip-long (IsFitting size) parts splices fit in omega arith)
+      let end : length yielded ≡ min (length parts) (length items) = zip_end parts items yielded start now then item first second come is steps in
+      let many = long in
+      all_taken parts (map part_value items) (length yielded) long (omega (arith, length-map items part_value))
 
   -- what is made with the pair that comes next
-  pub pair_given : (part : Bor Part) (spliced : Bor SplicedValue) → item ≡ Some (part, spliced) → zips fronts fronts now item then
-      → (version old new : List ℕ) → old ≡ patched version (given_patches (take (length yielded) parts) (take (length yielded) splices))
-      → new ≡ patched old (patches_of part.now spliced.now)
-      → new ≡ patched version (given_patches (take (length (yielded ++ (part, spliced) ∷ [])) parts) (take (length (yielded ++ (part, spliced) ∷ [])) splices))
-  pair_given part spliced is steps version old new so_far made =
-      let next = next_pair part spliced is steps in
-      part_given parts splices version yielded (part, spliced) no_part no_splice long next.more old new so_far
-      (made ∙ ap (λ p. patched old (patches_of p spliced.now)) next.part_is
-      ∙ ap (λ s. patched old (patches_of (get_or parts (length yielded) no_part) s)) next.splice_is)
-
-  pub pair_whole : (part : Bor Part) (spliced : Bor SplicedValue) → item ≡ Some (part, spliced) → zips fronts fronts now item then
-      → (version old new : List ℕ) → old ≡ patched version (whole_patches (take (length yielded) parts) (take (length yielded) splices))
-      → new ≡ written old part.now.start spliced.now.payload
-      → new ≡ patched version (whole_patches (take (length (yielded ++ (part, spliced) ∷ [])) parts) (take (length (yielded ++ (part, spliced) ∷ [])) splices))
-  pair_whole part spliced is steps version old new so_far made =
-      let next = next_pair part spliced is steps in
-      part_whole parts splices version yielded (part, spliced) no_part no_splice long next.more old new so_far
-      (made ∙ ap (λ p. written old p.start spliced.now.payload) next.part_is
-      ∙ ap (λ s. written old (get_or parts (length yielded) no_part).start s.payload) next.splice_is)
+  pub pair_more : (by : Part → PartValue → List Patch) (part : Bor Part) (mend : Bor MendedPart) → item ≡ Some (part, mend) → zips fronts fronts now item then
+      → (version old new : List ℕ) → old ≡ patched version (all_by by (take (length yielded) parts) (take (length yielded) (map part_value items)))
+      → new ≡ patched old (by part.now (part_value mend.now))
+      → new
+      ≡ patched version
+      (all_by by (take (length (yielded ++ (part, mend) ∷ [])) parts) (take (length (yielded ++ (part, mend) ∷ [])) (map part_value items)))
+  pair_more by part mend is steps version old new so_far made =
+      let next = next_pair part mend is steps in
+      part_more by parts (map part_value items) version yielded (part, mend) no_part missing long next.more old new so_far
+      (made ∙ ap (λ p. patched old (by p (part_value mend.now))) next.part_is
+      ∙ ap (λ m. patched old (by (get_or parts (length yielded) no_part) m)) next.mend_is)
 
   -- what is so of those so far is so of all where none is left
-  pub of_all : (P : List Part → List SplicedValue → Type 0) → item ≡ None → zips fronts fronts now item then
-      → P (take (length yielded) parts) (take (length yielded) splices) → P parts splices
+  pub of_all : (P : List Part → List PartValue → Type 0) → item ≡ None → zips fronts fronts now item then
+      → P (take (length yielded) parts) (take (length yielded) (map part_value items)) → P parts (map part_value items)
   of_all P is steps so_far =
       let all = no_pair_left is steps in
-      subst (λ ss. P parts ss) all.1 (subst (λ ps. P ps (take (length yielded) splices)) all.0 so_far)
+      subst (λ ms. P parts ms) all.1 (subst (λ ps. P ps (take (length yielded) (map part_value items))) all.0 so_far)

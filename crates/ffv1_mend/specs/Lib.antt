@@ -1,4 +1,5 @@
 pub mod Content
+pub mod Passing
 pub mod Improved
 pub mod Mended
 pub mod Laws
@@ -8,6 +9,7 @@ pub use Rattle.ffv1_bits.specs.Bits
 pub use Rattle.ffv1_bits.specs.Parity
 pub use Rattle.ebml_crc.specs.Crc
 pub use Rattle.ebml_crc.specs.Element
+pub use Rattle.flac_frame.specs.Frame
 pub use Rattle.ffv1_slice.specs.Chain
 pub use Rattle.ffv1_slice.specs.Members
 pub use Rattle.ffv1_weave.specs.Checks

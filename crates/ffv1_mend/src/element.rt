@@ -4,34 +4,34 @@ ghost use Rattle.ffv1_splice.specs.Inner.Tally.{Tallies};
 ghost use Rattle.ffv1_weave.specs.Weave.{IsWeaveOf, weave_tally};
 ghost use Rattle.ffv1_weave.specs.declared.check.Check.TheVariants.{Element};
 ghost use Rattle.ffv1_mend.specs.Content.{content_bytes};
-ghost use Rattle.ffv1_mend.specs.Improved.{IsWithin, improved, fallback};
+ghost use Rattle.ffv1_mend.specs.Improved.{IsWithin, improved, fallback, part_value};
 ghost use Rattle.ffv1_mend.specs.Inner.Improved.{AreFitting};
-ghost use Rattle.ffv1_mend.specs.Mended.{IsElementMend, ElementStands, IsPassing};
+ghost use Rattle.ffv1_mend.specs.Mended.{IsElementMend, ElementStands};
+ghost use Rattle.ffv1_mend.specs.Passing.{IsPassing};
 ghost use Rattle.ffv1_mend.specs.Inner.Passing.{passing_counted};
 
 use crate::content::Content;
-use crate::improved::{improved_versions, lent, write_splices};
+use crate::improved::{improved_versions, lent, write_parts};
 use crate::mended::Mended;
-use crate::part::Part;
+use crate::part::{MendedPart, Part};
+use crate::parts::mended_parts;
 use crate::passing::{Passing, passing_of};
-use crate::splices::splices_of;
 use crate::state::State;
-use ffv1_splice::Spliced;
 use ffv1_weave::{Check, Outcome, weave};
 use std::alloc::{AllocError, Global};
 
-/// The bytes where no checksum vouches for any: in each part those of its splice, and elsewhere those of `from`.
+/// The bytes where no checksum vouches for any: in each part its own, as far as it has some, and elsewhere those of `from`.
 fn fallback<'a>(
     alloc: Global,
     from: &[u8],
     parts: &[Part],
-    splices: &[Spliced],
+    mends: &[MendedPart<'_>],
 ) -> Result<Content<'a>, AllocError>
-    requires { AreFitting (length from.now) parts.now splices.now }
-    ensures { IfOk result (λ content. content_bytes content ≡ fallback from.now parts.now splices.now) }
+    requires { AreFitting (length from.now) parts.now (map part_value mends.now) }
+    ensures { IfOk result (λ content. content_bytes content ≡ fallback from.now parts.now (map part_value mends.now)) }
 {
     let mut bytes = Vec::from_slice(alloc, from)?;
-    write_splices(&mut bytes, parts, splices);
+    write_parts(&mut bytes, parts, mends);
     Ok(Content::Made(bytes))
 }
 
@@ -41,14 +41,14 @@ fn weave_improved(
     versions: &[&[u8]],
     size: usize,
     parts: &[Part],
-    splices: &[Spliced],
+    mends: &[MendedPart<'_>],
 ) -> Result<Outcome, AllocError>
     requires some { 0 < length versions.now }
     requires lengths { All (λ version. length version.now ≡ size) versions.now }
-    requires fit { AreFitting size parts.now splices.now }
-    ensures { IfOk result (λ outcome. IsWeaveOf Element (improved (map (λ version. version.now) versions.now) parts.now splices.now) (weave_tally outcome)) }
+    requires fit { AreFitting size parts.now (map part_value mends.now) }
+    ensures { IfOk result (λ outcome. IsWeaveOf Element (improved (map (λ version. version.now) versions.now) parts.now (map part_value mends.now)) (weave_tally outcome)) }
 {
-    let all = improved_versions(alloc, versions, parts, splices)?;
+    let all = improved_versions(alloc, versions, parts, mends)?;
     let lent = lent(alloc, all.as_slice())?;
     weave(alloc, Check::Element, lent.as_slice())
 }
@@ -60,20 +60,20 @@ fn standing<'a>(
     versions: &[&[u8]],
     from: &[u8],
     parts: &[Part],
-    splices: &[Spliced],
+    mends: &[MendedPart<'_>],
 ) -> Result<(State, Content<'a>), AllocError>
     requires some { 0 < length versions.now }
     requires lengths { All (λ version. length version.now ≡ length from.now) versions.now }
-    requires fit { AreFitting (length from.now) parts.now splices.now }
-    requires passing { Tallies (IsPassing (map (λ version. version.now) versions.now)) (passing_counted passing) }
-    ensures { IfOk result (λ (state, content). ElementStands (map (λ version. version.now) versions.now) from.now parts.now splices.now (content_bytes content) state) }
+    requires fit { AreFitting (length from.now) parts.now (map part_value mends.now) }
+    requires passing { Tallies (IsPassing Element (map (λ version. version.now) versions.now)) (passing_counted passing) }
+    ensures { IfOk result (λ (state, content). ElementStands (map (λ version. version.now) versions.now) from.now parts.now (map part_value mends.now) (content_bytes content) state) }
 {
     match passing {
         Passing::One(version) => Ok((State::Whole, Content::Version(version))),
-        Passing::Two => Ok((State::Disputed, fallback(alloc, from, parts, splices)?)),
-        Passing::None => match weave_improved(alloc, versions, from.len(), parts, splices)? {
+        Passing::Two => Ok((State::Disputed, fallback(alloc, from, parts, mends)?)),
+        Passing::None => match weave_improved(alloc, versions, from.len(), parts, mends)? {
             Outcome::Woven(bytes, count) => Ok((State::Woven(count), Content::Made(bytes))),
-            _ => Ok((State::Missing, fallback(alloc, from, parts, splices)?)),
+            _ => Ok((State::Missing, fallback(alloc, from, parts, mends)?)),
         },
     }
 }
@@ -92,14 +92,14 @@ pub(crate) fn mend_element<'a>(
     requires parts { All (IsWithin (length from.now)) parts.now }
     ensures { IfOk result (IsElementMend (map (λ version. version.now) versions.now) from.now parts.now) }
 {
-    let passing = passing_of(versions);
+    let passing = passing_of(Check::Element, versions);
     if let Passing::One(version) = passing {
         if versions.len() == 1 {
             let content = Content::Version(version);
             return Ok(Mended::new(State::Whole, Some(content), Vec::new(alloc)));
         }
     }
-    let splices = splices_of(alloc, versions, parts)?;
-    let (state, content) = standing(alloc, passing, versions, from, parts, splices.as_slice())?;
-    Ok(Mended::new(state, Some(content), splices))
+    let mends = mended_parts(alloc, versions, parts)?;
+    let (state, content) = standing(alloc, passing, versions, from, parts, mends.as_slice())?;
+    Ok(Mended::new(state, Some(content), mends))
 }

@@ -4,7 +4,8 @@ ghost use Rattle.ffv1_splice.specs.declared.place.Standing.TheVariants.{Settled}
 ghost use Rattle.ffv1_mend.specs.Mended.{FrameStands, IsFrameMend, count_at, product};
 
 use crate::mended::Mended;
-use crate::splices::splice_of;
+use crate::part::MendedPart;
+use crate::parts::splice_of;
 use crate::state::State;
 use ffv1_splice::{Place, Spliced, Standing};
 use std::alloc::{AllocError, Global};
@@ -49,7 +50,7 @@ pub(crate) fn mend_frame<'a>(alloc: Global, versions: &[&[u8]]) -> Result<Mended
 {
     let spliced = splice_of(alloc, versions)?;
     let state = frame_state(&spliced);
-    let mut splices = Vec::new(alloc);
-    splices.push(spliced)?;
-    Ok(Mended::new(state, None, splices))
+    let mut parts = Vec::new(alloc);
+    parts.push(MendedPart::Spliced(spliced))?;
+    Ok(Mended::new(state, None, parts))
 }

@@ -1,14 +1,14 @@
-//! Versions with what the splices of their parts give.
+//! Versions with what their parts give.
 ghost use Rattle.std.specs.Prelude.{◌≡◌, ◌+◌, ◌≤◌, ◌↔◌, IsTrue, length, map, All, Any, IfOk};
 ghost use Rattle.ffv1_slice.specs.Members.{HasSameMembers};
 ghost use Rattle.ffv1_weave.specs.Parts.{written};
 ghost use Rattle.ffv1_mend.specs.Content.{content_bytes};
-ghost use Rattle.ffv1_mend.specs.Improved.{is_given, patched, patches_of, given_patches, whole_patches, improved};
-ghost use Rattle.ffv1_mend.specs.Inner.Improved.{IsFitting, AreFitting};
+ghost use Rattle.ffv1_mend.specs.Improved.{is_given, part_value, patched, patches_of, given_by, given_patches, whole_by, whole_patches, improved};
+ghost use Rattle.ffv1_mend.specs.Inner.Improved.{IsSpliceFitting, IsFitting, AreFitting};
 
 use crate::content::Content;
 use crate::distinct::is_same;
-use crate::part::Part;
+use crate::part::{MendedPart, Part};
 use ffv1_splice::{Place, Spliced, Standing};
 use std::alloc::{AllocError, Global};
 
@@ -31,8 +31,8 @@ fn write_at(bytes: &mut [u8], start: usize, patch: &[u8])
 }
 
 /// Writes what the splice of a part gives over a version.
-fn improve_part(version: &mut [u8], part: Part, spliced: &Spliced)
-    requires { IsFitting (length version.old) part spliced.now }
+fn improve_spliced(version: &mut [u8], part: Part, spliced: &Spliced)
+    requires { IsSpliceFitting (length version.old) part spliced.now }
     ensures { version.new ≡ patched version.old (patches_of part spliced.now) }
 {
     for place in spliced.places() {
@@ -43,13 +43,25 @@ fn improve_part(version: &mut [u8], part: Part, spliced: &Spliced)
     }
 }
 
-/// Writes what the splices of all parts give over a version.
-fn improve(version: &mut [u8], parts: &[Part], splices: &[Spliced])
-    requires { AreFitting (length version.old) parts.now splices.now }
-    ensures { version.new ≡ patched version.old (given_patches parts.now splices.now) }
+/// Writes what a part gives over a version.
+fn improve_part(version: &mut [u8], part: Part, mend: &MendedPart<'_>)
+    requires { IsFitting (length version.old) part (part_value mend.now) }
+    ensures { version.new ≡ patched version.old (given_by part (part_value mend.now)) }
 {
-    for (part, spliced) in parts.iter().zip(splices) {
-        improve_part(version, *part, spliced);
+    match mend {
+        MendedPart::Spliced(spliced) => improve_spliced(version, part, spliced),
+        MendedPart::Whole(bytes) => write_at(version, part.start, bytes),
+        MendedPart::Disputed | MendedPart::Missing => {}
+    }
+}
+
+/// Writes what all parts give over a version.
+fn improve(version: &mut [u8], parts: &[Part], mends: &[MendedPart<'_>])
+    requires { AreFitting (length version.old) parts.now (map part_value mends.now) }
+    ensures { version.new ≡ patched version.old (given_patches parts.now (map part_value mends.now)) }
+{
+    for (part, mend) in parts.iter().zip(mends) {
+        improve_part(version, *part, mend);
     }
 }
 
@@ -62,8 +74,8 @@ fn has_at(bytes: &[u8], start: usize, patch: &[u8]) -> bool
 }
 
 /// Whether a version has all that the splice of a part gives already.
-fn has_part(version: &[u8], part: Part, spliced: &Spliced) -> bool
-    requires { IsFitting (length version.now) part spliced.now }
+fn has_spliced(version: &[u8], part: Part, spliced: &Spliced) -> bool
+    requires { IsSpliceFitting (length version.now) part spliced.now }
     ensures { IsTrue result → patched version.now (patches_of part spliced.now) ≡ version.now }
 {
     for place in spliced.places() {
@@ -75,34 +87,46 @@ fn has_part(version: &[u8], part: Part, spliced: &Spliced) -> bool
     true
 }
 
-/// Whether a version has all that the splices of the parts give already.
-fn has_all(version: &[u8], parts: &[Part], splices: &[Spliced]) -> bool
-    requires { AreFitting (length version.now) parts.now splices.now }
-    ensures { IsTrue result → patched version.now (given_patches parts.now splices.now) ≡ version.now }
+/// Whether a version has all that a part gives already.
+fn has_part(version: &[u8], part: Part, mend: &MendedPart<'_>) -> bool
+    requires { IsFitting (length version.now) part (part_value mend.now) }
+    ensures { IsTrue result → patched version.now (given_by part (part_value mend.now)) ≡ version.now }
 {
-    for (part, spliced) in parts.iter().zip(splices) {
-        if !has_part(version, *part, spliced) {
+    match mend {
+        MendedPart::Spliced(spliced) => has_spliced(version, part, spliced),
+        MendedPart::Whole(bytes) => has_at(version, part.start, bytes),
+        MendedPart::Disputed | MendedPart::Missing => true,
+    }
+}
+
+/// Whether a version has all that the parts give already.
+fn has_all(version: &[u8], parts: &[Part], mends: &[MendedPart<'_>]) -> bool
+    requires { AreFitting (length version.now) parts.now (map part_value mends.now) }
+    ensures { IsTrue result → patched version.now (given_patches parts.now (map part_value mends.now)) ≡ version.now }
+{
+    for (part, mend) in parts.iter().zip(mends) {
+        if !has_part(version, *part, mend) {
             return false;
         }
     }
     true
 }
 
-/// A version with what the splices give. It is copied only where that changes it.
+/// A version with what the parts give. It is copied only where that changes it.
 fn improved_version<'a>(
     alloc: Global,
     version: &'a [u8],
     parts: &[Part],
-    splices: &[Spliced],
+    mends: &[MendedPart<'_>],
 ) -> Result<Content<'a>, AllocError>
-    requires { AreFitting (length version.now) parts.now splices.now }
-    ensures { IfOk result (λ content. content_bytes content ≡ patched version.now (given_patches parts.now splices.now)) }
+    requires { AreFitting (length version.now) parts.now (map part_value mends.now) }
+    ensures { IfOk result (λ content. content_bytes content ≡ patched version.now (given_patches parts.now (map part_value mends.now))) }
 {
-    if has_all(version, parts, splices) {
+    if has_all(version, parts, mends) {
         return Ok(Content::Version(version));
     }
     let mut bytes = Vec::from_slice(alloc, version)?;
-    improve(&mut bytes, parts, splices);
+    improve(&mut bytes, parts, mends);
     Ok(Content::Made(bytes))
 }
 
@@ -118,14 +142,14 @@ pub(crate) fn improved_versions<'a>(
     alloc: Global,
     versions: &[&'a [u8]],
     parts: &[Part],
-    splices: &[Spliced],
+    mends: &[MendedPart<'_>],
 ) -> Result<Vec<Content<'a>>, AllocError>
-    requires { All (λ version. AreFitting (length version.now) parts.now splices.now) versions.now }
-    ensures { IfOk result (λ all. HasSameMembers (improved (map (λ version. version.now) versions.now) parts.now splices.now) (map content_bytes all.items)) }
+    requires { All (λ version. AreFitting (length version.now) parts.now (map part_value mends.now)) versions.now }
+    ensures { IfOk result (λ all. HasSameMembers (improved (map (λ version. version.now) versions.now) parts.now (map part_value mends.now)) (map content_bytes all.items)) }
 {
     let mut all = Vec::new(alloc);
     for version in versions {
-        let content = improved_version(alloc, version, parts, splices)?;
+        let content = improved_version(alloc, version, parts, mends)?;
         if !is_held(all.as_slice(), content.bytes()) {
             all.push(content)?;
         }
@@ -144,12 +168,24 @@ pub(crate) fn lent<'b>(alloc: Global, all: &'b [Content<'_>]) -> Result<Vec<&'b 
     Ok(lent)
 }
 
-/// Writes all bytes of the splices of all parts over others.
-pub(crate) fn write_splices(bytes: &mut [u8], parts: &[Part], splices: &[Spliced])
-    requires { AreFitting (length bytes.old) parts.now splices.now }
-    ensures { bytes.new ≡ patched bytes.old (whole_patches parts.now splices.now) }
+/// Writes all bytes of a part over others, as far as it has some.
+fn write_part(bytes: &mut [u8], part: Part, mend: &MendedPart<'_>)
+    requires { IsFitting (length bytes.old) part (part_value mend.now) }
+    ensures { bytes.new ≡ patched bytes.old (whole_by part (part_value mend.now)) }
 {
-    for (part, spliced) in parts.iter().zip(splices) {
-        write_at(bytes, part.start, spliced.payload());
+    match mend {
+        MendedPart::Spliced(spliced) => write_at(bytes, part.start, spliced.payload()),
+        MendedPart::Whole(frame) => write_at(bytes, part.start, frame),
+        MendedPart::Disputed | MendedPart::Missing => {}
+    }
+}
+
+/// Writes all bytes of all parts over others, as far as they have some.
+pub(crate) fn write_parts(bytes: &mut [u8], parts: &[Part], mends: &[MendedPart<'_>])
+    requires { AreFitting (length bytes.old) parts.now (map part_value mends.now) }
+    ensures { bytes.new ≡ patched bytes.old (whole_patches parts.now (map part_value mends.now)) }
+{
+    for (part, mend) in parts.iter().zip(mends) {
+        write_part(bytes, *part, mend);
     }
 }

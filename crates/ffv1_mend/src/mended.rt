@@ -1,11 +1,12 @@
 //! What becomes of a stretch.
-ghost use Rattle.std.specs.Prelude.{◌≡◌};
+ghost use Rattle.std.specs.Prelude.{◌≡◌, map};
 ghost use Rattle.ffv1_mend.specs.Content.{held_bytes};
+ghost use Rattle.ffv1_mend.specs.Improved.{part_value};
 ghost use Rattle.ffv1_mend.specs.Mended.{is_good};
 
 use crate::content::Content;
+use crate::part::MendedPart;
 use crate::state::State;
-use ffv1_splice::Spliced;
 use std::marker::Model;
 
 /// A stretch that was mended.
@@ -13,31 +14,33 @@ use std::marker::Model;
 pub struct Mended<'a> {
     state: State,
     content: Option<Content<'a>>,
-    splices: Vec<Spliced>,
+    parts: Vec<MendedPart<'a>>,
 }
 
 impl<'a> Model for Mended<'a> {
+    ghost use Rattle.std.specs.Prelude.{map};
     ghost use Rattle.ffv1_mend.specs.Content.{held_bytes};
+    ghost use Rattle.ffv1_mend.specs.Improved.{part_value};
     ghost use Rattle.ffv1_mend.specs.Mended.{MendedValue};
 
     ghost Value = { MendedValue };
 
-    ghost view = { λ a. record { state = a.state; bytes = held_bytes a.content a.splices.items; splices = a.splices.items } };
+    ghost view = { λ a. record { state = a.state; bytes = held_bytes a.content (map part_value a.parts.items); parts = map part_value a.parts.items } };
 }
 
 impl<'a> Mended<'a> {
-    /// A stretch that stands so, with this content, or else that of the first of these splices.
+    /// A stretch that stands so, with this content, or else that of the first of these parts, which is a splice.
     pub(crate) fn new(
         state: State,
         content: Option<Content<'a>>,
-        splices: Vec<Spliced>,
+        parts: Vec<MendedPart<'a>>,
     ) -> Mended<'a>
-        ensures { result ≡ record { state = state; bytes = held_bytes content.entry splices.items; splices = splices.items } }
+        ensures { result ≡ record { state = state; bytes = held_bytes content.entry (map part_value parts.entry.items); parts = map part_value parts.entry.items } }
     {
         Mended {
             state,
             content,
-            splices,
+            parts,
         }
     }
 
@@ -52,19 +55,19 @@ impl<'a> Mended<'a> {
     pub fn bytes(&self) -> &[u8]
         ensures { result.now ≡ self.now.bytes }
     {
-        match (&self.content, self.splices.first()) {
+        match (&self.content, self.parts.first()) {
             (Some(content), _) => content.bytes(),
-            (None, Some(spliced)) => spliced.payload(),
-            (None, None) => &[],
+            (None, Some(MendedPart::Spliced(spliced))) => spliced.payload(),
+            (None, _) => &[],
         }
     }
 
-    /// Of a frame its splice, alone; of an element that of each part, in their order, over the versions as they were given. An element that
-    /// is whole in all versions has none, and bytes without a checksum have none.
-    pub fn splices(&self) -> &[Spliced]
-        ensures { result.now ≡ self.now.splices }
+    /// Of a frame of FFV1 its splice, alone; of an element what becomes of each part, in their order, over the versions as they were given. An
+    /// element that is whole in all versions has none, and stretches of other kinds have none.
+    pub fn parts(&self) -> &[MendedPart<'a>]
+        ensures { map part_value result.now ≡ self.now.parts }
     {
-        self.splices.as_slice()
+        self.parts.as_slice()
     }
 
     /// Whether a checksum vouches for its bytes, or two versions at least that are all equal: it is `Whole`, `Woven` or `Agreed`.

@@ -1,10 +1,10 @@
-//! The versions that pass their CRC-32.
+//! The versions that pass a check.
 ghost use Rattle.std.specs.Prelude.{◌≡◌, List, map};
 ghost use Rattle.ffv1_splice.specs.Inner.Tally.{Tallies, TalliesMore};
-ghost use Rattle.ffv1_mend.specs.Mended.{IsPassing};
+ghost use Rattle.ffv1_mend.specs.Passing.{IsPassing};
 ghost use Rattle.ffv1_mend.specs.Inner.Passing.{passing_counted};
 
-use ebml_crc::passes_crc32;
+use ffv1_weave::Check;
 
 /// The versions that pass.
 #[derive(Clone, Copy)]
@@ -30,13 +30,13 @@ impl<'a> Passing<'a> {
     }
 }
 
-/// The versions that pass their CRC-32.
-pub(crate) fn passing_of<'a>(versions: &[&'a [u8]]) -> Passing<'a>
-    ensures { Tallies (IsPassing (map (λ version. version.now) versions.now)) (passing_counted result) }
+/// The versions that pass a check.
+pub(crate) fn passing_of<'a>(check: Check, versions: &[&'a [u8]]) -> Passing<'a>
+    ensures { Tallies (IsPassing check (map (λ version. version.now) versions.now)) (passing_counted result) }
 {
     let mut passing = Passing::None;
     for version in versions {
-        if passes_crc32(version) {
+        if check.passes(version) {
             passing = passing.with(version);
         }
     }

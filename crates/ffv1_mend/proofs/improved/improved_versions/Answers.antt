@@ -4,7 +4,7 @@ use Rattle.std.proofs.lemmas.List.{map_push}
 use Rattle.ffv1_slice.specs.Members.{HasSameMembers}
 use Rattle.ffv1_weave.proofs.References.{values_of, next_value, all_values, nowhere}
 use Rattle.ffv1_mend.specs.Content.{content_bytes}
-use Rattle.ffv1_mend.specs.Improved.{patched, given_patches, improved}
+use Rattle.ffv1_mend.specs.Improved.{part_value, patched, given_patches, improved}
 use Rattle.ffv1_mend.specs.declared.content.Content.{Content}
 use Rattle.ffv1_mend.proofs.Members.{has_member, members_same, members_more}
 use Rattle.ffv1_mend.proofs.improved.improved_versions.Goals as goal
@@ -13,12 +13,12 @@ use Rattle.ffv1_mend.proofs.improved.improved_versions.Goals.{then-not-is_held+i
 pub loop-version-preserved : goal.loop-version-preserved
 loop-version-preserved c =
     let i : ℕ = c.loop-version.version-index in
-    let before : List (List ℕ) = improved (take i (values_of c.args.versions.now)) c.args.parts.now c.args.splices.now in
-    let better = λ (version : List ℕ). patched version (given_patches c.args.parts.now c.args.splices.now) in
+    let before : List (List ℕ) = improved (take i (values_of c.args.versions.now)) c.args.parts.now (map part_value c.args.mends.now) in
+    let better = λ (version : List ℕ). patched version (given_patches c.args.parts.now (map part_value c.args.mends.now)) in
     let all : List Content = c.loop-version.all.items in
     let content : Content = c.in_ok-content.content in
     let bytes : List ℕ = c.bytes.result.now in
-    let more : before ++ bytes ∷ [] ≡ improved (take (i + 1) (values_of c.args.versions.now)) c.args.parts.now c.args.splices.now =
+    let more : before ++ bytes ∷ [] ≡ improved (take (i + 1) (values_of c.args.versions.now)) c.args.parts.now (map part_value c.args.mends.now) =
     ap (λ b. before ++ b ∷ []) (c.bytes.ensures ∙ c.in_ok-content.ensures)
     ∙ sym (map_push better (take i (values_of c.args.versions.now)) (get_or c.args.versions.now i nowhere).now)
     ∙ ap (map better) (next_value c.args.versions.now i nowhere (omega arith)) in
@@ -45,5 +45,5 @@ loop-version-preserved c =
 
 pub returns : goal.returns
 returns c =
-    subst (λ versions. HasSameMembers (improved versions c.args.parts.now c.args.splices.now) (map content_bytes c.loop-version.all.items))
+    subst (λ versions. HasSameMembers (improved versions c.args.parts.now (map part_value c.args.mends.now)) (map content_bytes c.loop-version.all.items))
     (all_values c.args.versions.now c.loop-version.version-index c.loop-version-test.false) c.loop-version.invariant

@@ -4,8 +4,8 @@ use Rattle.std.proofs.lemmas.List.{get_or_default}
 use Rattle.ffv1_splice.specs.declared.place.Place.{Place}
 use Rattle.ffv1_splice.specs.declared.place.Standing.TheVariants.{Settled}
 use Rattle.ffv1_mend.proofs.PartSteps.{place_given, place_not_given}
-use Rattle.ffv1_mend.proofs.improved.has_part.Goals as goal
-use Rattle.ffv1_mend.proofs.improved.has_part.Goals.{else-is_given-via-then-is_given+else-not-has_at, else-is_given-via-else-is_given}
+use Rattle.ffv1_mend.proofs.improved.has_spliced.Goals as goal
+use Rattle.ffv1_mend.proofs.improved.has_spliced.Goals.{else-is_given-via-then-is_given+else-not-has_at, else-is_given-via-else-is_given}
 
 pub loop-place-preserved : goal.loop-place-preserved
 loop-place-preserved c =

@@ -3,7 +3,7 @@ use Rattle.std.specs.Prelude.{slice_range}
 use Rattle.std.proofs.lemmas.List.{map-append}
 use Rattle.ffv1_weave.proofs.References.{nowhere}
 use Rattle.ffv1_splice.proofs.Versions.{next_version}
-use Rattle.ffv1_mend.proofs.splices.splice_at.Goals as goal
+use Rattle.ffv1_mend.proofs.parts.versions_at.Goals as goal
 
 pub loop-version-preserved : goal.loop-version-preserved
 loop-version-preserved c =

@@ -1,6 +1,6 @@
 use Rattle.std.proofs.Common.{◌≡◌, map, take}
 use Rattle.ffv1_splice.specs.Standings.{versions_at}
-use Rattle.ffv1_mend.proofs.splices.splice_at.Given as goal
+use Rattle.ffv1_mend.proofs.parts.versions_at.Given as goal
 
 abbrev pub invariant-loop-version : goal.invariant-loop-version
 invariant-loop-version l =
