@@ -6,10 +6,12 @@ use Rattle.std.specs.Prelude.{codes, ◌↔◌, Bool, IsTrue}
 use Rattle.std.proofs.lemmas.Str.Parse.{digit_from_value}
 use Rattle.ffv1_lists.specs.Numbers.{IsNumber}
 use Rattle.ffv1_mend.specs.declared.kind.Kind.{Kind}
-use Rattle.ffv1_mend.specs.declared.kind.Kind.TheVariants.{Frame, Crc32, Plain}
+use Rattle.ffv1_mend.specs.declared.kind.Kind.TheVariants.{Frame, Crc32, Record, Flac, Plain}
 use Rattle.ffv1_mend.specs.declared.part.Part.{Part}
+use Rattle.ffv1_mend.specs.declared.part.Sort.{Sort}
+use Rattle.ffv1_mend.specs.declared.part.Sort.TheVariants as sorts
 use Rattle.ffv1_stretches.specs.Stretches.{StretchValue}
-use Rattle.ffv1_stretches.specs.Listed.{kind_word, part_word, IsPlaceWord, AreStretchWords, ArePartWords}
+use Rattle.ffv1_stretches.specs.Listed.{kind_word, part_word, sort_words, IsPlaceWord, AreStretchWords, ArePartWords}
 use Rattle.ffv1_stretches.specs.Inner.ListSteps.{BeginsPart}
 
 pub one_number : (word : List ℕ) (m n : ℕ) → IsNumber word m → IsNumber word n → m ≡ n
@@ -22,18 +24,43 @@ differ a b i e = ap (λ xs. get_or xs i 0) e
 pub one_kind : (k l : Kind) → kind_word k ≡ kind_word l → k ≡ l
 one_kind Frame Frame e = refl
 one_kind Frame Crc32 e = absurd (let d : 102 ≡ 99 = differ _ _ 0 e in omega arith)
+one_kind Frame Record e = absurd (let d : 102 ≡ 114 = differ _ _ 0 e in omega arith)
+one_kind Frame Flac e = absurd (let d : 114 ≡ 108 = differ _ _ 1 e in omega arith)
 one_kind Frame Plain e = absurd (let d : 102 ≡ 112 = differ _ _ 0 e in omega arith)
 one_kind Crc32 Frame e = absurd (let d : 99 ≡ 102 = differ _ _ 0 e in omega arith)
 one_kind Crc32 Crc32 e = refl
+one_kind Crc32 Record e = absurd (let d : 99 ≡ 114 = differ _ _ 0 e in omega arith)
+one_kind Crc32 Flac e = absurd (let d : 99 ≡ 102 = differ _ _ 0 e in omega arith)
 one_kind Crc32 Plain e = absurd (let d : 99 ≡ 112 = differ _ _ 0 e in omega arith)
+one_kind Record Frame e = absurd (let d : 114 ≡ 102 = differ _ _ 0 e in omega arith)
+one_kind Record Crc32 e = absurd (let d : 114 ≡ 99 = differ _ _ 0 e in omega arith)
+one_kind Record Record e = refl
+one_kind Record Flac e = absurd (let d : 114 ≡ 102 = differ _ _ 0 e in omega arith)
+one_kind Record Plain e = absurd (let d : 114 ≡ 112 = differ _ _ 0 e in omega arith)
+one_kind Flac Frame e = absurd (let d : 108 ≡ 114 = differ _ _ 1 e in omega arith)
+one_kind Flac Crc32 e = absurd (let d : 102 ≡ 99 = differ _ _ 0 e in omega arith)
+one_kind Flac Record e = absurd (let d : 102 ≡ 114 = differ _ _ 0 e in omega arith)
+one_kind Flac Flac e = refl
+one_kind Flac Plain e = absurd (let d : 102 ≡ 112 = differ _ _ 0 e in omega arith)
 one_kind Plain Frame e = absurd (let d : 112 ≡ 102 = differ _ _ 0 e in omega arith)
 one_kind Plain Crc32 e = absurd (let d : 112 ≡ 99 = differ _ _ 0 e in omega arith)
+one_kind Plain Record e = absurd (let d : 112 ≡ 114 = differ _ _ 0 e in omega arith)
+one_kind Plain Flac e = absurd (let d : 112 ≡ 102 = differ _ _ 0 e in omega arith)
 one_kind Plain Plain e = refl
 
 pub kind_is_no_part : (k : Kind) → kind_word k ≡ part_word → ⊥
 kind_is_no_part Frame e = absurd (let d : 102 ≡ 112 = differ _ _ 0 e in omega arith)
 kind_is_no_part Crc32 e = absurd (let d : 99 ≡ 112 = differ _ _ 0 e in omega arith)
+kind_is_no_part Record e = absurd (let d : 114 ≡ 112 = differ _ _ 0 e in omega arith)
+kind_is_no_part Flac e = absurd (let d : 102 ≡ 112 = differ _ _ 0 e in omega arith)
 kind_is_no_part Plain e = absurd (let d : 108 ≡ 97 = differ _ _ 1 e in omega arith)
+
+-- words that say what a part is
+pub one_sort : (one other : Sort) → sort_words one ≡ sort_words other → one ≡ other
+one_sort sorts.Frame sorts.Frame e = refl
+one_sort sorts.Frame sorts.Flac e = absurd (let d : 0 ≡ 1 = ap length e in omega arith)
+one_sort sorts.Flac sorts.Frame e = absurd (let d : 1 ≡ 0 = ap length e in omega arith)
+one_sort sorts.Flac sorts.Flac e = refl
 
 -- a hyphen is no number
 hyphen_is_no_number : (word : List ℕ) (n : ℕ) → word ≡ codes "-" → IsNumber word n → ⊥
@@ -68,10 +95,10 @@ same_stretch s t kinds sizes froms places parts =
     ∙ ap (λ m. make t.kind t.size m s.places s.parts) froms ∙ ap (λ ps. make t.kind t.size t.from ps s.parts) places
     ∙ ap (make t.kind t.size t.from t.places) parts
 
-same_part : (p q : Part) → p.start ≡ q.start → p.end ≡ q.end → p ≡ q
-same_part p q starts ends =
-    let make : ℕ → ℕ → Part = λ a b. record { start = a; end = b } in
-    ap (λ a. make a p.end) starts ∙ ap (make q.start) ends
+same_part : (p q : Part) → p.start ≡ q.start → p.end ≡ q.end → p.sort ≡ q.sort → p ≡ q
+same_part p q starts ends sorts =
+    let make : ℕ → ℕ → Sort → Part = λ a b s. record { start = a; end = b; sort = s } in
+    ap (λ a. make a p.end p.sort) starts ∙ ap (λ b. make q.start b p.sort) ends ∙ ap (make q.start q.end) sorts
 
 -- the words of a stretch are those of no other
 pub one_stretch : (copies : ℕ) (words : List (List ℕ)) (s t : StretchValue) → AreStretchWords copies words s → AreStretchWords copies words t → s ≡ t
@@ -91,13 +118,14 @@ one_stretch copies words s t a b =
 
 pub one_part : (words : List (List ℕ)) (p q : Part) → ArePartWords words p → ArePartWords words q → p ≡ q
 one_part words p q a b =
-    let same : part_word ∷ a.start_word ∷ a.size_word ∷ [] ≡ part_word ∷ b.start_word ∷ b.size_word ∷ [] = sym a.are ∙ b.are in
+    let same : part_word ∷ a.start_word ∷ a.size_word ∷ sort_words p.sort ≡ part_word ∷ b.start_word ∷ b.size_word ∷ sort_words q.sort = sym a.are ∙ b.are in
     let start_words : a.start_word ≡ b.start_word = cc in
     let size_words : a.size_word ≡ b.size_word = cc in
     let starts = one_number b.start_word p.start q.start (subst (λ w. IsNumber w p.start) start_words a.starts) b.starts in
     let sizes = one_number b.size_word a.size b.size (subst (λ w. IsNumber w a.size) size_words a.has) b.has in
     let ends : p.end ≡ q.end = a.ends ∙ ap (λ n. n + a.size) starts ∙ ap (λ n. q.start + n) sizes ∙ sym b.ends in
-    same_part p q starts ends
+    let words_of_sort : sort_words p.sort ≡ sort_words q.sort = cc in
+    same_part p q starts ends (one_sort p.sort q.sort words_of_sort)
 
 -- words that begin as a part are no stretch
 pub stretch_is_no_part : (copies : ℕ) (words : List (List ℕ)) (s : StretchValue) → AreStretchWords copies words s → BeginsPart words → ⊥
@@ -106,7 +134,7 @@ stretch_is_no_part copies words s a b =
     kind_is_no_part s.kind (let e : kind_word s.kind ≡ part_word = cc in e)
 
 pub part_begins : (words : List (List ℕ)) (p : Part) → ArePartWords words p → BeginsPart words
-part_begins words p a = (a.start_word ∷ a.size_word ∷ [], a.are)
+part_begins words p a = (a.start_word ∷ a.size_word ∷ sort_words p.sort, a.are)
 
 -- ---- words as they are lent
 

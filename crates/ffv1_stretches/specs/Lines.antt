@@ -1,5 +1,5 @@
 -- What is printed of stretches (own): a line for each, and of what is damaged or differs the lines of its slices.
-use Rattle.std.specs.Prelude.{ℕ, ◌+◌, ◌==◌, ◌&&◌, Bool, true, false, List, [], ◌∷◌, ◌++◌, Option, Some, None, map, codes, slice_range, if◌then◌else◌}
+use Rattle.std.specs.Prelude.{ℕ, ◌+◌, ◌==◌, ◌&&◌, Bool, true, false, List, [], ◌∷◌, ◌++◌, Option, Some, None, length, map, codes, slice_range, if◌then◌else◌}
 use Rattle.std.specs.List.{flat_map, list_all, zip}
 use Rattle.std.specs.Str.{bytes_eq}
 use Rattle.std.specs.Fmt.{decimal}
@@ -8,9 +8,11 @@ use Rattle.ffv1_splice.specs.Text.{place_words, front_line}
 use Rattle.ffv1_splice.specs.declared.place.Place.{Place}
 use Rattle.ffv1_splice.specs.declared.place.Standing.{Standing}
 use Rattle.ffv1_splice.specs.declared.place.Standing.TheVariants as standing
+use Rattle.ffv1_mend.specs.Improved.{PartValue}
+use Rattle.ffv1_mend.specs.Improved.PartValue.{spliced, whole, disputed, missing}
 use Rattle.ffv1_mend.specs.Mended.{MendedValue}
 use Rattle.ffv1_mend.specs.declared.kind.Kind.{Kind}
-use Rattle.ffv1_mend.specs.declared.kind.Kind.TheVariants.{Frame, Crc32, Plain}
+use Rattle.ffv1_mend.specs.declared.kind.Kind.TheVariants.{Frame, Crc32, Record, Flac, Plain}
 use Rattle.ffv1_mend.specs.declared.part.Part.{Part}
 use Rattle.ffv1_mend.specs.declared.state.State.{State}
 use Rattle.ffv1_mend.specs.declared.state.State.TheVariants.{Whole, Disputed, Woven, Missing, Alone, Agreed, Open}
@@ -48,10 +50,10 @@ abbrev pub is_place_settled : Standing → Bool
 is_place_settled standing.Settled = true
 is_place_settled _ = false
 
--- Nothing is said of a frame all of whose slices are settled, and of which each copy has what OUT has.
+-- Nothing is said of a frame of FFV1 all of whose slices are settled, and of which each copy has what OUT has.
 abbrev pub is_quiet : List (Option (List ℕ)) → List ℕ → SplicedValue → Bool
-is_quiet cells bytes spliced =
-    (spliced.front == 0) && (list_all (λ place. is_place_settled place.standing) spliced.places && list_all (is_same bytes) cells)
+is_quiet cells bytes splice =
+    (splice.front == 0) && (list_all (λ place. is_place_settled place.standing) splice.places && list_all (is_same bytes) cells)
 
 -- the line of a slice of a frame
 abbrev pub place_line : List (Option (List ℕ)) → List ℕ → Place → List ℕ
@@ -60,19 +62,37 @@ place_line cells bytes place =
 
 -- the lines of a frame of which the copies have this, and OUT these bytes
 abbrev pub splice_lines : List (Option (List ℕ)) → List ℕ → SplicedValue → List ℕ
-splice_lines cells bytes spliced = flat_map (place_line cells bytes) spliced.places ++ codes "  " ++ front_line spliced.front
+splice_lines cells bytes splice = flat_map (place_line cells bytes) splice.places ++ codes "  " ++ front_line splice.front
 
--- those of a stretch that is a frame
-abbrev pub frame_lines : List (Option (List ℕ)) → List ℕ → SplicedValue → List ℕ
-frame_lines cells bytes spliced = if is_quiet cells bytes spliced then [] else splice_lines cells bytes spliced
+-- the line of a frame of FLAC that stands so
+abbrev pub flac_line : List (Option (List ℕ)) → List ℕ → List ℕ → List ℕ
+flac_line cells bytes word = codes "  0.." ++ decimal (length bytes) ++ codes " " ++ word ++ codes " " ++ marks_of cells bytes ++ codes "\n"
+
+-- Nothing is said of a frame of FLAC that is whole, and of which each copy has what OUT has.
+abbrev pub is_part_quiet : List (Option (List ℕ)) → List ℕ → PartValue → Bool
+is_part_quiet cells bytes (spliced splice) = is_quiet cells bytes splice
+is_part_quiet cells bytes (whole frame) = list_all (is_same bytes) cells
+is_part_quiet cells bytes disputed = false
+is_part_quiet cells bytes missing = false
+
+-- the lines of a part, or of a stretch that is a frame of FFV1
+abbrev pub own_lines : List (Option (List ℕ)) → List ℕ → PartValue → List ℕ
+own_lines cells bytes (spliced splice) = splice_lines cells bytes splice
+own_lines cells bytes (whole frame) = flac_line cells bytes (codes "whole")
+own_lines cells bytes disputed = flac_line cells bytes (codes "disputed")
+own_lines cells bytes missing = flac_line cells bytes (codes "missing")
+
+-- those of a stretch that is a frame of FFV1
+abbrev pub frame_lines : List (Option (List ℕ)) → List ℕ → PartValue → List ℕ
+frame_lines cells bytes mend = if is_part_quiet cells bytes mend then [] else own_lines cells bytes mend
 
 -- those of the part of an element with this number
-abbrev pub part_lines : ℕ → List (Option (List ℕ)) → List ℕ → SplicedValue → List ℕ
-part_lines number cells bytes spliced =
-    if is_quiet cells bytes spliced then [] else codes "  part " ++ decimal number ++ codes "\n" ++ splice_lines cells bytes spliced
+abbrev pub part_lines : ℕ → List (Option (List ℕ)) → List ℕ → PartValue → List ℕ
+part_lines number cells bytes mend =
+    if is_part_quiet cells bytes mend then [] else codes "  part " ++ decimal number ++ codes "\n" ++ own_lines cells bytes mend
 
 -- those of the parts of an element, the first of which has this number
-abbrev pub parts_lines : ℕ → List (Option (List ℕ)) → List ℕ → List (Part × SplicedValue) → List ℕ
+abbrev pub parts_lines : ℕ → List (Option (List ℕ)) → List ℕ → List (Part × PartValue) → List ℕ
 parts_lines number cells bytes [] = []
 parts_lines number cells bytes (pair ∷ pairs) =
     part_lines number (cells_between cells pair.0.start pair.0.end) (slice_range bytes pair.0.start pair.0.end) pair.1
@@ -95,10 +115,12 @@ stretch_line number cells stretch mended =
     codes "stretch " ++ decimal number ++ codes " " ++ kind_word stretch.kind ++ codes " " ++ state_words mended.state ++ codes " "
     ++ marks_of cells mended.bytes ++ codes "\n"
 
--- the lines of a stretch's slices: of a frame those of its splice, and of an element those of its parts
+-- the lines below that of a stretch: of a frame of FFV1 those of its splice, and of an element those of its parts
 abbrev pub slice_lines : Kind → List (Option (List ℕ)) → StretchValue → MendedValue → List ℕ
-slice_lines Frame cells stretch mended = flat_map (frame_lines cells mended.bytes) mended.splices
-slice_lines Crc32 cells stretch mended = parts_lines 1 cells mended.bytes (zip stretch.parts mended.splices)
+slice_lines Frame cells stretch mended = flat_map (frame_lines cells mended.bytes) mended.parts
+slice_lines Crc32 cells stretch mended = parts_lines 1 cells mended.bytes (zip stretch.parts mended.parts)
+slice_lines Record cells stretch mended = []
+slice_lines Flac cells stretch mended = []
 slice_lines Plain cells stretch mended = []
 
 -- all lines of the stretch with this number

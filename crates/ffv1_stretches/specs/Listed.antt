@@ -7,8 +7,10 @@ use Rattle.ffv1_lists.specs.Lines.{AreLines}
 use Rattle.ffv1_lists.specs.Words.{AreWords}
 use Rattle.ffv1_lists.specs.Numbers.{IsNumber}
 use Rattle.ffv1_mend.specs.declared.kind.Kind.{Kind}
-use Rattle.ffv1_mend.specs.declared.kind.Kind.TheVariants.{Frame, Crc32, Plain}
+use Rattle.ffv1_mend.specs.declared.kind.Kind.TheVariants.{Frame, Crc32, Record, Flac, Plain}
 use Rattle.ffv1_mend.specs.declared.part.Part.{Part}
+use Rattle.ffv1_mend.specs.declared.part.Sort.{Sort}
+use Rattle.ffv1_mend.specs.declared.part.Sort.TheVariants as sorts
 use Rattle.ffv1_stretches.specs.declared.listing.ListFault.{ListFault}
 use Rattle.ffv1_stretches.specs.declared.listing.ListFault.TheVariants as faults
 use Rattle.ffv1_stretches.specs.Stretches.{StretchValue, HasPlace, FollowsStretch, ends_of}
@@ -17,11 +19,18 @@ use Rattle.ffv1_stretches.specs.Stretches.{StretchValue, HasPlace, FollowsStretc
 abbrev pub kind_word : Kind → List ℕ
 kind_word Frame = codes "frame"
 kind_word Crc32 = codes "crc32"
+kind_word Record = codes "record"
+kind_word Flac = codes "flac"
 kind_word Plain = codes "plain"
 
 -- the word of a part
 abbrev pub part_word : List ℕ
 part_word = codes "part"
+
+-- the words that say what a part is: none of a frame of FFV1
+abbrev pub sort_words : Sort → List (List ℕ)
+sort_words sorts.Frame = []
+sort_words sorts.Flac = codes "flac" ∷ []
 
 -- A word for a copy: the place at which it has the stretch, or a hyphen where it does not have it.
 abbrev pub IsPlaceWord : List ℕ → Option ℕ → Type 0
@@ -49,7 +58,7 @@ pub record ArePartWords (words : List (List ℕ)) (part : Part) : Type 0 where
   pub size : ℕ
   pub start_word : List ℕ
   pub size_word : List ℕ
-  pub are : words ≡ part_word ∷ start_word ∷ size_word ∷ []
+  pub are : words ≡ part_word ∷ start_word ∷ size_word ∷ sort_words part.sort
   pub starts : IsNumber start_word part.start
   pub has : IsNumber size_word size
   pub some : 0 < size

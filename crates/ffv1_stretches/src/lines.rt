@@ -5,10 +5,11 @@ ghost use Rattle.std.specs.Str.{bytes_eq};
 ghost use Rattle.ffv1_stretches.specs.Cells.{IsOutcome};
 ghost use Rattle.ffv1_stretches.specs.Inner.CellSteps.{cell_now, IsUnspliced};
 ghost use Rattle.ffv1_stretches.specs.Listed.{kind_word};
-ghost use Rattle.ffv1_stretches.specs.Lines.{cell_between, cells_between, is_same, mark_of, marks_of, is_place_settled, is_quiet, place_line, splice_lines, frame_lines, part_lines, parts_lines, state_words, stretch_line, slice_lines, stretch_text};
+ghost use Rattle.ffv1_mend.specs.Improved.{part_value};
+ghost use Rattle.ffv1_stretches.specs.Lines.{cell_between, cells_between, is_same, mark_of, marks_of, is_place_settled, is_quiet, is_part_quiet, place_line, splice_lines, flac_line, own_lines, frame_lines, part_lines, parts_lines, state_words, stretch_line, slice_lines, stretch_text};
 
 use crate::stretch::Stretch;
-use ffv1_mend::{Kind, Mended, Part, State};
+use ffv1_mend::{Kind, Mended, MendedPart, Part, State};
 use ffv1_splice::{Place, Spliced, Standing, push_front, push_place};
 use std::alloc::{AllocError, Global};
 
@@ -166,27 +167,71 @@ fn are_settled(places: &[Place]) -> bool
     true
 }
 
-/// Whether nothing is said of a frame.
+/// Whether nothing is said of a frame of FFV1.
 fn is_quiet(cells: &[Option<&[u8]>], bytes: &[u8], spliced: &Spliced) -> bool
     ensures { result ≡ is_quiet (map cell_now cells.now) bytes.now spliced.now }
 {
     spliced.front() == 0 && are_settled(spliced.places()) && all_same(cells, bytes)
 }
 
-/// Adds the lines of a stretch that is a frame.
+/// Whether nothing is said of a part.
+fn is_part_quiet(cells: &[Option<&[u8]>], bytes: &[u8], mend: &MendedPart<'_>) -> bool
+    ensures { result ≡ is_part_quiet (map cell_now cells.now) bytes.now (part_value mend.now) }
+{
+    match mend {
+        MendedPart::Spliced(spliced) => is_quiet(cells, bytes, spliced),
+        MendedPart::Whole(_) => all_same(cells, bytes),
+        MendedPart::Disputed | MendedPart::Missing => false,
+    }
+}
+
+/// Adds the line of a frame of FLAC that stands so.
+fn push_flac(
+    text: &mut String,
+    cells: &[Option<&[u8]>],
+    bytes: &[u8],
+    word: &str,
+) -> Result<(), AllocError>
+    ensures { OnOk result (string_bytes text.new ≡ string_bytes text.old ++ flac_line (map cell_now cells.now) bytes.now word.now) }
+{
+    let size = bytes.len();
+    write!(text, "  0..{size} {word} ")?;
+    push_marks(text, cells, bytes, false)?;
+    text.push_str("\n")
+}
+
+/// Adds the lines of a part, or of a stretch that is a frame of FFV1.
+fn push_own(
+    alloc: Global,
+    text: &mut String,
+    cells: &[Option<&[u8]>],
+    bytes: &[u8],
+    mend: &MendedPart<'_>,
+) -> Result<(), AllocError>
+    ensures { OnOk result (string_bytes text.new ≡ string_bytes text.old ++ own_lines (map cell_now cells.now) bytes.now (part_value mend.now)) }
+{
+    match mend {
+        MendedPart::Spliced(spliced) => push_splice(alloc, text, cells, bytes, spliced),
+        MendedPart::Whole(_) => push_flac(text, cells, bytes, "whole"),
+        MendedPart::Disputed => push_flac(text, cells, bytes, "disputed"),
+        MendedPart::Missing => push_flac(text, cells, bytes, "missing"),
+    }
+}
+
+/// Adds the lines of a stretch that is a frame of FFV1.
 fn push_frame(
     alloc: Global,
     text: &mut String,
     cells: &[Option<&[u8]>],
     bytes: &[u8],
-    spliced: &Spliced,
+    mend: &MendedPart<'_>,
 ) -> Result<(), AllocError>
-    ensures { OnOk result (string_bytes text.new ≡ string_bytes text.old ++ frame_lines (map cell_now cells.now) bytes.now spliced.now) }
+    ensures { OnOk result (string_bytes text.new ≡ string_bytes text.old ++ frame_lines (map cell_now cells.now) bytes.now (part_value mend.now)) }
 {
-    if is_quiet(cells, bytes, spliced) {
+    if is_part_quiet(cells, bytes, mend) {
         return Ok(());
     }
-    push_splice(alloc, text, cells, bytes, spliced)
+    push_own(alloc, text, cells, bytes, mend)
 }
 
 /// Adds the lines of the part of an element with this number.
@@ -196,15 +241,15 @@ fn push_part(
     number: usize,
     cells: &[Option<&[u8]>],
     bytes: &[u8],
-    spliced: &Spliced,
+    mend: &MendedPart<'_>,
 ) -> Result<(), AllocError>
-    ensures { OnOk result (string_bytes text.new ≡ string_bytes text.old ++ part_lines number (map cell_now cells.now) bytes.now spliced.now) }
+    ensures { OnOk result (string_bytes text.new ≡ string_bytes text.old ++ part_lines number (map cell_now cells.now) bytes.now (part_value mend.now)) }
 {
-    if is_quiet(cells, bytes, spliced) {
+    if is_part_quiet(cells, bytes, mend) {
         return Ok(());
     }
     writeln!(text, "  part {number}")?;
-    push_splice(alloc, text, cells, bytes, spliced)
+    push_own(alloc, text, cells, bytes, mend)
 }
 
 /// Adds the lines of the parts of an element.
@@ -214,11 +259,11 @@ fn push_parts(
     cells: &[Option<&[u8]>],
     bytes: &[u8],
     parts: &[Part],
-    splices: &[Spliced],
+    mends: &[MendedPart<'_>],
 ) -> Result<(), AllocError>
-    ensures { OnOk result (string_bytes text.new ≡ string_bytes text.old ++ parts_lines 1 (map cell_now cells.now) bytes.now (zip parts.now splices.now)) }
+    ensures { OnOk result (string_bytes text.new ≡ string_bytes text.old ++ parts_lines 1 (map cell_now cells.now) bytes.now (zip parts.now (map part_value mends.now))) }
 {
-    for index in 0..parts.len().min(splices.len()) {
+    for index in 0..parts.len().min(mends.len()) {
         let part = parts[index];
         let narrow = narrowed(alloc, cells, part.start, part.end)?;
         let here = between(bytes, part.start, part.end);
@@ -228,7 +273,7 @@ fn push_parts(
             index + 1,
             narrow.as_slice(),
             here,
-            &splices[index],
+            &mends[index],
         )?;
     }
     Ok(())
@@ -240,12 +285,12 @@ fn push_frames(
     text: &mut String,
     cells: &[Option<&[u8]>],
     bytes: &[u8],
-    splices: &[Spliced],
+    mends: &[MendedPart<'_>],
 ) -> Result<(), AllocError>
-    ensures { OnOk result (string_bytes text.new ≡ string_bytes text.old ++ flat_map (frame_lines (map cell_now cells.now) bytes.now) splices.now) }
+    ensures { OnOk result (string_bytes text.new ≡ string_bytes text.old ++ flat_map (frame_lines (map cell_now cells.now) bytes.now) (map part_value mends.now)) }
 {
-    for spliced in splices {
-        push_frame(alloc, text, cells, bytes, spliced)?;
+    for mend in mends {
+        push_frame(alloc, text, cells, bytes, mend)?;
     }
     Ok(())
 }
@@ -272,17 +317,17 @@ fn kind_word(kind: Kind) -> &'static str
     match kind {
         Kind::Frame => "frame",
         Kind::Crc32 => "crc32",
+        Kind::Record => "record",
+        Kind::Flac => "flac",
         Kind::Plain => "plain",
     }
 }
 
-/// Whether an element is whole in all copies that have it: no part of it was spliced, of which it has one at least.
+/// Whether an element is whole in all copies that have it: no part of it was looked at, of which it has one at least.
 fn is_whole_in_all(stretch: &Stretch, mended: &Mended<'_>) -> bool
     ensures { IsTrue result → IsUnspliced stretch.now mended.now }
 {
-    stretch.kind == Kind::Crc32
-        && !stretch.parts.as_slice().is_empty()
-        && mended.splices().is_empty()
+    stretch.kind == Kind::Crc32 && !stretch.parts.as_slice().is_empty() && mended.parts().is_empty()
 }
 
 /// Adds a mark for each copy beside what becomes of a stretch. Where an element is whole in all copies, nothing is compared again.
@@ -318,7 +363,7 @@ fn push_line(
     text.push_str("\n")
 }
 
-/// Adds the lines of a stretch's slices.
+/// Adds the lines below that of a stretch.
 fn push_slices(
     alloc: Global,
     text: &mut String,
@@ -329,16 +374,16 @@ fn push_slices(
     ensures { OnOk result (string_bytes text.new ≡ string_bytes text.old ++ slice_lines stretch.now.kind (map cell_now cells.now) stretch.now mended.now) }
 {
     match stretch.kind {
-        Kind::Frame => push_frames(alloc, text, cells, mended.bytes(), mended.splices()),
+        Kind::Frame => push_frames(alloc, text, cells, mended.bytes(), mended.parts()),
         Kind::Crc32 => push_parts(
             alloc,
             text,
             cells,
             mended.bytes(),
             stretch.parts.as_slice(),
-            mended.splices(),
+            mended.parts(),
         ),
-        Kind::Plain => Ok(()),
+        Kind::Record | Kind::Flac | Kind::Plain => Ok(()),
     }
 }
 

@@ -3,15 +3,16 @@ ghost use Rattle.std.specs.Prelude.{◌≡◌, ◌+◌, ◌↔◌, ℕ, List, Op
 ghost use Rattle.std.specs.List.{AllZip};
 ghost use Rattle.ffv1_mend.specs.declared.kind.Kind.{Kind};
 ghost use Rattle.ffv1_mend.specs.declared.part.Part.{Part};
+ghost use Rattle.ffv1_mend.specs.declared.part.Sort.{Sort};
 ghost use Rattle.ffv1_lists.specs.Numbers.{IsNumber};
 ghost use Rattle.ffv1_stretches.specs.Stretches.{StretchValue, HasPlace};
-ghost use Rattle.ffv1_stretches.specs.Listed.{kind_word, IsPlaceWord, AreStretchWords, end_of_parts};
+ghost use Rattle.ffv1_stretches.specs.Listed.{kind_word, sort_words, IsPlaceWord, AreStretchWords, end_of_parts};
 ghost use Rattle.ffv1_stretches.specs.Inner.ListSteps.{IsStretchSize, BeginsPart, IsPartOf};
 
 use crate::stretch::Stretch;
 use ffv1_bits::PAYLOAD_LIMIT;
 use ffv1_lists::read_number;
-use ffv1_mend::{Kind, Part};
+use ffv1_mend::{Kind, Part, Sort};
 use std::alloc::{AllocError, Global};
 
 /// How many bytes an element's own CRC-32 takes, which no part has.
@@ -33,6 +34,12 @@ fn read_kind(word: &[u8]) -> Option<Kind>
     }
     if is_same(word, b"crc32") {
         return Some(Kind::Crc32);
+    }
+    if is_same(word, b"record") {
+        return Some(Kind::Record);
+    }
+    if is_same(word, b"flac") {
+        return Some(Kind::Flac);
     }
     if is_same(word, b"plain") {
         return Some(Kind::Plain);
@@ -150,18 +157,30 @@ fn end_of_parts(parts: &[Part]) -> usize
     }
 }
 
+/// What a part is, by the words after its place and its size.
+fn read_sort(words: &[&[u8]]) -> Option<Sort>
+    ensures { MatchOption result ((sort : Sort) → map (λ word. word.now) words.now ≡ sort_words sort → ⊥)
+        (λ sort. map (λ word. word.now) words.now ≡ sort_words sort) }
+{
+    match words {
+        [] => Some(Sort::Frame),
+        [word] if is_same(word, b"flac") => Some(Sort::Flac),
+        _ => None,
+    }
+}
+
 /// The part that words are, where it follows those of a stretch and lies within it.
 pub(crate) fn next_part(words: &[&[u8]], stretch: &Stretch) -> Option<Part>
     ensures { MatchOption result ((part : Part) → IsPartOf (map (λ word. word.now) words.now) stretch.now part → ⊥)
         (IsPartOf (map (λ word. word.now) words.now) stretch.now) }
 {
-    let [first, start, size] = words else {
+    let [first, start, size, sort @ ..] = words else {
         return None;
     };
     if stretch.kind != Kind::Crc32 || !is_same(first, b"part") {
         return None;
     }
-    let (start, size) = (read_number(start)?, read_number(size)?);
+    let (start, size, sort) = (read_number(start)?, read_number(size)?, read_sort(sort)?);
     let (start, size) = (start as usize, size as usize);
     if size == 0 || start < end_of_parts(stretch.parts.as_slice()) {
         return None;
@@ -172,5 +191,6 @@ pub(crate) fn next_part(words: &[&[u8]], stretch: &Stretch) -> Option<Part>
     Some(Part {
         start,
         end: start + size,
+        sort,
     })
 }

@@ -31,8 +31,8 @@ HasVersion cells number = (version : List ℕ) × (slice_index_or cells number N
 abbrev pub IsAsLong : ℕ → Option (List ℕ) → Type 0
 IsAsLong size cell = MatchOption cell (Unit {0}) (λ version. length version ≡ size)
 
--- an element with parts, of which none was spliced
+-- an element with parts, of which none was looked at
 pub record IsUnspliced (stretch : StretchValue) (mended : MendedValue) : Type 0 where
   pub element : stretch.kind ≡ Crc32
   pub parts : 0 < length stretch.parts
-  pub none : mended.splices ≡ []
+  pub none : mended.parts ≡ []
