@@ -1,11 +1,12 @@
 //! An element of 500 bytes: its CRC-32, 8 bytes, a recorded frame as its part, and 150 bytes more.
 use ffv1_frames::RECORDED;
-use ffv1_mend::Part;
+use ffv1_mend::{Part, Sort};
 
 /// Where the frame lies in the element.
 pub(crate) const FRAME: Part = Part {
     start: 14,
     end: 350,
+    sort: Sort::Frame,
 };
 
 /// The CRC-32 of what follows it.

@@ -1,7 +1,6 @@
 //! Elements that are woven and mended.
 use crate::element::{Changes, FRAME, OTHER, changed};
-use ffv1_mend::{Kind, Mended, State, mend};
-use ffv1_splice::Spliced;
+use ffv1_mend::{Kind, Mended, MendedPart, State, mend};
 use ffv1_weave::{Check, Outcome, weave};
 use std::alloc::Global;
 
@@ -84,11 +83,12 @@ static ROWS: [Row; 10] = [
     ),
 ];
 
-/// Whether each splice is given back, or none.
-fn are_given_back(splices: &[Spliced], given_back: bool) -> bool {
-    for spliced in splices {
-        if spliced.is_given_back() != given_back {
-            return false;
+/// Whether each part is a splice that is given back, or none is given back.
+fn are_given_back(parts: &[MendedPart<'_>], given_back: bool) -> bool {
+    for part in parts {
+        match part {
+            MendedPart::Spliced(spliced) if spliced.is_given_back() == given_back => {}
+            _ => return false,
         }
     }
     true
@@ -101,9 +101,9 @@ fn stands(
     (splices, given_back): (usize, bool),
 ) -> bool {
     let is_good = matches!(state, State::Whole | State::Woven(_));
-    (made.state(), made.is_good(), made.splices().len()) == (state, is_good, splices)
+    (made.state(), made.is_good(), made.parts().len()) == (state, is_good, splices)
         && made.bytes() == changed(changes).as_slice()
-        && are_given_back(made.splices(), given_back)
+        && are_given_back(made.parts(), given_back)
 }
 
 /// Whether that is made of an element where these bytes are changed in two versions.

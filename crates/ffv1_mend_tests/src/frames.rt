@@ -55,7 +55,7 @@ fn stands(made: &Mended<'_>, state: State, changes: Option<Changes>) -> bool {
         None => true,
     };
     let is_good = state != State::Missing;
-    is_changed && (made.state(), made.is_good(), made.splices().len()) == (state, is_good, 1)
+    is_changed && (made.state(), made.is_good(), made.parts().len()) == (state, is_good, 1)
 }
 
 /// Whether that is made of the element's frame where these bytes are changed in two versions.

@@ -4,7 +4,7 @@ use crate::buffer::Buffer;
 use crate::stock::{TORN_LIST, element, torn_copies, torn_elements};
 use ffv1_bits::remainder;
 use ffv1_devices::{FromRead, FromWrite};
-use ffv1_mend::{Kind, Part, State, mend};
+use ffv1_mend::{Kind, Part, Sort, State, mend};
 use ffv1_stretches::{CopyReader, ListFault, MendFault, mend_stretches, read_list};
 use std::alloc::Global;
 use std::io::Write;
@@ -14,7 +14,11 @@ use std::io::Write;
 pub struct Mend;
 
 /// Where the frame lies in the element.
-const FRAME: Part = Part { start: 6, end: 342 };
+const FRAME: Part = Part {
+    start: 6,
+    end: 342,
+    sort: Sort::Frame,
+};
 
 impl Attempt for Mend {
     fn attempt(&mut self, alloc: Global) -> Outcome {
@@ -30,8 +34,9 @@ impl Attempt for Mend {
     }
 }
 
-/// A list of stretches of each kind, and of two parts, that two copies have.
-const LIST: &[u8] = b"frame 4 1 0 -\ncrc32 100 2 4 0\npart 6 10\npart 16 84\nplain 3 1 104 100\n";
+/// A list of stretches of each kind, and of a part of each sort, that two copies have.
+const LIST: &[u8] =
+    b"frame 4 1 0 -\ncrc32 100 2 4 0\npart 6 10\npart 16 84 flac\nrecord 6 1 104 100\nflac 12 2 110 106\nplain 3 1 122 118\n";
 
 /// `read_list` of the list.
 #[derive(Drop)]

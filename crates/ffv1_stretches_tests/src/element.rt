@@ -1,11 +1,13 @@
-//! An element of 80 bytes: its CRC-32, 8 bytes, the frame of 22 bytes from byte 14 on, and 44 bytes more.
+//! An element of 80 bytes: its CRC-32, 8 bytes, the frame of 22 bytes from byte 14 on, 14 bytes, a frame of FLAC of 12 bytes, and 18 bytes
+//! more.
 use ebml_crc::crc32;
-use ffv1_frames::FRAME;
+use ffv1_frames::{FRAME, SILENCE};
 
 /// A byte of what follows the CRC-32, by its place in the element.
 fn byte_at(place: usize) -> u8 {
     match place {
         14..36 => FRAME.get(place - 14).copied().unwrap_or(0),
+        50..62 => SILENCE.get(place - 50).copied().unwrap_or(0),
         _ => (place.wrapping_mul(7) % 256) as u8,
     }
 }

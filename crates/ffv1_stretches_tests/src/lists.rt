@@ -27,7 +27,7 @@ fn fault_of(alloc: Global, text: &str, copies: usize) -> Option<ListFault> {
 }
 
 /// Texts with the number of copies, and the stretches that they list.
-static LISTED: [(&str, usize, &str); 8] = [
+static LISTED: [(&str, usize, &str); 10] = [
     ("", 2, "[]"),
     ("", 0, "[]"),
     (
@@ -36,14 +36,24 @@ static LISTED: [(&str, usize, &str); 8] = [
         "[Stretch { kind: Frame, size: 22, from: 0, places: [Some(0), Some(7)], parts: [] }]",
     ),
     (
+        "record 42 1 0 7\n",
+        2,
+        "[Stretch { kind: Record, size: 42, from: 0, places: [Some(0), Some(7)], parts: [] }]",
+    ),
+    (
+        "flac 12 2 - 5\n",
+        2,
+        "[Stretch { kind: Flac, size: 12, from: 1, places: [None, Some(5)], parts: [] }]",
+    ),
+    (
         "plain 3 2 - 5",
         2,
         "[Stretch { kind: Plain, size: 3, from: 1, places: [None, Some(5)], parts: [] }]",
     ),
     (
-        "crc32 100 1 9\npart 6 10\npart 16 84\n",
+        "crc32 100 1 9\npart 6 10\npart 16 84 flac\n",
         1,
-        "[Stretch { kind: Crc32, size: 100, from: 0, places: [Some(9)], parts: [Part { start: 6, end: 16 }, Part { start: 16, end: 100 }] }]",
+        "[Stretch { kind: Crc32, size: 100, from: 0, places: [Some(9)], parts: [Part { start: 6, end: 16, sort: Frame }, Part { start: 16, end: 100, sort: Flac }] }]",
     ),
     (
         "plain 3 3 0 - 5\nframe 4 2 3 0 -\n",
@@ -99,7 +109,7 @@ static NO_STRETCHES: [(&str, usize, usize); 25] = [
 ];
 
 /// Lines that are a stretch or a part, and do not follow those before them.
-static OUT_OF_ORDER: [(&str, usize, usize); 17] = [
+static OUT_OF_ORDER: [(&str, usize, usize); 23] = [
     ("plain 3 1 0\nplain 3 1 2\n", 1, 2),
     ("plain 3 1 0 0\nplain 3 1 3 2\n", 2, 2),
     (
@@ -124,6 +134,12 @@ static OUT_OF_ORDER: [(&str, usize, usize); 17] = [
     ("crc32 100 1 0\npart 6 0\n", 1, 2),
     ("crc32 100 1 0\npart 6\n", 1, 2),
     ("crc32 100 1 0\npart 6 1 1\n", 1, 2),
+    ("crc32 100 1 0\npart 6 1 Flac\n", 1, 2),
+    ("crc32 100 1 0\npart 6 1 flac flac\n", 1, 2),
+    ("crc32 100 1 0\npart 6 1 \n", 1, 2),
+    ("frame 100 1 0\npart 6 1 flac\n", 1, 2),
+    ("record 100 1 0\npart 6 1\n", 1, 2),
+    ("flac 100 1 0\npart 6 1 flac\n", 1, 2),
     ("crc32 100 1 0\nplain 3 1 100\npart 6 1\n", 1, 3),
 ];
 

@@ -1,7 +1,7 @@
 //! Passes over copies that are read to the end of their last stretch: what is made and printed.
 use crate::element::changed;
 use crate::pass::{Wanted, files_come_to, three_come_to};
-use ffv1_frames::{FRAME, LEFT_DAMAGED, RIGHT_DAMAGED};
+use ffv1_frames::{FRAME, LATER_SILENCE, LEFT_DAMAGED, ONE_TILE, RIGHT_DAMAGED, SILENCE};
 use std::alloc::Global;
 
 /// What is shown, a list, two copies, whether all is good, and what is made and printed.
@@ -23,6 +23,9 @@ const WRONG: &[u8] = b"\xBF\x84\x26\x39\xF4\xCB124456789";
 /// That one with its own CRC-32.
 const OTHER: &[u8] = b"\xBF\x84\xA8\x07\x53\x0E124456789";
 
+/// A frame of FLAC with a damaged byte.
+const DAMAGED_SILENCE: [u8; 12] = [0xFF, 0xF8, 0x64, 8, 0, 0x3F, 0x5E, 0, 1, 0, 0xC6, 0x3C];
+
 /// Two slices of a frame, of which each copy has one.
 const FRAME_LINES: &str =
     "stretch 1 frame whole 00\n  11..22 settled 10\n  0..11 settled 01\n  end whole\n";
@@ -32,7 +35,7 @@ const FOUR_LINES: &str =
     "stretch 1 plain alone -1\nstretch 2 plain agreed 11\nstretch 3 plain alone 1-\n\
 stretch 4 plain alone -1\n";
 
-static ROWS: [Row; 12] = [
+static ROWS: [Row; 16] = [
     (
         "no stretches make nothing",
         "",
@@ -122,6 +125,38 @@ static ROWS: [Row; 12] = [
         "stretch 1 crc32 disputed 01\n",
     ),
     (
+        "frames of FLAC that pass stand, and have no lines below their own",
+        "flac 12 2 0 0\n",
+        (&SILENCE, &DAMAGED_SILENCE),
+        true,
+        &SILENCE,
+        "stretch 1 flac whole 10\n",
+    ),
+    (
+        "frames of FLAC that pass and differ are disputed",
+        "flac 12 2 0 0\n",
+        (&SILENCE, &LATER_SILENCE),
+        false,
+        &LATER_SILENCE,
+        "stretch 1 flac disputed 01\n",
+    ),
+    (
+        "records that pass stand, and zeros are none",
+        "record 17 2 0 0\n",
+        (&ONE_TILE, &[0; 17]),
+        true,
+        &ONE_TILE,
+        "stretch 1 record whole 10\n",
+    ),
+    (
+        "records that are damaged alike are missing",
+        "record 12 1 0 0\n",
+        (&SILENCE, &SILENCE),
+        false,
+        &SILENCE,
+        "stretch 1 record missing 11\n",
+    ),
+    (
         "bytes between stretches are passed over",
         "plain 1 2 - 1\nplain 2 1 1 3\nplain 3 1 5 -\nplain 1 2 - 6\n",
         (b".bc..def.", b".a.bc.g."),
@@ -177,7 +212,7 @@ type ElementRow = (
 );
 
 /// Elements that are woven, and parts that have the lines of their splices.
-static ELEMENTS: [ElementRow; 3] = [
+static ELEMENTS: [ElementRow; 7] = [
     (
         "crc32 80 1 0 0\n",
         (&[10], &[78]),
@@ -198,6 +233,34 @@ static ELEMENTS: [ElementRow; 3] = [
         false,
         &[40],
         "stretch 1 crc32 missing 00\n  part 1\n  11..22 settled 10\n  0..11 settled 01\n  end whole\n",
+    ),
+    (
+        "crc32 80 1 0 0\npart 14 22\npart 50 12 flac\n",
+        (&[10, 55], &[78]),
+        true,
+        &[],
+        "stretch 1 crc32 woven 4 00\n  part 2\n  0..12 whole 01\n",
+    ),
+    (
+        "crc32 80 1 0 0\npart 14 22\npart 50 12 flac\n",
+        (&[10, 55], &[61, 78]),
+        true,
+        &[],
+        "stretch 1 crc32 woven 16 00\n  part 2\n  0..12 missing 00\n",
+    ),
+    (
+        "crc32 80 1 0 0\npart 50 12 flac\n",
+        (&[55, 70], &[70]),
+        false,
+        &[70],
+        "stretch 1 crc32 missing 01\n  part 1\n  0..12 whole 01\n",
+    ),
+    (
+        "crc32 80 1 0 0\npart 50 12 flac\n",
+        (&[55, 70], &[61, 70]),
+        false,
+        &[55, 70],
+        "stretch 1 crc32 missing 10\n  part 1\n  0..12 missing 10\n",
     ),
 ];
 
