@@ -7,7 +7,7 @@ Prints the list for copies of FILE of these lengths, which have what FILE has in
 does lacks it. Each stretch is taken from the first copy that has it.
 
 The content of each element of the Segment that begins with a CRC-32 is a stretch of its own, whose parts are the frames of the FFV1
-track. The EBML header, the ID and the size of each element, and what has no CRC-32 have no checksum.
+track; where sound is asked for, those of a FLAC track too. The EBML header, the ID and the size of each element, and what has no CRC-32 have no checksum.
 """
 import pathlib
 import sys
@@ -33,50 +33,55 @@ def elements(content, start, end):
         start = place + size
 
 
-def track_of(content, start, end):
-    """The number of the FFV1 track of a Tracks element: its CodecID, or its CodecPrivate for Windows, has that name."""
-    tracks = (each for each in elements(content, start, end) if each[0] == TRACK and b"FFV1" in content[each[2] : each[3]])
-    _, _, first, last = next(tracks)
-    place, after = next((place, after) for identity, _, place, after in elements(content, first, last) if identity == NUMBER)
-    return int.from_bytes(content[place:after], "big")
+def tracks_of(content, start, end, names):
+    """The numbers of the tracks of a Tracks element whose CodecID, or CodecPrivate for Windows, has one of these names, and the words of a part
+    of each."""
+    found = {}
+    for identity, _, first, last in elements(content, start, end):
+        for name, words in names.items():
+            if identity == TRACK and name in content[first:last]:
+                place, after = next((place, after) for which, _, place, after in elements(content, first, last) if which == NUMBER)
+                found[int.from_bytes(content[place:after], "big")] = words
+    return found
 
 
-def frames(content, start, end, track):
-    """The frames of a track in a cluster, or in a group of blocks: where each starts and ends. A block has a frame alone: no lacing."""
+def frames(content, start, end, tracks):
+    """The frames of some tracks in a cluster, or in a group of blocks: where each starts and ends, and its words. A block has a frame alone:
+    no lacing."""
     for identity, _, first, last in elements(content, start, end):
         if identity == BLOCK_GROUP:
-            yield from frames(content, first, last, track)
+            yield from frames(content, first, last, tracks)
         elif identity in (SIMPLE_BLOCK, BLOCK):
             number, place = number_at(content, first, False)
-            if number == track:
-                yield place + 3, last
+            if number in tracks:
+                yield place + 3, last, tracks[number]
 
 
-def stretches(content):
-    """The stretches of a file: the kind, the place, the size and the parts of each, the parts by their offsets and sizes."""
+def stretches(content, with_sound=False):
+    """The stretches of a file: the kind, the place, the size and the parts of each, the parts by their offsets, sizes and words."""
     (_, _, _, header), (identity, _, first, end) = elements(content, 0, len(content))
     assert identity == SEGMENT and end == len(content)
     yield from (("plain", 0, header, []), ("plain", header, first - header, []))
-    track = None
+    tracks, names = {}, {b"FFV1": (), **({b"A_FLAC": ("flac",)} if with_sound else {})}
     for identity, start, place, after in elements(content, first, end):
         if identity == TRACKS:
-            track = track_of(content, place, after)
+            tracks = tracks_of(content, place, after, names)
         if content[place : place + 2] == CRC:
-            parts = frames(content, place, after, track) if identity == CLUSTER else ()
+            parts = frames(content, place, after, tracks) if identity == CLUSTER else ()
             yield "plain", start, place - start, []
-            yield "crc32", place, after - place, [(begin - place, stop - begin) for begin, stop in parts]
+            yield "crc32", place, after - place, [(begin - place, stop - begin, *words) for begin, stop, words in parts]
         else:
             yield "plain", start, after - start, []
 
 
-def list_text(content, lengths):
+def list_text(content, lengths, with_sound=False):
     """The list of a file for copies of these lengths."""
     lines = []
-    for kind, place, size, parts in stretches(content):
+    for kind, place, size, parts in stretches(content, with_sound):
         has = [place + size <= length for length in lengths]
         places = " ".join(str(place) if there else "-" for there in has)
         lines.append(f"{kind} {size} {1 + has.index(True)} {places}\n")
-        lines += (f"part {offset} {length}\n" for offset, length in parts)
+        lines += (" ".join(["part", *map(str, part)]) + "\n" for part in parts)
     return "".join(lines)
 
 

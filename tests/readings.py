@@ -665,10 +665,17 @@ def scanned(text, content):
 # ---- a file put together from its copies, by a list of its stretches
 
 # A stretch of a list: its kind, its size, the number of the copy from which it is taken where nothing vouches for its bytes, its place
-# in each copy or None, and its parts, each as its offset and its size.
+# in each copy or None, and its parts, each as its offset and its size, and `flac` where it is a frame of FLAC.
 Stretch = collections.namedtuple("Stretch", "kind size source places parts")
-# What becomes of a stretch: its state, its bytes, and the splice of each part, or that of a frame.
+# What becomes of a stretch: its state, its bytes, and the splice of each part, or that of a frame; of a part that is a frame of FLAC its sound.
 Outcome = collections.namedtuple("Outcome", "state bytes splices")
+
+
+class Sound(collections.namedtuple("Sound", "state payload")):
+    """What becomes of a part that is a frame of FLAC: its state, and the version that passes or None."""
+
+    def given_back(self):
+        return self.payload is not None
 
 
 def number_of(word):
@@ -679,7 +686,7 @@ def number_of(word):
 
 def stretch_of(words, copies, ends):
     """The stretch of a line of a list for so many copies, whose stretches so far end at these places; None where it is none."""
-    if len(words) != 3 + copies or words[0] not in (b"frame", b"crc32", b"plain"):
+    if len(words) != 3 + copies or words[0] not in (b"frame", b"crc32", b"record", b"flac", b"plain"):
         return None
     size, source = map(number_of, words[1:3])
     places = [None if word == b"-" else number_of(word) for word in words[3:]]
@@ -693,14 +700,15 @@ def stretch_of(words, copies, ends):
 
 
 def part_of(words, stretch):
-    """The part of a line of a list, as its offset and its size, after this stretch with its parts so far; None where it is none."""
-    if len(words) != 3 or stretch is None or stretch.kind != "crc32":
+    """The part of a line of a list, as its offset and its size, and `flac` where it is a frame of FLAC, after this stretch with its parts so
+    far; None where it is none."""
+    if words[3:] not in ([], [b"flac"]) or len(words) < 3 or stretch is None or stretch.kind != "crc32":
         return None
-    offset, size = map(number_of, words[1:])
-    least = sum(stretch.parts[-1]) if stretch.parts else 6
+    offset, size = map(number_of, words[1:3])
+    least = sum(stretch.parts[-1][:2]) if stretch.parts else 6
     if offset is None or not size or offset < least or offset + size > stretch.size:
         return None
-    return offset, size
+    return (offset, size, *(word.decode() for word in words[3:]))
 
 
 def stretches_of(text, copies):
@@ -735,32 +743,107 @@ def element_of(rest):
     return b"\xbf\x84" + zlib.crc32(rest).to_bytes(4, "little") + rest
 
 
+def is_record(content):
+    """Whether some bytes are a Configuration Record: their parity is right, and not by being all zeros."""
+    return len(content) >= 6 and any(content) and parity(content) == 0
+
+
+def crc_of(content, width, divisor):
+    """What is left of some bytes by a divisor of this many bits, without its highest: from nothing, most significant bit first."""
+    register = 0
+    for byte in content:
+        register ^= byte << width - 8
+        for _ in range(8):
+            register = (register << 1 ^ (divisor if register >> width - 1 else 0)) & (1 << width) - 1
+    return register
+
+
+def header_of_flac(frame):
+    """How many bytes stand before the CRC-8 in the header of a FLAC frame, or None where some bytes begin with no such header."""
+    if len(frame) < 5 or frame[0] != 0xFF or frame[1] not in (0xF8, 0xF9):
+        return None
+    size, rate, channels, depth = frame[2] >> 4, frame[2] & 15, frame[3] >> 4, frame[3] >> 1 & 7
+    if size == 0 or rate == 15 or channels > 10 or depth == 3 or frame[3] & 1:
+        return None
+    ones = 8 - (frame[4] ^ 0xFF).bit_length()
+    if ones in (1, 8) or any(byte >> 6 != 2 for byte in frame[5 : 4 + ones]):
+        return None
+    return 4 + max(ones, 1) + {6: 1, 7: 2}.get(size, 0) + {12: 1, 13: 2, 14: 2}.get(rate, 0)
+
+
+def is_flac(frame):
+    """Whether some bytes are a FLAC frame, whose header has a right CRC-8, and all of it a right CRC-16."""
+    length = header_of_flac(frame)
+    return length is not None and length + 3 <= len(frame) and crc_of(frame[: length + 1], 8, 0x07) == 0 == crc_of(frame, 16, 0x8005)
+
+
+def flac_of(header, body):
+    """A FLAC frame with this header, which has no CRC-8 yet, and these bytes after it."""
+    frame = header + bytes([crc_of(header, 8, 0x07)]) + body
+    return frame + crc_of(frame, 16, 0x8005).to_bytes(2, "big")
+
+
 def with_part(content, offset, piece):
     return content[:offset] + piece + content[offset + len(piece) :]
 
 
-def improved(versions, parts, splices):
-    """The versions of an element, each with the bytes of all settled, woven, voted and repaired places of the splices of its
-    parts."""
-    for (offset, _), splice in zip(parts, splices):
-        for start, end, stands in splice.places:
-            if is_sure(stands) or stands.startswith(("voted", "repaired")):
-                versions = {with_part(version, offset + start, splice.payload[start:end]) for version in versions}
+def part_outcome(versions, sort):
+    """What becomes of a part of these versions."""
+    return sound_of(versions) if sort else Splice(versions)
+
+
+def sound_of(versions):
+    """What becomes of a part of these versions that is a frame of FLAC."""
+    passing = {version for version in versions if is_flac(version)}
+    return Sound("whole", passing.pop()) if len(passing) == 1 else Sound("disputed" if passing else "missing", None)
+
+
+def given_by(part, made):
+    """What a part gives to each version of its element: an offset, and the bytes from there on."""
+    if isinstance(made, Sound):
+        return [(part[0], made.payload)] if made.given_back() else []
+    sure = ((start, end) for start, end, stands in made.places if is_sure(stands) or stands.startswith(("voted", "repaired")))
+    return [(part[0] + start, made.payload[start:end]) for start, end in sure]
+
+
+def improved(versions, parts, made):
+    """The versions of an element, each with the bytes of all settled, woven, voted and repaired places of the splices of its parts, and with
+    each frame of FLAC of which one version alone passes."""
+    for part, one in zip(parts, made):
+        for offset, piece in given_by(part, one):
+            versions = {with_part(version, offset, piece) for version in versions}
     return sorted(versions)
 
 
 def element_outcome(versions, source, parts):
     """What becomes of an element with a CRC-32, of these versions and that of the copy it is taken from."""
-    splices = [Splice([version[offset : offset + size] for version in versions]) for offset, size in parts]
+    made = [part_outcome([version[offset : offset + size] for version in versions], sort) for offset, size, *sort in parts]
     passing = sorted({version for version in versions if is_element(version)})
-    number, combinations = (0, []) if passing else woven(improved(set(versions), parts, splices), is_element)
+    number, combinations = (0, []) if passing else woven(improved(set(versions), parts, made), is_element)
     if len(passing) == 1:
-        return Outcome("whole", passing[0], splices)
+        return Outcome("whole", passing[0], made)
     if len(combinations) == 1:
-        return Outcome(f"woven {number}", combinations[0], splices)
-    for (offset, _), splice in zip(parts, splices):
-        source = with_part(source, offset, splice.payload)
-    return Outcome("disputed" if passing else "missing", source, splices)
+        return Outcome(f"woven {number}", combinations[0], made)
+    for part, one in zip(parts, made):
+        source = with_part(source, part[0], one.payload or b"")
+    return Outcome("disputed" if passing else "missing", source, made)
+
+
+def record_outcome(versions, source):
+    """What becomes of a Configuration Record."""
+    passing = sorted({version for version in versions if is_record(version)})
+    number, combinations = (0, []) if passing else woven(sorted(set(versions)), is_record)
+    if len(passing) == 1:
+        return Outcome("whole", passing[0], [])
+    if len(combinations) == 1:
+        return Outcome(f"woven {number}", combinations[0], [])
+    return Outcome("disputed" if passing else "missing", source, [])
+
+
+def flac_outcome(versions, source):
+    """What becomes of a frame of FLAC: nothing of it is woven."""
+    sound = sound_of(versions)
+    return Outcome(sound.state, source if sound.payload is None else sound.payload, [])
 
 
 def frame_outcome(versions):
@@ -780,7 +863,9 @@ def outcome_of(stretch, versions):
     there, source = [version for version in versions if version is not None], versions[stretch.source - 1]
     if stretch.kind == "crc32":
         return element_outcome(there, source, stretch.parts)
-    return frame_outcome(there) if stretch.kind == "frame" else plain_outcome(there, source)
+    if stretch.kind == "frame":
+        return frame_outcome(there)
+    return {"record": record_outcome, "flac": flac_outcome, "plain": plain_outcome}[stretch.kind](there, source)
 
 
 def marks(versions, made, start, end):
@@ -795,11 +880,22 @@ def splice_lines(splice, offset, versions, made):
     yield f"  {splice.end}\n"
 
 
-def part_is_shown(part, splice, versions):
-    """Whether a part is not settled, or not alike in all copies that have it."""
-    offset, size = part
+def part_is_shown(part, made, versions):
+    """Whether a part is not settled or whole, or not alike in all copies that have it."""
+    offset, size = part[:2]
     there = {version[offset : offset + size] for version in versions if version is not None}
-    return len(there) > 1 or splice.front or any(stands != "settled" for _, _, stands in splice.places)
+    if isinstance(made, Sound):
+        return len(there) > 1 or made.state != "whole"
+    return len(there) > 1 or made.front or any(stands != "settled" for _, _, stands in made.places)
+
+
+def part_lines(part, made, versions, content):
+    """The lines of a part."""
+    offset, size = part[:2]
+    if isinstance(made, Sound):
+        yield f"  0..{size} {made.state} {marks(versions, content, offset, offset + size)}\n"
+    else:
+        yield from splice_lines(made, offset, versions, content)
 
 
 def stretch_lines(number, stretch, versions, outcome):
@@ -810,10 +906,10 @@ def stretch_lines(number, stretch, versions, outcome):
         return
     if stretch.kind == "frame":
         yield from splice_lines(outcome.splices[0], 0, versions, outcome.bytes)
-    for place, (part, splice) in enumerate(zip(stretch.parts, outcome.splices), 1):
-        if part_is_shown(part, splice, versions):
+    for place, (part, made) in enumerate(zip(stretch.parts, outcome.splices), 1):
+        if part_is_shown(part, made, versions):
             yield f"  part {place}\n"
-            yield from splice_lines(splice, part[0], versions, outcome.bytes)
+            yield from part_lines(part, made, versions, outcome.bytes)
 
 
 def is_good(state):
