@@ -166,10 +166,13 @@ fn element(places: &[usize]) -> [u8; 30] {
 
 /// The state of a frame of FLAC in an element, or nothing where the element has no part, or another one.
 fn sound_of(made: &Mended<'_>) -> Option<State> {
-    match made.parts() {
-        [MendedPart::Whole(bytes)] if *bytes == SILENCE.as_slice() => Some(State::Whole),
-        [MendedPart::Disputed] => Some(State::Disputed),
-        [MendedPart::Missing] => Some(State::Missing),
+    let [part] = made.parts() else {
+        return None;
+    };
+    match part {
+        MendedPart::Whole(bytes) if *bytes == SILENCE.as_slice() => Some(State::Whole),
+        MendedPart::Disputed => Some(State::Disputed),
+        MendedPart::Missing => Some(State::Missing),
         _ => None,
     }
 }
