@@ -3,9 +3,9 @@ from __future__ import annotations
 
 import typing
 
-from . import made
-from mend_reel import judging
+from mend_reel.judging import frame_checks
 from mend_reel.model import Claims, Content, Frame, Kind, Layout, Stretch, Track, What
+from . import made
 
 VIDEO = Track(1, Content.VIDEO, "ffv1", True, 48, 40, b"record", 0.04)
 SOUND = Track(2, Content.SOUND, "pcm")
@@ -32,13 +32,13 @@ def frame(seed: int, *sizes: int) -> bytes:
     return b"".join(slice_of(made.noise(100 * seed + at, size)) for at, size in enumerate(sizes or (90, 60, 75)))
 
 
-def judge(copy: typing.Any, ranges: typing.Sequence[judging.Range]) -> typing.List[judging.Judged]:
+def judge(copy: typing.Any, ranges: typing.Sequence[frame_checks.Range]) -> typing.List[frame_checks.Judged]:
     """Judges frames as `ffv1restore scan` does."""
     answers = []
     for place, size in ranges:
         content = copy.read(place, size) if place + size <= copy.size else b""
-        links = list(judging.slices(content))
-        answers.append(judging.Judged(len(links), sum(judging.passes(content[start:end]) for start, end in links),
+        links = list(frame_checks.slices(content))
+        answers.append(frame_checks.Judged(len(links), sum(frame_checks.passes(content[start:end]) for start, end in links),
                                       bool(links) and links[-1][0] == 0))
     return answers
 

@@ -5,9 +5,9 @@ import random
 import typing
 import unittest
 
-from . import made
-from mend_reel import differences
+from mend_reel.copies import differences
 from mend_reel.model import Content, Kind, Stretch, What
+from . import made
 
 
 def stretch(size: int, *places: typing.Optional[int], start: int = 0, kind: Kind = Kind.PLAIN) -> Stretch:

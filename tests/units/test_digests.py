@@ -6,9 +6,9 @@ import tempfile
 import unittest
 from unittest import mock
 
-from . import made
-from mend_reel import digests, framedigests
+from mend_reel.judging import digests, frame_digests
 from mend_reel.model import Fault
+from . import made
 
 CONTENT = made.noise(4, 5000)
 MD5, SHA1, SHA256 = (hashlib.new(name, CONTENT).hexdigest() for name in ("md5", "sha1", "sha256"))
@@ -97,16 +97,16 @@ class DigestTest(unittest.TestCase):
 
 class FrameDigestTest(unittest.TestCase):
     def read(self, text):
-        return framedigests.read(text.splitlines())
+        return frame_digests.read(text.splitlines())
 
     def test_what_ffmpeg_is_asked_for(self):
-        words = framedigests.command("/a.mkv", self.read(FRAMES.format(codec="ffv1")))
+        words = frame_digests.command("/a.mkv", self.read(FRAMES.format(codec="ffv1")))
         self.assertEqual(words[words.index("-map"):], ["-map", "0:v:0", "-c:0", "copy", "-map", "0:a:0", "-c:1", "pcm_s16le", "-f", "framehash",
                                                        "-hash", "MD5", "-format_version", "2", "-"])
         self.assertIn("file:/a.mkv", words)
 
     def test_words_of_a_file_are_not_trusted(self):
-        words = framedigests.command("/a.mkv", self.read(FRAMES.format(codec="copy -f mp4 /etc/passwd")))
+        words = frame_digests.command("/a.mkv", self.read(FRAMES.format(codec="copy -f mp4 /etc/passwd")))
         self.assertFalse([word for word in words if "passwd" in word])
         self.assertEqual(self.read(FRAMES.replace("#hash: MD5", "#hash: MD5 -f mp4")).hash, "MD5")
         self.assertEqual(self.read(FRAMES.replace("#hash: MD5", "#hash: SHA256")).hash, "SHA256")
@@ -117,29 +117,29 @@ class FrameDigestTest(unittest.TestCase):
 
     def test_equal_frames(self):
         wanted = self.read(FRAMES.format(codec="rawvideo"))
-        self.assertEqual(framedigests.differences(wanted, self.read(FRAMES.format(codec="rawvideo").lower())), {})
+        self.assertEqual(frame_digests.differences(wanted, self.read(FRAMES.format(codec="rawvideo").lower())), {})
         self.assertEqual(wanted.frames[0][1], ("1", "76800", "b" * 32))
 
     def test_frames_that_differ(self):
         wanted = self.read(FRAMES.format(codec="rawvideo"))
         for old, new, found in (("b" * 32, "b" * 31 + "0", {0: [1]}), ("0,          2,          2,        1,    76800, " + "d" * 32 + "\n", "", {0: [2]}),
                                 ("     9216", "     9217", {1: [0]}), ("0,          2,          2", "0,          2,          3", {0: [2]})):
-            self.assertEqual(framedigests.differences(wanted, self.read(FRAMES.replace(old, new))), found)
+            self.assertEqual(frame_digests.differences(wanted, self.read(FRAMES.replace(old, new))), found)
         more = self.read(FRAMES + "0,          3,          3,        1,    76800, " + "e" * 32)
-        self.assertEqual(framedigests.differences(wanted, more), {0: [3]})
+        self.assertEqual(frame_digests.differences(wanted, more), {0: [3]})
 
     def test_times_are_compared_where_both_count_them_alike(self):
         other = FRAMES.replace("#tb 0: 1/25", "#tb 0: 1/1000").replace("0,          2,          2", "0,         80,         80")
-        self.assertEqual(framedigests.differences(self.read(FRAMES), self.read(other)), {})
+        self.assertEqual(frame_digests.differences(self.read(FRAMES), self.read(other)), {})
 
     def test_the_sentence(self):
         with tempfile.TemporaryDirectory() as folder:
             kept = os.path.join(folder, "kept")
             pathlib.Path(kept).write_text(FRAMES)
             other = self.read(FRAMES.replace("b" * 32, "e" * 32).replace("d" * 32, "e" * 32))
-            with mock.patch.object(framedigests, "make", return_value=other):
+            with mock.patch.object(frame_digests, "make", return_value=other):
                 found = digests.compare(kept, "/a.mkv", "out.mkv", [])
-            with mock.patch.object(framedigests, "make", return_value=self.read(FRAMES)):
+            with mock.patch.object(frame_digests, "make", return_value=self.read(FRAMES)):
                 same = digests.compare(kept, "/a.mkv", "out.mkv", [])
         self.assertFalse(found.is_original)
         self.assertTrue(found.text.endswith("differ: stream 0: frames 1 to 2"))
@@ -147,5 +147,5 @@ class FrameDigestTest(unittest.TestCase):
         self.assertTrue(same.is_original and same.text.startswith("out.mkv has the original's frames"))
 
     def test_runs(self):
-        self.assertEqual(framedigests.runs([1, 2, 3, 7]), "frames 1 to 3, 7")
-        self.assertTrue(framedigests.runs(list(range(0, 40, 2))).endswith("and 10 more"))
+        self.assertEqual(frame_digests.runs([1, 2, 3, 7]), "frames 1 to 3, 7")
+        self.assertTrue(frame_digests.runs(list(range(0, 40, 2))).endswith("and 10 more"))

@@ -5,8 +5,8 @@ import struct
 import unittest
 import zlib
 
+from mend_reel.containers import ebml
 from . import made
-from mend_reel import ebml
 
 NINE = bytes.fromhex("bf842639f4cb") + b"123456789"
 

@@ -51,7 +51,7 @@ impl Shown {
 impl<'a, R: Read> Model for Shown<'a, R> {
     ghost Value = { meaning };
 
-    ghost view = { seen };
+    ghost aligned = { seen };
 }
 
 impl Other {

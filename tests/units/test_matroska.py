@@ -5,9 +5,9 @@ import itertools
 import typing
 import unittest
 
-from . import made
-from mend_reel import matroska
+from mend_reel.containers import matroska
 from mend_reel.model import Content, Kind, Layout, Stretch
+from . import made
 
 REEL, PLAIN_REEL = made.reel(), made.reel(crc=False)
 

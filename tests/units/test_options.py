@@ -3,7 +3,7 @@ import contextlib
 import io
 import unittest
 
-from mend_reel.options import VERSION, read
+from mend_reel.program.options import VERSION, read
 
 
 class OptionsTest(unittest.TestCase):

@@ -3,7 +3,7 @@ import io
 import unittest
 from unittest import mock
 
-from mend_reel.progress import Progress, clock
+from mend_reel.program.progress import Progress, clock
 
 
 class Terminal(io.StringIO):

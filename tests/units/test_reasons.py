@@ -1,9 +1,9 @@
 """The lines that say why OUT may not be what was recorded."""
 import unittest
 
-from . import made  # noqa: F401
+from mend_reel.judging.reasons import Reason, Why, join, lines, time_code
 from mend_reel.model import Content
-from mend_reel.reasons import Reason, Why, clock, join, lines
+from . import made  # noqa: F401
 
 
 def of_frames(first, last=None, why=Why.DAMAGED, **more):
@@ -40,7 +40,7 @@ class TextTest(unittest.TestCase):
         self.assertTrue(of_bytes(99, 611).text("the mended file").endswith("; the mended file has that of copy 2"))
 
     def test_clock(self):
-        self.assertEqual([clock(each) for each in (0, 1.96, 59.9996, 3725.5, -0.04, -0.0001)],
+        self.assertEqual([time_code(each) for each in (0, 1.96, 59.9996, 3725.5, -0.04, -0.0001)],
                          ["0:00:00.000", "0:00:01.960", "0:01:00.000", "1:02:05.500", "-0:00:00.040", "0:00:00.000"])
 
 

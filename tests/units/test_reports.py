@@ -8,25 +8,25 @@ import re
 import unittest
 from unittest import mock
 
+from mend_reel.copies.arrangement import Matched
+from mend_reel.judging.digests import Compared
+from mend_reel.judging.verdict import Evidence, judge
+from mend_reel.model import Outcome, SliceReport, State
+from mend_reel.reports import json_document, page, timeline
+from mend_reel.reports.summary import CopySummary, Role, Summary
+from mend_reel.reports.timeline import COLUMNS, Shade, Timeline
 from .test_verdict import element, missing, plain, recording, repaired, settled, undivided, voted
-from mend_reel import machine, report, timeline
-from mend_reel.account import Account, CopyFacts, Role
-from mend_reel.digests import Compared
-from mend_reel.matching import Matched
-from mend_reel.model import Outcome, Place, State
-from mend_reel.timeline import COLUMNS, Level, Timeline
-from mend_reel.verdict import Evidence, judge
 
 DAMAGED = (Outcome(element(1), State.MISSING, 0, "10", {0: (settled("11", 100), missing("10", 40, 100), settled("01", 0, 40))}),
-           Outcome(element(3), State.WOVEN, 4, "00", {0: (Place(0, 300, "woven", 4, "00"),)}),
+           Outcome(element(3), State.WOVEN, 4, "00", {0: (SliceReport(0, 300, "woven", 4, "00"),)}),
            Outcome(element(4), State.WHOLE, 0, "10"))
 
 
-def account(layout, *outcomes, out=True, copies=2, **more):
+def summary(layout, *outcomes, out=True, copies=2, **more):
     judged = judge(Evidence(layout, layout.stretches, outcomes, layout))
-    facts = [CopyFacts(f"/films/copy-{number}.mkv", layout.size, "matroska", verified=layout.size // 2) for number in range(copies)]
-    return Account("2026-11-26T12:00:00Z", {"mend-reel": "0.2.0"}, ["mend-reel", "out.mkv", "a<b>.mkv"], facts,
-                   CopyFacts("/films/out.mkv", layout.size, "matroska", sha256="ab" * 32) if out else None, layout, judged, **more)
+    of_copies = [CopySummary(f"/films/copy-{number}.mkv", layout.size, "matroska", verified=layout.size // 2) for number in range(copies)]
+    return Summary("2026-11-26T12:00:00Z", {"mend-reel": "0.2.0"}, ["mend-reel", "out.mkv", "a<b>.mkv"], of_copies,
+                   CopySummary("/films/out.mkv", layout.size, "matroska", sha256="ab" * 32) if out else None, layout, judged, **more)
 
 
 class Strict(html.parser.HTMLParser):
@@ -56,11 +56,11 @@ class Strict(html.parser.HTMLParser):
 class MachineTest(unittest.TestCase):
     def read(self, made):
         file = io.StringIO()
-        machine.write(file, made)
+        json_document.write(file, made)
         return json.loads(file.getvalue())
 
     def test_what_is_damaged(self):
-        read = self.read(account(recording(), *DAMAGED, compared=Compared(False, "it is not", True), notes=["a note"]))
+        read = self.read(summary(recording(), *DAMAGED, compared=Compared(False, "it is not", True), notes=["a note"]))
         self.assertEqual((read["format"], read["format_version"], read["date"], read["command"][2]), ("mend-reel", 1, "2026-11-26T12:00:00Z", "a<b>.mkv"))
         self.assertEqual(read["frames"], {"frames": 6, "damaged": 2, "restored": 1, "woven": 1, "not_restored": 1})
         self.assertEqual(sum(read["bytes"].values()), recording().size)
@@ -76,12 +76,12 @@ class MachineTest(unittest.TestCase):
         self.assertEqual(read["notes"][0], "a note")
 
     def test_nothing_is_damaged(self):
-        read = self.read(account(recording(), out=False))
+        read = self.read(summary(recording(), out=False))
         self.assertEqual((read["stretches"], read["out"], read["digest"], read["verdict"]["reasons"]), ([], None, None, []))
 
     def test_a_path_that_is_no_text_comes_back(self):
         path = os.fsdecode(b"/films/\xff\xfe.mkv")
-        made = account(recording(), notes=[f"note of {path}"])
+        made = summary(recording(), notes=[f"note of {path}"])
         made.copies[1].path = path
         copies = self.read(made)["copies"]
         self.assertEqual(bytes.fromhex(copies[1]["path_hex"]), os.fsencode(path))
@@ -90,14 +90,14 @@ class MachineTest(unittest.TestCase):
     def test_what_no_copy_has_is_listed(self):
         layout = recording()
         layout.stretches[element(1)].places = (None, None)
-        stretch, = self.read(account(layout))["stretches"]
+        stretch, = self.read(summary(layout))["stretches"]
         self.assertEqual((stretch["bytes"], stretch["open"], stretch["taken_from"], stretch["frames"][0]["state"]), (None, True, None, "not restored"))
 
 
 class PageTest(unittest.TestCase):
     def page(self, made):
         file = io.StringIO()
-        report.write(file, made)
+        page.write(file, made)
         seen = Strict()
         seen.feed(file.getvalue())
         seen.close()
@@ -106,13 +106,13 @@ class PageTest(unittest.TestCase):
         return file.getvalue(), " ".join(seen.words)
 
     def test_the_verdict_comes_first(self):
-        _, words = self.page(account(recording(), *DAMAGED, compared=Compared(False, "it is not the original", True), notes=["a note"]))
+        _, words = self.page(summary(recording(), *DAMAGED, compared=Compared(False, "it is not the original", True), notes=["a note"]))
         order = [words.index(each) for each in ("it is not the original", "not restored",
                                                 "pass a checksum", "What is in doubt", "a note", "SHA-256", "Where the damage lies", "Damaged frames", "2026-11-26")]
         self.assertEqual(order, sorted(order))
 
     def test_only_damaged_slices_are_shown(self):
-        _, words = self.page(account(recording(), *DAMAGED))
+        _, words = self.page(summary(recording(), *DAMAGED))
         self.assertIn("40 to 100: none passes", words)
         self.assertIn("0 to 40: that of copy 2", words)
         self.assertIn("woven from several copies, one of 4 combinations", words)
@@ -120,33 +120,33 @@ class PageTest(unittest.TestCase):
 
     def test_a_repaired_slice_is_shown(self):
         slices = (settled("11", 100), repaired("00", 0, 100))
-        _, words = self.page(account(recording(), Outcome(element(1), State.MISSING, 0, "00", {0: slices})))
+        _, words = self.page(summary(recording(), Outcome(element(1), State.MISSING, 0, "00", {0: slices})))
         self.assertIn("0 to 100: one wrong bit inverted, one of 2400 repairs", words)
 
     def test_a_voted_slice_is_shown(self):
         slices = (settled("11", 100), voted("00", 0, 100))
-        _, words = self.page(account(recording(), Outcome(element(1), State.MISSING, 0, "00", {0: slices})))
+        _, words = self.page(summary(recording(), Outcome(element(1), State.MISSING, 0, "00", {0: slices})))
         self.assertIn("0 to 100: what most copies have, one of 4 combinations", words)
 
     def test_a_repaired_slice_of_a_frame_that_decodes_is_shown(self):
         slices = (settled("11", 100), repaired("00", 0, 100))
         found = judge(Evidence(recording(), recording().stretches, [Outcome(element(1), State.MISSING, 0, "00", {0: slices})], recording(), decoded={724}))
-        _, words = self.page(dataclasses.replace(account(recording()), verdict=found))
+        _, words = self.page(dataclasses.replace(summary(recording()), verdict=found))
         self.assertIn("woven 0 to 100: one wrong bit inverted, one of 2400 repairs", words)
 
     def test_a_place_that_is_not_divided_is_shown(self):
         slices = (settled("11", 200), undivided("10", 100, 200), settled("01", 0, 100))
-        _, words = self.page(account(recording(), Outcome(element(1), State.MISSING, 0, "10", {0: slices})))
+        _, words = self.page(summary(recording(), Outcome(element(1), State.MISSING, 0, "10", {0: slices})))
         self.assertIn("100 to 200: the footers do not lead there", words)
         self.assertIn("0 to 100: that of copy 2", words)
 
     def test_other_damage(self):
-        _, words = self.page(account(recording(), *DAMAGED))
+        _, words = self.page(summary(recording(), *DAMAGED))
         self.assertIn("Other damage", words)
         self.assertEqual(words.count("frames and sound"), 1)
 
     def test_names_are_no_markup(self):
-        made = account(recording(), *DAMAGED)
+        made = summary(recording(), *DAMAGED)
         made.copies[0].path, made.out.path = "/<script>alert(1)</script>&.mkv", os.fsdecode(b"/\xff<b>.mkv")
         text, words = self.page(made)
         self.assertIn("/<script>alert(1)</script>&.mkv", words)
@@ -154,12 +154,12 @@ class PageTest(unittest.TestCase):
 
     def test_one_copy_and_no_frames(self):
         layout = recording(0)
-        _, words = self.page(account(layout, out=False, copies=1))
+        _, words = self.page(summary(layout, out=False, copies=1))
         self.assertIn("The copy is what was recorded", words)
 
     def test_without_out_the_page_names_none(self):
         for copies, name in ((1, "the copy"), (2, "the mended file")):
-            _, words = self.page(account(recording(), *DAMAGED, out=False, copies=copies))
+            _, words = self.page(summary(recording(), *DAMAGED, out=False, copies=copies))
             self.assertIn(f"Bytes of {name}", words)
             self.assertNotRegex(words, r"\bOUT\b")
 
@@ -167,34 +167,34 @@ class PageTest(unittest.TestCase):
         layout = recording(2200)
         outcomes = [Outcome(element(number), State.MISSING, 0, "10", {0: tuple(missing("10", at, at + 1) for at in range(60))})
                     for number in range(0, 2200, 2)]
-        text, words = self.page(account(layout, *outcomes))
+        text, words = self.page(summary(layout, *outcomes))
         self.assertLess(len(text), 2_000_000)
         self.assertIn("The first 1000 of 1100 are shown.", words)
         self.assertIn("and 36 more slices", words)
         self.assertIn("and 1050 more", words)
 
     def test_many_copies_are_bounded(self):
-        text, words = self.page(account(recording(), copies=40))
+        text, words = self.page(summary(recording(), copies=40))
         self.assertIn("28 further copies are not drawn", words)
         self.assertEqual(len(re.findall(r">copy \d+</text>", text)), 12)
 
 
 class TimelineTest(unittest.TestCase):
     def test_frames_by_copy(self):
-        drawn = Timeline(account(plain(), Outcome(5, State.WHOLE, 0, "10", {0: (settled("10"),)})))
-        frames = drawn.account.layout.frames
+        drawn = Timeline(summary(plain(), Outcome(5, State.WHOLE, 0, "10", {0: (settled("10"),)})))
+        frames = drawn.summary.layout.frames
         middle = [(each.place + 150) * COLUMNS // drawn.size for each in frames]
         shares = {copy: drawn.rows[copy, "frames"].shares() for copy in (0, 1)}
-        self.assertEqual([shares[0][at] for at in middle], [Level.WHOLE] * 6)
-        self.assertEqual([shares[1][at] for at in middle], [Level.WHOLE, Level.ALL] + [Level.WHOLE] * 4)
-        self.assertEqual([drawn.rows[None, "frames"].levels()[at] for at in middle], [Level.WHOLE, Level.RESTORED] + [Level.WHOLE] * 4)
+        self.assertEqual([shares[0][at] for at in middle], [Shade.WHOLE] * 6)
+        self.assertEqual([shares[1][at] for at in middle], [Shade.WHOLE, Shade.ALL] + [Shade.WHOLE] * 4)
+        self.assertEqual([drawn.rows[None, "frames"].shades()[at] for at in middle], [Shade.WHOLE, Shade.RESTORED] + [Shade.WHOLE] * 4)
 
     def test_sound_and_container(self):
-        drawn = Timeline(account(plain(), Outcome(3, State.OPEN, 0, "10"), Outcome(4, State.AGREED, 0, "10")))
-        self.assertEqual(max(drawn.rows[None, "sound"].levels()), Level.LOST)
-        self.assertEqual(max(drawn.rows[None, "container"].levels()), Level.RESTORED)
-        self.assertEqual((max(drawn.rows[0, "sound"].shares()), max(drawn.rows[1, "sound"].shares())), (Level.WHOLE, Level.ALL))
-        self.assertEqual(max(drawn.rows[1, "frames"].shares()), Level.WHOLE)
+        drawn = Timeline(summary(plain(), Outcome(3, State.OPEN, 0, "10"), Outcome(4, State.AGREED, 0, "10")))
+        self.assertEqual(max(drawn.rows[None, "sound"].shades()), Shade.LOST)
+        self.assertEqual(max(drawn.rows[None, "container"].shades()), Shade.RESTORED)
+        self.assertEqual((max(drawn.rows[0, "sound"].shares()), max(drawn.rows[1, "sound"].shares())), (Shade.WHOLE, Shade.ALL))
+        self.assertEqual(max(drawn.rows[1, "frames"].shares()), Shade.WHOLE)
 
     def test_shares_of_many_frames(self):
         columns = 48
@@ -202,27 +202,27 @@ class TimelineTest(unittest.TestCase):
         outcomes = [Outcome(element(number), State.WHOLE, 0, "10", {0: (settled("10"),)}) for number in range(0, count, 20)]
         outcomes += [Outcome(element(number), State.WHOLE, 0, "10", {0: (settled("10"),)}) for number in range(count // 2 + 1, count, 3)]
         with mock.patch.object(timeline, "COLUMNS", columns):
-            shares = Timeline(account(recording(count), *outcomes)).rows[1, "frames"].shares()
-        self.assertEqual((set(shares[1:23]), set(shares[25:47])), ({Level.SOME}, {Level.MANY}))
+            shares = Timeline(summary(recording(count), *outcomes)).rows[1, "frames"].shares()
+        self.assertEqual((set(shares[1:23]), set(shares[25:47])), ({Shade.SOME}, {Shade.MANY}))
 
     def test_another_file_has_the_frames_that_were_found_in_it(self):
-        made = account(recording(), copies=3, matched=[Matched(2, {0: 5, 1: 9})])
+        made = summary(recording(), copies=3, matched=[Matched(2, {0: 5, 1: 9})])
         made.copies[2].role = Role.OTHER
         shares = Timeline(made).rows[2, "frames"].shares()
-        self.assertEqual((shares[70], shares[150], shares[400]), (Level.WHOLE, Level.WHOLE, Level.NOTHING))
+        self.assertEqual((shares[70], shares[150], shares[400]), (Shade.WHOLE, Shade.WHOLE, Shade.NOTHING))
 
     def test_a_copy_that_is_cut_short_ends_where_it_ends(self):
         layout = plain()
         for stretch in layout.stretches[10:]:
             stretch.places = (stretch.start, None)
-        drawn = Timeline(account(layout))
+        drawn = Timeline(summary(layout))
         for kind in drawn.kinds:
-            one, other, out = drawn.rows[0, kind].shares(), drawn.rows[1, kind].shares(), drawn.rows[None, kind].levels()
+            one, other, out = drawn.rows[0, kind].shares(), drawn.rows[1, kind].shares(), drawn.rows[None, kind].shades()
             self.assertEqual(one, out)
             self.assertEqual(other[:240], out[:240])
-            self.assertEqual(set(other[270:]), {Level.NOTHING})
+            self.assertEqual(set(other[270:]), {Shade.NOTHING})
 
     def test_a_copy_that_is_left_out_has_no_row(self):
-        made = account(recording(), copies=3)
+        made = summary(recording(), copies=3)
         made.copies[2].role = Role.LEFT
         self.assertEqual(Timeline(made).copies, [0, 1, None])

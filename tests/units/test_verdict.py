@@ -2,14 +2,14 @@
 import dataclasses
 import unittest
 
+from mend_reel.containers.frame_times import constant_step, end_of, lasts
+from mend_reel.copies.arrangement import Leaving, Left, Matched
+from mend_reel.judging.completeness import Excuses, Seen, misplaced
+from mend_reel.judging.reasons import Why
+from mend_reel.judging.results import FrameState, Results
+from mend_reel.judging.verdict import Evidence, judge
+from mend_reel.model import Claims, Content, Frame, Kind, Layout, Outcome, SliceReport, State, Stretch, What
 from .framed import SOUND, VIDEO
-from mend_reel.completeness import Excuses, Seen, misplaced
-from mend_reel.fates import Fate, Fates
-from mend_reel.matching import Leaving, Left, Matched
-from mend_reel.model import Claims, Content, Frame, Kind, Layout, Outcome, Place, State, Stretch, What
-from mend_reel.reasons import Why
-from mend_reel.times import constant_step, end_of, lasts
-from mend_reel.verdict import Evidence, judge
 
 COPIES = 2
 
@@ -56,23 +56,23 @@ def element(number):
 
 
 def settled(marks="11", start=0, end=300):
-    return Place(start, end, "settled", 0, marks)
+    return SliceReport(start, end, "settled", 0, marks)
 
 
 def missing(marks="10", start=0, end=300):
-    return Place(start, end, "missing", 0, marks)
+    return SliceReport(start, end, "missing", 0, marks)
 
 
 def repaired(marks="00", start=0, end=300):
-    return Place(start, end, "repaired", 2400, marks)
+    return SliceReport(start, end, "repaired", 2400, marks)
 
 
 def voted(marks="00", start=0, end=300):
-    return Place(start, end, "voted", 4, marks)
+    return SliceReport(start, end, "voted", 4, marks)
 
 
 def undivided(marks="10", start=0, end=300):
-    return Place(start, end, "undivided", 0, marks)
+    return SliceReport(start, end, "undivided", 0, marks)
 
 
 def without(layout, *numbers):
@@ -89,108 +89,108 @@ def whys(found):
 
 
 class FateTest(unittest.TestCase):
-    def fates(self, layout, *outcomes, columns=(0, 1)):
-        return Fates(layout, layout.stretches, outcomes, columns)
+    def results(self, layout, *outcomes, copy_of_mark=(0, 1)):
+        return Results(layout, layout.stretches, outcomes, copy_of_mark)
 
     def test_a_frame_of_a_whole_element(self):
-        fates = self.fates(recording(), Outcome(element(2), State.WHOLE, 0, "10", {0: (settled("10"),)}))
-        fate = fates.frames[2]
-        self.assertEqual((fate.fate, fate.damaged, fate.lacking, fate.order), (Fate.RESTORED, (1,), (), 2))
-        self.assertEqual(fates.counts().named(), {"frames": 6, "damaged": 1, "restored": 1, "woven": 0, "not restored": 0})
+        results = self.results(recording(), Outcome(element(2), State.WHOLE, 0, "10", {0: (settled("10"),)}))
+        result = results.frames[2]
+        self.assertEqual((result.state, result.damaged, result.lacking, result.order), (FrameState.RESTORED, (1,), (), 2))
+        self.assertEqual(results.counts().named(), {"frames": 6, "damaged": 1, "restored": 1, "woven": 0, "not restored": 0})
 
     def test_sound_alone_is_no_frame(self):
-        fates = self.fates(recording(), Outcome(element(2), State.WHOLE, 0, "10"))
-        self.assertEqual((fates.frames, fates.counts().damaged), ({}, 0))
+        results = self.results(recording(), Outcome(element(2), State.WHOLE, 0, "10"))
+        self.assertEqual((results.frames, results.counts().damaged), ({}, 0))
 
     def test_a_frame_that_is_given_back_in_an_element_that_is_not(self):
-        fates = self.fates(recording(), Outcome(element(1), State.MISSING, 0, "10", {0: (settled("10", 100), settled("01", 0, 100))}))
-        self.assertEqual((fates.frames[1].fate, fates.frames[1].damaged), (Fate.RESTORED, (0, 1)))
-        self.assertEqual((fates.sums().verified, fates.sums().open), (5 * 500 + 300, 200))
+        results = self.results(recording(), Outcome(element(1), State.MISSING, 0, "10", {0: (settled("10", 100), settled("01", 0, 100))}))
+        self.assertEqual((results.frames[1].state, results.frames[1].damaged), (FrameState.RESTORED, (0, 1)))
+        self.assertEqual((results.sums().verified, results.sums().open), (5 * 500 + 300, 200))
 
     def test_a_copy_with_damage_beside_a_frame_alone_has_the_frame(self):
-        fates = self.fates(recording(), Outcome(element(1), State.MISSING, 0, "10", {0: (settled("01"),)}))
-        self.assertEqual(fates.frames[1].damaged, (0,))
+        results = self.results(recording(), Outcome(element(1), State.MISSING, 0, "10", {0: (settled("01"),)}))
+        self.assertEqual(results.frames[1].damaged, (0,))
 
     def test_a_lost_frame(self):
-        fates = self.fates(recording(), Outcome(element(1), State.MISSING, 0, "10", {0: (missing("10"),)}))
-        self.assertEqual((fates.frames[1].fate, fates.frames[1].damaged), (Fate.LOST, (0, 1)))
-        self.assertEqual((fates.sums().verified, fates.sums().open), (5 * 500, 500))
+        results = self.results(recording(), Outcome(element(1), State.MISSING, 0, "10", {0: (missing("10"),)}))
+        self.assertEqual((results.frames[1].state, results.frames[1].damaged), (FrameState.LOST, (0, 1)))
+        self.assertEqual((results.sums().verified, results.sums().open), (5 * 500, 500))
 
     def test_a_frame_of_which_a_place_is_not_divided_is_lost(self):
         slices = (settled("10", 200), undivided("11", 100, 200), settled("01", 0, 100))
-        fates = self.fates(recording(), Outcome(element(1), State.MISSING, 0, "10", {0: slices}))
-        self.assertEqual((fates.frames[1].fate, fates.frames[1].damaged), (Fate.LOST, (0, 1)))
-        self.assertEqual(fates.counts().named(), {"frames": 6, "damaged": 1, "restored": 0, "woven": 0, "not restored": 1})
-        self.assertEqual((fates.sums().verified, fates.sums().open), (5 * 500, 500))
+        results = self.results(recording(), Outcome(element(1), State.MISSING, 0, "10", {0: slices}))
+        self.assertEqual((results.frames[1].state, results.frames[1].damaged), (FrameState.LOST, (0, 1)))
+        self.assertEqual(results.counts().named(), {"frames": 6, "damaged": 1, "restored": 0, "woven": 0, "not restored": 1})
+        self.assertEqual((results.sums().verified, results.sums().open), (5 * 500, 500))
 
     def test_a_checksum_vouches_for_a_place_that_is_not_divided(self):
         slices = (settled("10", 200), undivided("00", 100, 200), settled("01", 0, 100))
-        fates = self.fates(recording(), Outcome(element(1), State.WOVEN, 4, "00", {0: slices}))
-        self.assertEqual((fates.frames[1].fate, fates.frames[1].damaged, fates.sums().open), (Fate.WOVEN, (0, 1), 0))
+        results = self.results(recording(), Outcome(element(1), State.WOVEN, 4, "00", {0: slices}))
+        self.assertEqual((results.frames[1].state, results.frames[1].damaged, results.sums().open), (FrameState.WOVEN, (0, 1), 0))
 
     def test_a_repaired_slice_is_lost_where_no_checksum_vouches_for_it(self):
         slices = (settled("10", 200), repaired("00", 100, 200), settled("01", 0, 100))
-        lost, whole, woven = (self.fates(recording(), Outcome(element(1), state, 0, "00", {0: slices})) for state in
+        lost, whole, woven = (self.results(recording(), Outcome(element(1), state, 0, "00", {0: slices})) for state in
                               (State.MISSING, State.WHOLE, State.WOVEN))
-        self.assertEqual([fates.frames[1].fate for fates in (lost, whole, woven)], [Fate.LOST, Fate.RESTORED, Fate.WOVEN])
+        self.assertEqual([results.frames[1].state for results in (lost, whole, woven)], [FrameState.LOST, FrameState.RESTORED, FrameState.WOVEN])
         self.assertEqual((lost.sums().verified, lost.sums().open), (5 * 500, 500))
 
     def test_woven(self):
-        fates = self.fates(recording(), Outcome(element(0), State.WHOLE, 0, "00", {0: (Place(0, 300, "woven", 4, "00"),)}),
+        results = self.results(recording(), Outcome(element(0), State.WHOLE, 0, "00", {0: (SliceReport(0, 300, "woven", 4, "00"),)}),
                            Outcome(element(1), State.WOVEN, 4, "00", {0: (missing("00"),)}),
                            Outcome(element(2), State.WOVEN, 4, "00", {0: (settled("10"),)}))
-        self.assertEqual([fates.frames[number].fate for number in range(3)], [Fate.WOVEN, Fate.WOVEN, Fate.RESTORED])
-        self.assertEqual(fates.counts().woven, 2)
+        self.assertEqual([results.frames[number].state for number in range(3)], [FrameState.WOVEN, FrameState.WOVEN, FrameState.RESTORED])
+        self.assertEqual(results.counts().woven, 2)
 
     def test_frames_without_an_element(self):
-        fates = self.fates(plain(), Outcome(2, State.WHOLE, 0, "10", {0: (settled("10"),)}), Outcome(5, State.MISSING, 0, "11", {0: (missing("11"),)}),
+        results = self.results(plain(), Outcome(2, State.WHOLE, 0, "10", {0: (settled("10"),)}), Outcome(5, State.MISSING, 0, "11", {0: (missing("11"),)}),
                            Outcome(8, State.WHOLE, 0, "1-", {}))
-        self.assertEqual([(at, fate.fate, fate.damaged) for at, fate in fates.frames.items()],
-                         [(0, Fate.RESTORED, (1,)), (1, Fate.LOST, (0, 1))])
+        self.assertEqual([(at, result.state, result.damaged) for at, result in results.frames.items()],
+                         [(0, FrameState.RESTORED, (1,)), (1, FrameState.LOST, (0, 1))])
 
     def test_frames_without_parities(self):
         layout = plain()
         layout.stretches = [dataclasses.replace(each, kind=Kind.PLAIN, parts=()) for each in layout.stretches]
-        fates = self.fates(layout, Outcome(2, State.OPEN, 0, "10"))
-        self.assertEqual((fates.frames[0].fate, fates.frames[0].damaged), (Fate.LOST, (0, 1)))
+        results = self.results(layout, Outcome(2, State.OPEN, 0, "10"))
+        self.assertEqual((results.frames[0].state, results.frames[0].damaged), (FrameState.LOST, (0, 1)))
 
     def test_a_frame_without_parities_in_several_stretches(self):
         layout = plain()
         frame = layout.stretches[5]
         layout.stretches[5:6] = [dataclasses.replace(frame, kind=Kind.PLAIN, parts=(), start=frame.start + at, size=100,
                                                      places=(frame.start + at,) * 2) for at in (0, 100, 200)]
-        fates = self.fates(layout, Outcome(6, State.AGREED, 0, "10"), Outcome(7, State.OPEN, 0, "01"))
-        self.assertEqual((list(fates.frames), fates.frames[1].fate, fates.frames[1].damaged), ([1], Fate.LOST, (0, 1)))
-        self.assertEqual([len(fates.within(number)) for number in (4, 5, 6, 7, 8)], [0, 1, 1, 1, 0])
+        results = self.results(layout, Outcome(6, State.AGREED, 0, "10"), Outcome(7, State.OPEN, 0, "01"))
+        self.assertEqual((list(results.frames), results.frames[1].state, results.frames[1].damaged), ([1], FrameState.LOST, (0, 1)))
+        self.assertEqual([len(results.within(number)) for number in (4, 5, 6, 7, 8)], [0, 1, 1, 1, 0])
 
     def test_a_frame_that_could_not_be_listed_as_a_part(self):
         layout = recording()
         layout.frames.insert(1, Frame(1, 0.02, layout.stretches[2].start + 430, 40))
-        missing_one = self.fates(layout, Outcome(element(0), State.MISSING, 0, "10", {0: (settled("10"),)}))
-        self.assertEqual([fate.fate for fate in missing_one.frames.values()], [Fate.RESTORED, Fate.LOST])
+        missing_one = self.results(layout, Outcome(element(0), State.MISSING, 0, "10", {0: (settled("10"),)}))
+        self.assertEqual([result.state for result in missing_one.frames.values()], [FrameState.RESTORED, FrameState.LOST])
         self.assertEqual(missing_one.sums().open, 200)
-        self.assertEqual(self.fates(layout, Outcome(element(0), State.WHOLE, 0, "10", {})).frames[1].fate, Fate.RESTORED)
+        self.assertEqual(self.results(layout, Outcome(element(0), State.WHOLE, 0, "10", {})).frames[1].state, FrameState.RESTORED)
 
     def test_several_marks_of_one_copy(self):
         layout = recording()
         for stretch in layout.stretches:
             stretch.places += (None,)
-        fates = self.fates(layout, Outcome(element(2), State.WHOLE, 0, "1-0", {0: (settled("1-0"),)}), columns=(0, 3, 3))
-        self.assertEqual((fates.frames[2].damaged, fates.frames[2].lacking), ((3,), ()))
+        results = self.results(layout, Outcome(element(2), State.WHOLE, 0, "1-0", {0: (settled("1-0"),)}), copy_of_mark=(0, 3, 3))
+        self.assertEqual((results.frames[2].damaged, results.frames[2].lacking), ((3,), ()))
 
     def test_sums(self):
         layout = recording()
         layout.stretches[0].places = (0, None)
-        fates = self.fates(layout, Outcome(1, State.OPEN, 0, "10"), Outcome(3, State.AGREED, 0, "11-"))
-        self.assertEqual(fates.sums().named(), {"verified": 6 * 500, "agreed": 5 * 12, "alone": 100, "open": 12})
+        results = self.results(layout, Outcome(1, State.OPEN, 0, "10"), Outcome(3, State.AGREED, 0, "11-"))
+        self.assertEqual(results.sums().named(), {"verified": 6 * 500, "agreed": 5 * 12, "alone": 100, "open": 12})
 
     def test_what_no_copy_has_is_not_in_out(self):
         layout = recording()
         layout.stretches[element(1)].places = (None, None)
-        fates = self.fates(layout)
-        self.assertEqual((fates.frames[1].fate, fates.frames[1].damaged, fates.is_absent(1)), (Fate.LOST, (), True))
-        self.assertEqual([fates.in_out(layout.stretches[element(number)].start) for number in (0, 1, 2)], [112, 624, 636])
-        self.assertEqual(sum(fates.sums().named().values()), layout.size - 500)
+        results = self.results(layout)
+        self.assertEqual((results.frames[1].state, results.frames[1].damaged, results.is_absent(1)), (FrameState.LOST, (), True))
+        self.assertEqual([results.in_out(layout.stretches[element(number)].start) for number in (0, 1, 2)], [112, 624, 636])
+        self.assertEqual(sum(results.sums().named().values()), layout.size - 500)
 
 
 class VerdictTest(unittest.TestCase):
@@ -241,13 +241,13 @@ class VerdictTest(unittest.TestCase):
     def test_copies_that_differ(self):
         layout = plain()
         layout.stretches[3].source = 1
-        found = verdict(layout, Outcome(3, State.OPEN, 0, "01"), columns=(4, 6))
+        found = verdict(layout, Outcome(3, State.OPEN, 0, "01"), copy_of_mark=(4, 6))
         self.assertEqual([reason.text() for reason in found.reasons], ["sound of track 2 at 0:00:00.000 (bytes 440 to 540): the copies differ, and "
                                                                        "no checksum says which is right; OUT has that of copy 7"])
 
     def test_two_versions_that_pass(self):
         found = verdict(recording(), Outcome(element(1), State.DISPUTED, 0, "10", {}),
-                        Outcome(element(3), State.MISSING, 0, "10", {0: (Place(0, 300, "disputed", 0, "10"),)}))
+                        Outcome(element(3), State.MISSING, 0, "10", {0: (SliceReport(0, 300, "disputed", 0, "10"),)}))
         self.assertEqual(whys(found), [Why.DISPUTED, Why.DISPUTED])
 
     def test_gaps_and_what_no_copy_has(self):
@@ -376,7 +376,7 @@ class TimesTest(unittest.TestCase):
 
     def test_unverified_bytes(self):
         layout = plain()
-        excuses = Excuses(Seen(layout, layout, Fates(layout, layout.stretches, [], (0, 1))), [])
+        excuses = Excuses(Seen(layout, layout, Results(layout, layout.stretches, [], (0, 1))), [])
         self.assertEqual(excuses.unverified(layout.frames[0].end, layout.frames[1].place), 140)
 
     def test_frames_of_another_place(self):

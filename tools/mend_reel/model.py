@@ -44,7 +44,7 @@ class Content(enum.Enum):
     HEADER = "file header"
     INFORMATION = "information on the recording"
     TRACKS = "description of the tracks"
-    PLACES = "table of contents"
+    SEEK_HEAD = "table of contents"
     INDEX = "index"
     TAGS = "tags"
     CHAPTERS = "chapters"
@@ -132,9 +132,9 @@ class Stretch:
     start: int
     size: int
     what: What
-    places: typing.Tuple[typing.Optional[int], ...] = ()
-    parts: typing.Tuple[Frame, ...] = ()
-    vouched: typing.FrozenSet[int] = frozenset()
+    places: tuple[typing.Optional[int], ...] = ()
+    parts: tuple[Frame, ...] = ()
+    vouched: frozenset[int] = frozenset()
     source: int = 0
     because: Because = Because.ALONE
 
@@ -150,11 +150,11 @@ class Layout:
     order of their times."""
 
     size: int
-    tracks: typing.List[Track]
-    frames: typing.List[Frame]
-    stretches: typing.List[Stretch]
+    tracks: list[Track]
+    frames: list[Frame]
+    stretches: list[Stretch]
     claims: Claims = Claims()
-    gaps: typing.List[typing.Tuple[int, int]] = dataclasses.field(default_factory=list)
+    gaps: list[tuple[int, int]] = dataclasses.field(default_factory=list)
     rises: bool = False
 
 
@@ -189,7 +189,7 @@ def open_copy(path: str) -> Copy:
 
 
 @dataclasses.dataclass(frozen=True)
-class Place:
+class SliceReport:
     """A slice of a frame as the program reports it: from where to where in the frame, its state (`settled`, `woven`, `voted`, `repaired`,
     `disputed`, `missing`, or for what its footers do not divide `undivided` between slices, and `broken` at the frame's start), how many
     combinations or repairs were tried, and a mark for each copy."""
@@ -211,7 +211,7 @@ class Outcome:
     state: State
     count: int
     marks: str
-    slices: typing.Mapping[int, typing.Tuple[Place, ...]] = dataclasses.field(default_factory=dict)
+    slices: typing.Mapping[int, tuple[SliceReport, ...]] = dataclasses.field(default_factory=dict)
 
     def is_undamaged(self) -> bool:
         """Whether each copy that has the stretch has what OUT has, and nothing is open."""

@@ -1,0 +1,155 @@
+"""Which copies are of one file, which are other files, and which belong to another recording."""
+import os
+import tempfile
+import unittest
+
+from mend_reel.copies.arrangement import Leaving, arrange, claimed_size, group
+from mend_reel.model import Fault, open_copy
+from . import made
+from .framed import frame, judge, matroska
+
+FRAMES = [(0.04 * number, frame(number, 200, 150 + number)) for number in range(10)]
+REEL = matroska(FRAMES)
+OTHER = matroska([(time, frame(100 + number, 200, 150 + number)) for number, (time, _) in enumerate(FRAMES * 2)],
+                 seed=5000)
+REWRAPPED = matroska(FRAMES, crc=False, seed=50)
+
+
+def place_of(number, reel=REEL):
+    """Where a frame begins in a reel."""
+    return reel.index(FRAMES[number][1])
+
+
+def spoilt(reel, *numbers):
+    """A reel with damage in some of its frames."""
+    return made.damaged(reel, *(place_of(number, reel) + 30 for number in numbers))
+
+
+class GroupTest(unittest.TestCase):
+    def group(self, *contents):
+        with made.opened(*contents) as copies:
+            return group(copies)[0]
+
+    def test_copies_of_one_length(self):
+        lost = made.damaged(REEL, (0, bytes(3 * len(REEL) // 4)))
+        self.assertEqual(self.group(REEL, spoilt(REEL, 1, 5), lost), [[0, 1, 2]])
+
+    def test_a_copy_that_is_all_zero(self):
+        self.assertEqual(self.group(REEL, bytes(len(REEL)), bytes(len(REEL))), [[0], [1], [2]])
+
+    def test_a_copy_that_is_cut_short(self):
+        self.assertEqual(self.group(REEL[: len(REEL) // 2], REEL, REEL[: len(REEL) // 3]), [[0, 1, 2]])
+
+    def test_a_cut_copy_with_a_lost_end(self):
+        half = len(REEL) // 2
+        self.assertEqual(self.group(REEL, REEL[: half - 1000] + bytes(1000)), [[0, 1]])
+
+    def test_a_file_that_lost_its_middle_is_another_file(self):
+        middle = len(REEL) // 2
+        self.assertEqual(self.group(REEL, REEL[:middle] + REEL[middle + 100 :]), [[0], [1]])
+
+    def test_a_file_that_begins_alike_and_ends_otherwise_is_another_file(self):
+        self.assertEqual(self.group(REEL, REEL[: len(REEL) // 2] + made.noise(3, 600)), [[0], [1]])
+
+    def test_other_files_of_one_length(self):
+        other = made.noise(77, len(REEL))
+        self.assertEqual(self.group(REEL, other), [[0], [1]])
+
+    def test_a_short_copy_joins_what_it_is_a_front_of(self):
+        self.assertEqual(self.group(REEL, OTHER, OTHER[:3000], REEL[:2500]), [[0, 3], [1, 2]])
+
+    def test_the_size_that_a_header_claims(self):
+        avi = b"RIFF" + (5000).to_bytes(4, "little") + bytes(90)
+        mov = (20).to_bytes(4, "big") + b"ftyp" + bytes(12) + (1).to_bytes(4, "big") + b"mdat" + (9000).to_bytes(8, "big") + bytes(90)
+        with made.opened(REEL, REEL[:400], avi, mov, mov[:20] + bytes(90), b"", bytes(50)) as copies:
+            self.assertEqual([claimed_size(copy) for copy in copies], [len(REEL), len(REEL), 5008, 9020, None, None, None])
+
+    def test_the_same_file_counts_once(self):
+        with tempfile.TemporaryDirectory() as folder:
+            one, link, empty = (os.path.join(folder, name) for name in ("one", "link", "empty"))
+            with open(one, "wb") as file:
+                file.write(REEL)
+            with open(empty, "wb"):
+                os.symlink(one, link)
+            copies = [open_copy(path) for path in (one, link, empty)]
+            files, left = group(copies)
+            for copy in copies:
+                os.close(copy.file)
+        self.assertEqual(files, [[0]])
+        self.assertEqual([(each.number, each.why, each.text()) for each in left],
+                         [(1, Leaving.REPEATED, "it is the same file as copy 1"), (2, Leaving.EMPTY, "it is empty")])
+
+
+class ArrangeTest(unittest.TestCase):
+    def arrange(self, *contents):
+        with made.opened(*contents) as copies:
+            return arrange(copies, judge)
+
+    def test_copies_of_one_file_are_not_judged(self):
+        def never(*_):
+            raise AssertionError("judged")
+
+        with made.opened(REEL, spoilt(REEL, 2)) as copies:
+            arrangement = arrange(copies, never)
+        self.assertEqual((arrangement.basis, arrangement.matched, len(arrangement.layout.frames)), ([0, 1], [], 10))
+
+    def test_an_undamaged_copy_is_the_basis(self):
+        for contents in ([spoilt(REEL, 2), REWRAPPED], [REWRAPPED, spoilt(REEL, 2)]):
+            arrangement = self.arrange(*contents)
+            self.assertEqual(arrangement.basis, [contents.index(REWRAPPED)])
+            self.assertEqual(len(arrangement.matched[0].places), 10)
+            self.assertTrue(arrangement.health[contents.index(REWRAPPED)].is_undamaged)
+
+    def test_an_undamaged_copy_comes_before_several_damaged_ones(self):
+        self.assertEqual(self.arrange(spoilt(REEL, 2), spoilt(REEL, 5), REWRAPPED).basis, [2])
+
+    def test_the_most_verified_bytes_decide_among_undamaged_copies(self):
+        self.assertEqual(self.arrange(REWRAPPED, REEL).basis, [1])
+
+    def test_the_first_of_equals(self):
+        other = matroska(FRAMES, False, 70) + b"more"
+        self.assertEqual((self.arrange(REWRAPPED, other).basis, self.arrange(other, REWRAPPED).basis), ([0], [0]))
+
+    def test_a_cut_file_is_not_the_basis_where_the_rest_can_be_mended(self):
+        front = matroska(FRAMES[:9])
+        arrangement = self.arrange(front, spoilt(REEL, 4))
+        self.assertEqual(arrangement.basis, [1])
+        self.assertEqual(sorted(arrangement.matched[0].places), list(range(9)))
+
+    def test_a_file_that_lost_bytes_is_distinguished_from_one_written_anew(self):
+        cut = place_of(4) + 50
+        self.assertTrue(self.arrange(spoilt(REEL, 7), REEL[:cut] + REEL[cut + 90 :]).matched[0].is_shifted)
+        self.assertFalse(self.arrange(spoilt(REEL, 7), REWRAPPED).matched[0].is_shifted)
+
+    def test_two_other_recordings_are_refused(self):
+        with self.assertRaisesRegex(Fault, "^other recordings: .*copy.0 and .*copy.1 have no slice in common"):
+            self.arrange(spoilt(REEL, 3), OTHER)
+
+    def test_another_recording_among_copies_is_left(self):
+        for contents in ([OTHER, spoilt(REEL, 3), REEL], [REWRAPPED, OTHER, spoilt(REEL, 3)]):
+            arrangement = self.arrange(*contents)
+            self.assertEqual([(each.number, each.why) for each in arrangement.left], [(contents.index(OTHER), Leaving.OTHER)])
+            self.assertNotIn(contents.index(OTHER), arrangement.basis)
+
+    def test_what_is_no_container_is_left(self):
+        arrangement = self.arrange(b"no container " * 99, bytes(5000), b"", spoilt(REEL, 3))
+        self.assertEqual((arrangement.basis, [each.why for each in arrangement.left]), ([3], [Leaving.UNREAD, Leaving.UNREAD, Leaving.EMPTY]))
+
+    def test_frames_are_found_in_a_file_whose_container_is_lost(self):
+        begin = place_of(2)
+        arrangement = self.arrange(REEL, made.noise(8, 300) + REEL[begin + 50 :])
+        self.assertEqual(sorted(arrangement.matched[0].places), list(range(2, 10)))
+        self.assertEqual(arrangement.matched[0].places[5], place_of(5) + 250 - begin)
+
+    def test_frames_without_a_place_are_reported(self):
+        damaged = bytearray(frame(56, 300))
+        damaged[7] ^= 1
+        other = matroska([*FRAMES[:4], (0.16, frame(55, 400)), (0.2, bytes(damaged))], seed=9)
+        arrangement = self.arrange(other, spoilt(matroska(FRAMES[:3] + FRAMES[4:]), 1))
+        matched = arrangement.matched[0]
+        self.assertEqual(arrangement.basis, [1])
+        self.assertEqual(([each.time for each in matched.unplaced], [each.time for each in matched.contrary]), ([0.12], [0.16]))
+
+    def test_no_video_at_all(self):
+        with self.assertRaisesRegex(Fault, "no FFV1 video was found in .*copy.0; .*copy.1 is empty"):
+            self.arrange(b"no container " * 99, b"")

@@ -1,0 +1,56 @@
+"""What a Matroska file says of itself, and the footers of slices."""
+from __future__ import annotations
+
+import struct
+import unittest
+
+from mend_reel.containers import ebml, metadata, slice_footers
+from mend_reel.model import Content, Track
+from . import made
+
+
+def read(*elements: bytes) -> metadata.Metadata:
+    return metadata.read(dict(ebml.children(b"".join(elements))))
+
+
+class Metadata(unittest.TestCase):
+    def test_tracks(self) -> None:
+        header = bytes(16) + b"FFV1" + bytes(20)
+        windows = made.track(5, b"V_MS/VFW/FOURCC", 1, header + b"extra")
+        other = made.track(6, b"V_MS/VFW/FOURCC", 1, header.replace(b"FFV1", b"HFYU"))
+        packed = made.track(7, b"V_FFV1", 1, more=made.element(0x6D80, b""))
+        found = read(made.tracks(made.FFV1, made.PCM, windows, other, packed)).tracks
+        self.assertEqual(found[0], Track(1, Content.VIDEO, "V_FFV1", True, 48, 40, b"record", 0.04))
+        self.assertEqual(found[1], Track(2, Content.SOUND, "A_PCM/INT/LIT"))
+        self.assertEqual([(track.is_ffv1, track.record) for track in found[2:]], [(True, b"extra"), (False, header.replace(b"FFV1", b"HFYU")), (False, b"")])
+
+    def test_what_a_file_claims(self) -> None:
+        simple = made.element(0x67C8, made.element(0x45A3, b"NUMBER_OF_FRAMES"), made.element(0x4487, b"8"))
+        tags = made.element(made.TAGS, made.element(0x7373, made.element(0x63C0, made.number(0x63C5, 1001)), simple))
+        content = made.information(320), made.tracks(), tags, made.cues((0, 1, 9), (80, 1, 10), (80, 2, 10))
+        claims = read(*content).claims
+        self.assertEqual((claims.duration, claims.counts, claims.index), (0.32, {1: 8}, {1: [0.0, 0.08], 2: [0.08]}))
+        self.assertIsNone(read(made.tracks()).claims.duration)
+
+    def test_numbers_that_lie(self) -> None:
+        for duration in (float("inf"), float("nan"), -1.0):
+            self.assertIsNone(metadata.read({metadata.INFORMATION: made.element(0x4489, struct.pack(">d", duration))}).claims.duration)
+
+
+class Footers(unittest.TestCase):
+    def test_starts(self) -> None:
+        with made.opened(b"head" + made.frame(1, 30, 20, 10)) as (copy,):
+            end = 4 + 60 + 24
+            self.assertEqual(list(slice_footers.starts(copy, 0, end)), [end - 18, end - 46, 4])
+            self.assertTrue(slice_footers.is_frame(copy, 4, end))
+            self.assertFalse(slice_footers.is_frame(copy, 3, end))
+            self.assertEqual(slice_footers.first_within([copy], 2, 9, end), 4)
+            self.assertIsNone(slice_footers.first_within([copy], 5, 9, end))
+
+    def test_zero_bytes_are_no_slices(self) -> None:
+        with made.opened(bytes(64)) as (copy,):
+            self.assertFalse(slice_footers.is_frame(copy, 0, 64))
+
+
+if __name__ == "__main__":
+    unittest.main()

@@ -1,0 +1,1 @@
+"""How files are built: what lies where in them."""

@@ -1,0 +1,116 @@
+"""EBML (RFC 8794): element heads, the values of elements, and the CRC-32 of an element's content."""
+from __future__ import annotations
+
+import struct
+import typing
+import zlib
+
+from ..model import Copy
+
+CRC_HEAD = b"\xbf\x84"
+CRC_SIZE = 6
+LONGEST_HEAD = 12
+PIECE = 1 << 16
+# The length of an ID or a size by its first byte, and the data bits by the length.
+LENGTHS = [9 - first.bit_length() for first in range(256)]
+MASKS = [(1 << 7 * length) - 1 for length in range(9)]
+
+
+class Head(typing.NamedTuple):
+    """An element's head: its ID with the marker bit, where its size begins, and where its content starts and ends. The end is None where
+    the size is unknown."""
+
+    identity: int
+    sized: int
+    content: int
+    end: typing.Optional[int]
+
+
+def read_identity(data: bytes, at: int) -> typing.Optional[tuple[int, int]]:
+    """Returns an element's ID and its length in bytes, or None where there is none. IDs whose data bits are all equal are reserved."""
+    length = LENGTHS[data[at]] if at < len(data) else 9
+    if length > 4 or at + length > len(data):
+        return None
+    identity = int.from_bytes(data[at : at + length], "big")
+    return None if identity & MASKS[length] in (0, MASKS[length]) else (identity, length)
+
+
+def read_size(data: bytes, at: int) -> typing.Optional[tuple[typing.Optional[int], int]]:
+    """Returns a variable-size number and its length in bytes, or None where there is none. The number is None if it is the unknown size."""
+    length = LENGTHS[data[at]] if at < len(data) else 9
+    if length > 8 or at + length > len(data):
+        return None
+    size = int.from_bytes(data[at : at + length], "big") & MASKS[length]
+    return None if size == MASKS[length] else size, length
+
+
+def read_head(data: bytes, at: int, place: int) -> typing.Optional[Head]:
+    """Returns the head at an offset of some bytes, which lies at a place of the file, or None where there is none."""
+    length = LENGTHS[data[at]] if at < len(data) else 9
+    sized = at + length
+    if length > 4 or sized >= len(data):
+        return None
+    more = LENGTHS[data[sized]]
+    content = sized + more
+    if more > 8 or content > len(data):
+        return None
+    identity = int.from_bytes(data[at:sized], "big")
+    if identity & MASKS[length] in (0, MASKS[length]):
+        return None
+    size = int.from_bytes(data[sized:content], "big") & MASKS[more]
+    start = place + length + more
+    return Head(identity, place + length, start, None if size == MASKS[more] else start + size)
+
+
+def passes(copy: Copy, content: int, end: int) -> bool:
+    """Reports whether an element's content begins with a CRC-32 element that the rest of it matches."""
+    head = copy.read(content, CRC_SIZE) if content + CRC_SIZE <= end <= copy.size else b""
+    if head[:2] != CRC_HEAD or len(head) < CRC_SIZE:
+        return False
+    place, sum_ = content + CRC_SIZE, 0
+    while place < end:
+        piece = copy.read(place, min(PIECE, end - place))
+        if not piece:
+            return False
+        sum_ = zlib.crc32(piece, sum_)
+        place += len(piece)
+    return sum_ == int.from_bytes(head[2:], "little")
+
+
+def children(data: bytes) -> typing.Iterator[tuple[int, bytes]]:
+    """Yields the ID and the content of each child in a master's content, up to the first that does not lie within it."""
+    at = 0
+    while at < len(data):
+        head = read_head(data, at, at)
+        if head is None or head.end is None or head.end > len(data):
+            return
+        yield head.identity, data[head.content : head.end]
+        at = head.end
+
+
+def divides(data: bytes) -> bool:
+    """Reports whether children cover a master's content."""
+    at = 0
+    while at < len(data):
+        head = read_head(data, at, at)
+        if head is None or head.end is None or head.end > len(data):
+            return False
+        at = head.end
+    return True
+
+
+def number(content: bytes) -> int:
+    """Returns an unsigned number; 0 where it has no bytes or too many."""
+    return int.from_bytes(content, "big") if len(content) <= 8 else 0
+
+
+def real(content: bytes) -> float:
+    """Returns a floating-point number; 0 where its length is none of RFC 8794."""
+    if len(content) == 4:
+        return float(struct.unpack(">f", content)[0])
+    return float(struct.unpack(">d", content)[0]) if len(content) == 8 else 0.0
+
+
+def text(content: bytes) -> str:
+    """Returns a string up to its first zero byte."""
+    return content.split(b"\0", 1)[0].decode(errors="replace")

@@ -1,0 +1,275 @@
+"""Divides an EBML master into its children, by the heads that all copies of one file have.
+
+A place is the same byte of the file in each copy, though a copy may end early. At a place each copy reports what element begins there; the
+ID of one and the size of another count too, since damage may lie in both. Of the paths from the master's start to its end the one with the
+fewest doubtful bytes is taken: those that no element covers, or an element that no CRC-32 vouches for and after which nothing known begins.
+"""
+from __future__ import annotations
+
+import bisect
+import dataclasses
+import heapq
+import typing
+
+from . import ebml
+from .aligned_copies import NONE, AlignedCopies, Budget, Numbers
+
+PIECE = 1 << 16
+MOST_STEPS = 3
+UNDIVIDED = 0
+Cost = tuple[int, int, int]
+
+
+class Child(typing.NamedTuple):
+    """A child, or bytes that no copy can divide. An opened element ends where its content starts. `identified` and `sized` are the copies
+    whose ID and size are the child's, where its end is no mere guess. One without a head is known by its children alone."""
+
+    identity: int
+    place: int
+    content: int
+    end: int
+    identified: Numbers = NONE
+    sized: Numbers = NONE
+    is_cut: bool = False
+    is_headless: bool = False
+
+    @property
+    def vouched(self) -> Numbers:
+        return self.identified & self.sized
+
+
+def decided(child: Child, rivals: typing.Sequence[Child]) -> Child:
+    """Returns a child, for whose ID and size no copy vouches where what else may stand there speaks as well for others."""
+    is_named = all(rival.identity == child.identity for rival in rivals)
+    is_sized = all(rival.end == child.end and rival.content == child.content for rival in rivals)
+    return child._replace(identified=child.identified if is_named else NONE, sized=child.sized if is_sized else NONE)
+
+
+@dataclasses.dataclass(frozen=True)
+class Schema:
+    """What may stand in a master. A step that leads to an ID of `strong` leads on. An element of `opened` is entered: its children are of
+    the same schema, and so are, with those of `inner`, the children of one of `live` whose size is unknown. `signs` returns the offsets in
+    some bytes at which an element may begin, and needs `reach` bytes of it. `longest` is how many bytes of content an element has at
+    most, as numbers have. `confirms` reports whether a child's content shows that it ends
+    where its head says, or None where it can't be seen. A master that is cut short may end within a strong element."""
+
+    known: Numbers
+    strong: Numbers = NONE
+    opened: Numbers = NONE
+    live: Numbers = NONE
+    inner: Numbers = NONE
+    signs: typing.Callable[[bytes], typing.Iterable[int]] = lambda piece: ()
+    reach: int = 4
+    longest: typing.Mapping[int, int] = dataclasses.field(default_factory=dict)
+    confirms: typing.Callable[[AlignedCopies, Child], typing.Optional[bool]] = lambda aligned, child: None
+
+
+class Walk:
+    """One division of a master over all copies of a aligned. `is_cut` says that the master's end is missing from all of them."""
+
+    def __init__(self, aligned: AlignedCopies, start: int, end: int, schema: Schema, budget: Budget, is_cut: bool = False) -> None:
+        self.aligned, self.start, self.end, self.schema, self.budget, self.is_cut = aligned, start, end, schema, budget, is_cut
+        self._leads: dict[tuple[int, bool, int], bool] = {}
+        self._searched: list[tuple[int, int]] = []
+
+    def divide(self) -> list[Child]:
+        """Returns the children, which follow each other and cover the master."""
+        return self.quick() or self.careful()
+
+    # ---- where all copies agree
+
+    def quick(self) -> typing.Optional[list[Child]]:
+        """Returns the children if all copies have the same known heads up to the master's end, and None if not."""
+        children, place, live = [], self.start, False
+        while place < self.end:
+            child = self._agreed(place, live)
+            if child is None:
+                return None
+            children.append(child)
+            place, live = child.end, self._stays_live(child, live)
+        return children
+
+    def _agreed(self, place: int, live: bool) -> typing.Optional[Child]:
+        """Returns the child at a place of which all copies that reach there have the same known head."""
+        numbers = self.aligned.reaching(place)
+        first = self.aligned.peek(numbers[0], place, ebml.LONGEST_HEAD) if numbers else b""
+        head = ebml.read_head(first, 0, place)
+        if head is None or not self._is_known(head.identity, live):
+            return None
+        size = head.content - place
+        for number in numbers[1:]:
+            if self.aligned.peek(number, place, size) != first[:size]:
+                return None
+        everyone = self.aligned.everyone if numbers is self.aligned.numbers else frozenset(numbers)
+        child = self._child(place, head, everyone, everyone)
+        return child if child and not child.is_cut else None
+
+    def _is_known(self, identity: int, live: bool) -> bool:
+        return identity in self.schema.known or live and identity in self.schema.inner
+
+    def _stays_live(self, child: Child, live: bool) -> bool:
+        """Reports whether what follows a child may belong to an element of unknown size."""
+        return child.end == child.content if child.identity in self.schema.live else live
+
+    def _child(self, place: int, head: ebml.Head, identified: Numbers, sized: Numbers) -> typing.Optional[Child]:
+        """Returns the child that a head begins, or None where its size can't be."""
+        identity, _, content, end = head
+        if identity in self.schema.opened or end is None and identity in self.schema.live:
+            end = content
+        if end is None or content > self.end or end - content > self.schema.longest.get(identity, end):
+            return None
+        if end > self.end:
+            strong = identity in self.schema.strong
+            return Child(identity, place, content, self.end, is_cut=True) if strong or self.is_cut else None
+        return Child(identity, place, content, end, identified, sized)
+
+    # ---- where they do not
+
+    def _candidates(self, place: int, live: bool, known: bool = True) -> list[Child]:
+        """Returns the children that may begin at a place: the ID that any copy has there with the size that any has after it."""
+        data = {number: self.aligned.peek(number, place, ebml.LONGEST_HEAD) for number in self.aligned.numbers}
+        identities: dict[tuple[int, int], set[int]] = {}
+        for number, each in data.items():
+            identity = ebml.read_identity(each, 0)
+            if identity and self._is_known(identity[0], live) == known:
+                identities.setdefault(identity, set()).add(number)
+        found = []
+        for (value, length), identified in sorted(identities.items()):
+            sizes: dict[tuple[typing.Optional[int], int], set[int]] = {}
+            for number, each in data.items():
+                size = ebml.read_size(each, length)
+                if size:
+                    sizes.setdefault(size, set()).add(number)
+            for (size_, more), sized in sorted(sizes.items(), key=lambda each: (each[0][0] or 0, each[0][1])):
+                content = place + length + more
+                head = ebml.Head(value, place + length, content, None if size_ is None else content + size_)
+                child = self._child(place, head, frozenset(identified), frozenset(sized))
+                if child:
+                    found.append(child)
+        return found
+
+    def _leads_on(self, child: Child, live: bool, depth: int = 0) -> bool:
+        """Reports whether a child ends where the master does, or where something known begins: an element with a strong ID, or several."""
+        if child.is_cut:
+            return False
+        place, live = child.end, self._stays_live(child, live)
+        if place == self.end:
+            return True
+        if (place, live, depth) not in self._leads:
+            self._leads[place, live, depth] = any(
+                each.identity in self.schema.strong or depth + 1 >= MOST_STEPS or self._leads_on(each, live, depth + 1)
+                for each in self._candidates(place, live))
+        return self._leads[place, live, depth]
+
+    def _passes(self, child: Child) -> bool:
+        return child.end > child.content and not child.is_cut and bool(self.budget.passing(self.aligned, child.content, child.end))
+
+    def _confirms(self, child: Child) -> typing.Optional[bool]:
+        return self.schema.confirms(self.aligned, child) if child.content < child.end and not child.is_cut else None
+
+    def _hides(self, child: Child) -> bool:
+        """Reports whether an element with a strong ID begins within a child of an unknown one: it is an opened element with a wrong ID."""
+        return any(each.identity in self.schema.strong and self._leads_on(each, False) for each in self._candidates(child.content, False))
+
+    def _edges(self, place: int, live: bool) -> list[tuple[Cost, Child]]:
+        """Returns the steps from a place, and what each costs."""
+        candidates, reach = self._candidates(place, live), len(self.aligned.reaching(place))
+        is_known = bool(candidates)
+        if not is_known:
+            candidates = [child for child in self._candidates(place, live, known=False)
+                          if self._leads_on(child, live) and not self._hides(child)]
+        if len(candidates) == 1 and len(candidates[0].vouched) == reach and self._leads_on(candidates[0], live):
+            return [((0, 0, 0), candidates[0])]
+        # A known ID with a wrong bit leads on too.
+        candidates = candidates if is_known else [child._replace(identified=NONE) for child in candidates]
+        passing = [child for child in candidates if self._passes(child)]
+        if passing:
+            return [((0, 0, 0), decided(child, passing)) for child in passing]
+        leading = [child for child in candidates if self._leads_on(child, live)]
+        shows = {child: self._confirms(child) for child in candidates if len(candidates) > 1 or not leading}
+        shown = [child for child in candidates if shows.get(child)]
+        edges = []
+        for child in candidates:
+            if child in shown or child in leading:
+                weaker = reach if shown and child not in shown else 0
+                edges.append(((0, 0, reach - len(child.vouched) + weaker), decided(child, shown or leading)))
+            else:
+                undivided = child.end - place if shows[child] is False else 0
+                guess = child._replace(identified=NONE, sized=NONE) if child.content < child.end else child
+                edges.append(((child.end - place, undivided, reach), guess))
+        return edges
+
+    def careful(self) -> list[Child]:
+        """Returns the children on the path with the fewest doubtful bytes. A place's way past bytes that no copy divides is looked for
+        only once no cheaper path is left."""
+        best: dict[int, tuple[Cost, typing.Optional[Child], bool]] = {self.start: ((0, 0, 0), None, False)}
+        heap: list[tuple[Cost, int, bool]] = [((0, 0, 0), self.start, False)]
+        done: set[int] = set()
+        while heap:
+            (doubtful, undivided, doubts), place, is_search = heapq.heappop(heap)
+            cost, _, live = best[place]
+            if is_search:
+                after = self._next_sign(place)
+                edges = [((after - place, after - place, 0), Child(UNDIVIDED, place, place, after))]
+            elif place in done:
+                continue
+            elif place == self.end:
+                break
+            else:
+                done.add(place)
+                edges = self._edges(place, live)
+                if not any(each == (0, 0, 0) for each, _ in edges):
+                    heapq.heappush(heap, ((cost[0] + 1, cost[1] + 1, cost[2]), place, True))
+            for added, child in edges:
+                total = cost[0] + added[0], cost[1] + added[1], cost[2] + added[2]
+                if child.end not in best or total < best[child.end][0]:
+                    best[child.end] = total, child, self._stays_live(child, live)
+                    heapq.heappush(heap, (total, child.end, False))
+        return self._path(best)
+
+    def _path(self, best: typing.Mapping[int, tuple[Cost, typing.Optional[Child], bool]]) -> list[Child]:
+        children: list[Child] = []
+        child = best[self.end][1]
+        while child is not None:
+            children.append(child)
+            child = best[child.place][1]
+        return children[::-1]
+
+    # ---- past what no copy divides
+
+    def _next_sign(self, place: int) -> int:
+        """Returns the next place after one at which an element begins that is sure to be one, or the master's end. What was searched
+        once is not searched again."""
+        at = bisect.bisect(self._searched, (place, self.end + 1))
+        if at and place < self._searched[at - 1][1]:
+            return self._searched[at - 1][1]
+        stop, known = (self._searched[at][0] + 1, self._searched[at][1]) if at < len(self._searched) else (self.end, self.end)
+        found = next(filter(self._is_sure, self._signs(place + 1, stop)), known)
+        self._searched.insert(at, (place, found))
+        return found
+
+    def _signs(self, place: int, stop: int) -> typing.Iterator[int]:
+        """Yields the places in a range at which an element seems to begin in some copy."""
+        while place < stop:
+            size, signs = min(PIECE, stop - place), set()
+            for number in self.aligned.numbers:
+                piece = self.aligned.copies[number].read(place, size + self.schema.reach - 1)
+                signs.update(place + offset for offset in self.schema.signs(piece) if offset < size)
+            yield from sorted(signs)
+            place += size
+
+    def _is_sure(self, place: int) -> bool:
+        candidates = [child for child in self._candidates(place, False) if not self.schema.strong or child.identity in self.schema.strong]
+        return any(self._leads_on(child, False) or self._confirms(child) or self._passes(child) for child in candidates)
+
+
+def divide(aligned: AlignedCopies, start: int, end: int, schema: Schema, budget: Budget, is_cut: bool = False) -> list[Child]:
+    """Returns the children of a master whose content lies between two places: they follow each other and cover it."""
+    return Walk(aligned, start, end, schema, budget, is_cut).divide()
+
+
+def divides(aligned: AlignedCopies, start: int, end: int, known: Numbers) -> bool:
+    """Reports whether elements of known IDs cover a range, in all copies alike or in one."""
+    budget, schema = Budget(0), Schema(known)
+    views = [aligned, *(AlignedCopies(aligned.copies, [number]) for number in aligned.numbers)]
+    return any(Walk(each, start, end, schema, budget).quick() for each in views)

@@ -1,0 +1,239 @@
+"""The packets of a file that FFmpeg reads, and what else its container says, as ffprobe reports it."""
+from __future__ import annotations
+
+import collections
+import contextlib
+import dataclasses
+import math
+import os
+import shutil
+import subprocess
+import threading
+import typing
+import zlib
+
+from ..judging.frame_checks import MOST_BYTES
+from ..model import Claims, Content, Copy, Fault, Track
+from ..program.external_programs import run
+from . import slice_footers
+
+# How far after the place that ffprobe reports a packet's bytes are looked for, and after how many misses they no longer are.
+FARTHEST, MOST_MISSES = 64, 16
+MOST_REMEMBERED = 64
+ENTRIES = ("packet=stream_index,pts_time,dts_time,size,pos,flags"
+           "{more}:stream=index,codec_type,codec_name,width,height,avg_frame_rate,nb_frames,duration,start_time:format=format_name,duration")
+CONTENTS = {"video": Content.VIDEO, "audio": Content.SOUND, "subtitle": Content.SUBTITLES}
+# The containers whose header gives how long they play: of others FFmpeg guesses. An AVI file counts empty frames too.
+GIVE_DURATION = {"avi", "mov", "mxf"}
+GIVE_COUNTS = {"mov", "mxf"}
+
+
+class Packet(typing.NamedTuple):
+    """A packet as ffprobe reports it, and where its bytes begin in the file, if they are found there as they are."""
+
+    stream: int
+    time: float
+    reported: int
+    size: int
+    key: bool
+    digest: typing.Optional[int] = None
+    place: typing.Optional[int] = None
+
+
+@dataclasses.dataclass
+class Container:
+    """What ffprobe reports of a file: the container's name (empty where it can't be read), its tracks and their packets."""
+
+    form: str = ""
+    tracks: list[Track] = dataclasses.field(default_factory=list)
+    claims: Claims = Claims()
+    packets: list[Packet] = dataclasses.field(default_factory=list)
+
+    def video(self) -> set[int]:
+        return {track.number for track in self.tracks if track.is_ffv1}
+
+    def found(self) -> list[Packet]:
+        """The packets of FFV1 tracks whose bytes lie in the file as they are."""
+        video = self.video()
+        return [packet for packet in self.packets if packet.place is not None and packet.stream in video]
+
+
+# ---- what ffprobe reports
+
+
+def fields(line: str) -> tuple[str, dict[str, str]]:
+    """A line of ffprobe's compact form: its kind, and its fields by their names."""
+    kind, *pairs = line.rstrip("\n").split("|")
+    return kind, dict(pair.split("=", 1) for pair in pairs if "=" in pair)
+
+
+def number(text: typing.Optional[str]) -> typing.Optional[float]:
+    """A finite number, or None for anything else."""
+    try:
+        value = float(text or "")
+    except ValueError:
+        return None
+    return value if math.isfinite(value) else None
+
+
+def whole(text: typing.Optional[str], base: int = 10) -> typing.Optional[int]:
+    """A whole number of at most 64 bits, or None for anything else."""
+    digits = "0123456789abcdefABCDEF"[: 22 if base == 16 else base]
+    return int(text, base) if text and len(text) < 20 and not text.strip(digits) else None
+
+
+def read_packet(values: typing.Mapping[str, str]) -> typing.Optional[Packet]:
+    time = number(values.get("pts_time"))
+    time = number(values.get("dts_time")) if time is None else time
+    stream, place, size = (whole(values.get(name)) for name in ("stream_index", "pos", "size"))
+    digest = values.get("data_hash", "").rpartition(":")[2]
+    sum_ = whole(digest, 16)
+    if time is None or stream is None or place is None or not size or digest and (sum_ is None or len(digest) != 8):
+        return None
+    return Packet(stream, time, place, size, "K" in values.get("flags", ""), sum_)
+
+
+def read_track(values: typing.Mapping[str, str]) -> Track:
+    codec, rate = values.get("codec_name", ""), values.get("avg_frame_rate", "0/0").split("/")
+    frames, seconds = (number(rate[0]), number(rate[-1]))
+    step = seconds / frames if frames and seconds and codec == "ffv1" else None
+    return Track(int(values["index"]), CONTENTS.get(values.get("codec_type", ""), Content.UNKNOWN), codec, codec == "ffv1",
+                 int(number(values.get("width")) or 0), int(number(values.get("height")) or 0), step=step)
+
+
+def read_end(values: typing.Mapping[str, str]) -> typing.Optional[float]:
+    duration = number(values.get("duration"))
+    return None if duration is None else duration + (number(values.get("start_time")) or 0.0)
+
+
+def read_lines(lines: typing.Iterable[str]) -> Container:
+    """What ffprobe reported, line by line."""
+    container, duration = Container(), None
+    ends: dict[int, float] = {}
+    counts: dict[int, int] = {}
+    for line in lines:
+        kind, values = fields(line)
+        if kind == "packet":
+            packet = read_packet(values)
+            if packet:
+                container.packets.append(packet)
+        elif kind == "stream" and whole(values.get("index")) is not None:
+            track, end = read_track(values), read_end(values)
+            container.tracks.append(track)
+            count = whole(values.get("nb_frames"))
+            if count is not None:
+                counts[track.number] = count
+            if end is not None:
+                ends[track.number] = end
+        elif kind == "format":
+            container.form, duration = values.get("format_name", "").split(",")[0], number(values.get("duration"))
+    if container.form in GIVE_DURATION:
+        container.claims = Claims(duration, counts if container.form in GIVE_COUNTS else {}, {}, ends)
+    return container
+
+
+def can_ask() -> bool:
+    return shutil.which("ffprobe") is not None
+
+
+def ask(copy: Copy) -> Container:
+    """What ffprobe reports of a copy. Digests of packets, for which it works on all bytes, are asked for only where the footers of frames do
+    not show where these lie."""
+    if not can_ask():
+        raise Fault(f"there is no ffprobe on the PATH, and {copy.path} is no Matroska file that can be read without it")
+    container = ask_for(copy, [], "")
+    video = container.video()
+    container.packets = locate(copy, container.packets, video)
+    if any(packet.place is None for packet in container.packets if packet.stream in video):
+        container.packets = locate(copy, ask_for(copy, ["-show_data_hash", "crc32"], ",data_hash").packets, video)
+    return container
+
+
+def ask_for(copy: Copy, more: typing.Sequence[str], entries: str) -> Container:
+    words = ["ffprobe", "-v", "quiet", "-protocol_whitelist", "file", *more, "-show_entries", ENTRIES.format(more=entries), "-of",
+             "compact", "file:" + copy.path]
+    try:
+        with subprocess.Popen(words, stdin=subprocess.DEVNULL, stdout=subprocess.PIPE, stderr=subprocess.DEVNULL, encoding="utf-8",
+                              errors="replace") as process:
+            assert process.stdout
+            return read_lines(process.stdout)
+    except OSError as error:
+        raise Fault(f"cannot run ffprobe: {error.strerror}") from None
+
+
+def with_records(copy: Copy, tracks: typing.Sequence[Track]) -> list[Track]:
+    """The tracks with their Configuration Records, which ffprobe prints in hexadecimal digits beside their places and characters."""
+    made = []
+    for track in tracks:
+        if track.is_ffv1:
+            done = run("ffprobe", "-v", "quiet", "-protocol_whitelist", "file", "-select_streams", str(track.number), "-show_entries",
+                       "stream=extradata", "-show_data", "-of", "default=nk=1:nw=1", "file:" + copy.path)
+            lines = done.stdout.decode(errors="replace").splitlines()
+            digits = "".join(line[10:50] for line in lines if line[8:10] == ": ")
+            with contextlib.suppress(ValueError):
+                track = dataclasses.replace(track, record=bytes.fromhex(digits))
+        made.append(track)
+    return made
+
+
+LOCK = threading.Lock()
+REMEMBERED: dict[tuple[int, int, int, int], Container] = {}
+
+
+def contain(copy: Copy) -> Container:
+    """What ffprobe reports of a copy. It is asked once for a file that does not change."""
+    state = os.fstat(copy.file)
+    file = state.st_dev, state.st_ino, state.st_size, state.st_mtime_ns
+    known = REMEMBERED.get(file)
+    if known is None:
+        known = ask(copy) if copy.size else Container()
+        with LOCK:
+            while len(REMEMBERED) >= MOST_REMEMBERED:
+                del REMEMBERED[next(iter(REMEMBERED))]
+            REMEMBERED[file] = known
+    return known
+
+
+# ---- where the bytes of packets lie
+
+
+class Locator:
+    """Finds where the bytes of a stream's packets begin: some bytes after the place that is reported, or after the packet before it. How
+    far after is mostly the same, so what served last is tried first."""
+
+    def __init__(self, copy: Copy) -> None:
+        self.copy = copy
+        self.steps = [0, 4, 8, *(step for step in range(FARTHEST) if step not in (0, 4, 8))]
+        self.misses, self.end = 0, -1
+
+    def place(self, packet: Packet) -> typing.Optional[int]:
+        if packet.size > MOST_BYTES or packet.reported + packet.size > self.copy.size:
+            return None
+        place = self.search(packet)
+        self.misses = 0 if place is not None else self.misses + 1
+        self.end = self.end if place is None else place + packet.size
+        return place
+
+    def search(self, packet: Packet) -> typing.Optional[int]:
+        for step in self.steps if self.misses < MOST_MISSES else self.steps[:3]:
+            if self.lies(packet, packet.reported + step):
+                self.steps.remove(step)
+                self.steps.insert(0, step)
+                return packet.reported + step
+        if packet.reported < self.end <= packet.reported + FARTHEST + packet.size and self.lies(packet, self.end):
+            return self.end
+        return None
+
+    def lies(self, packet: Packet, place: int) -> bool:
+        """Whether a packet's bytes lie at a place: they have its digest, or where none was asked for, they are a frame by their footers."""
+        if packet.digest is None:
+            return slice_footers.seems_frame(self.copy, place, place + packet.size)
+        piece = self.copy.read(place, packet.size)
+        return len(piece) == packet.size and zlib.crc32(piece) == packet.digest
+
+
+def locate(copy: Copy, packets: typing.Sequence[Packet], video: typing.Container[int]) -> list[Packet]:
+    """The packets with their places. Without a digest those that are not of FFV1 tracks lie where they are reported, or some bytes after."""
+    locators: dict[int, Locator] = collections.defaultdict(lambda: Locator(copy))
+    return [packet._replace(place=packet.reported) if packet.digest is None and packet.stream not in video
+            else packet._replace(place=locators[packet.stream].place(packet)) for packet in packets]

@@ -1,0 +1,80 @@
+"""When the frames of a file are shown, and when the file ends."""
+from __future__ import annotations
+
+import dataclasses
+import statistics
+import typing
+
+from ..model import Frame, Layout
+
+# A step is constant where so many of a track's steps are within a half of it.
+CONSTANT = 0.9
+# Sound ends where its last block does, which is known to begin up to so long before. Without sound the clock's thousandths count.
+SOUND_BLOCK, THOUSANDTHS = 0.25, 0.002
+
+
+@dataclasses.dataclass
+class TrackTimes:
+    """An FFV1 track: its frames in the order of their times, the time from one to the next (None where it is not constant), and the size
+    of the smallest."""
+
+    number: int
+    frames: list[Frame]
+    step: typing.Optional[float]
+    size: int = 0
+
+    @property
+    def times(self) -> list[float]:
+        return [frame.time for frame in self.frames]
+
+    def most_step(self) -> float:
+        """The constant step, or the longest one that there is."""
+        if self.step:
+            return self.step
+        times = self.times
+        return max((after - before for before, after in zip(times, times[1:])), default=0.0)
+
+    def end(self) -> float:
+        return self.frames[-1].time + self.most_step()
+
+
+def tracks_of(layout: Layout) -> list[TrackTimes]:
+    found: dict[int, list[Frame]] = {}
+    for frame in layout.frames:
+        found.setdefault(frame.track, []).append(frame)
+    steps = {track.number: track.step for track in layout.tracks}
+    made = []
+    for number, frames in sorted(found.items()):
+        frames.sort(key=lambda frame: frame.time)
+        step = constant_step([frame.time for frame in frames], steps.get(number))
+        made.append(TrackTimes(number, frames, step, min(frame.size for frame in frames)))
+    return made
+
+
+def constant_step(times: typing.Sequence[float], claimed: typing.Optional[float]) -> typing.Optional[float]:
+    """The time from a frame to the next, if it is constant: what the container claims, if the frames have it so; else what most have."""
+    steps = [after - before for before, after in zip(times, times[1:]) if after > before]
+    if not steps:
+        return claimed
+    usual = statistics.median(steps)
+    if claimed and 0.75 * claimed < usual < 1.25 * claimed:
+        usual = claimed
+    near = sum(0.5 * usual < step < 1.5 * usual for step in steps)
+    return usual if near >= CONSTANT * len(steps) or usual == claimed and 2 * near > len(steps) else None
+
+
+def end_of(layout: Layout) -> tuple[float, float]:
+    """When a file ends by what lies in it, and how much later it may end."""
+    tracks = tracks_of(layout)
+    end = max((track.end() for track in tracks), default=0.0)
+    step = max((track.most_step() for track in tracks), default=0.0)
+    if all(track.is_ffv1 for track in layout.tracks):
+        return end, max(0.5 * step, THOUSANDTHS)
+    return max([end, *(stretch.what.end or 0.0 for stretch in layout.stretches)]), max(0.5 * step, SOUND_BLOCK)
+
+
+def lasts(layout: Layout) -> typing.Optional[float]:
+    """How long a file says that it lasts, if it ends before."""
+    end, room = end_of(layout)
+    duration = layout.claims.duration
+    return duration if duration and duration - end > room else None

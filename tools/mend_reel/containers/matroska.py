@@ -1,0 +1,268 @@
+"""What lies where in a Matroska or WebM file, read from all copies of it at once (RFC 9559)."""
+from __future__ import annotations
+
+import dataclasses
+import typing
+
+from ..model import Claims, Content, Copy, Layout, Track, What
+from . import clusters, ebml, elements, metadata, slice_footers
+from .aligned_copies import NONE, WINDOW, AlignedCopies, Budget, Numbers
+from .stretch_builder import MOST_STRETCH, Stretches
+
+EBML, SEGMENT, CLUSTER = 0x1A45DFA3, 0x18538067, 0x1F43B675
+CONTENTS = {EBML: Content.HEADER, 0x114D9B74: Content.SEEK_HEAD, metadata.INFORMATION: Content.INFORMATION, metadata.TRACKS: Content.TRACKS,
+            metadata.CUES: Content.INDEX, CLUSTER: Content.CLUSTER, 0x1941A469: Content.ATTACHMENTS, 0x1043A770: Content.CHAPTERS,
+            metadata.TAGS: Content.TAGS, clusters.VOID: Content.PADDING}
+STRONG = frozenset(CONTENTS) - {clusters.VOID} | {SEGMENT}
+SIGNS = [identity.to_bytes(4, "big") for identity in sorted(STRONG)]
+MOST_METADATA = 1 << 24
+PASSES_OVER_THE_FILE = 4
+FIRST_BYTES = 1 << 20
+CLUSTERS_TO_GUESS_BY = 16
+DOCUMENT_TYPE, DOCUMENT_TYPES = 0x4282, ("matroska", "webm")
+IN_HEADER = frozenset({0x4286, 0x42F7, 0x42F2, 0x42F3, DOCUMENT_TYPE, 0x4287, 0x4285, 0x4281, clusters.VOID, clusters.CRC})
+# What the children of top-schema elements are: an element whose head no copy has is known by them.
+CHILDREN = {identity: known | {clusters.CRC, clusters.VOID} for identity, known in (
+    (EBML, IN_HEADER), (CLUSTER, clusters.IN_CLUSTER), (metadata.TRACKS, {metadata.TRACK}), (metadata.CUES, {metadata.POINT}),
+    (metadata.TAGS, {metadata.TAG}), (0x114D9B74, {0x4DBB}), (0x1941A469, {0x61A7}), (0x1043A770, {0x45B9}),
+    (metadata.INFORMATION, {metadata.SCALE, metadata.DURATION, 0x73A4, 0x7384, 0x3CB923, 0x3C83AB, 0x3EB923, 0x3E83BB, 0x4444, 0x6924,
+                            0x4461, 0x7BA9, 0x4D80, 0x5741}))}
+
+
+def signs(piece: bytes) -> typing.Iterator[int]:
+    """Yields the offsets at which a top-schema ID stands."""
+    for sign in SIGNS:
+        at = piece.find(sign)
+        while at >= 0:
+            yield at
+            at = piece.find(sign, at + 1)
+
+
+def is_divided(aligned: AlignedCopies, child: elements.Child) -> typing.Optional[bool]:
+    """Reports whether the children that a top-schema element may have cover it in some copy."""
+    known = CHILDREN.get(child.identity)
+    return None if known is None else elements.divides(aligned, child.content, child.end, known)
+
+
+TOP = elements.Schema(STRONG | {clusters.VOID, clusters.CRC}, STRONG, frozenset({SEGMENT}), frozenset({SEGMENT, CLUSTER}), clusters.IN_CLUSTER, signs,
+                 confirms=is_divided)
+
+
+def is_matroska(copies: typing.Sequence[Copy]) -> bool:
+    """Reports whether copies are Matroska files: one begins as an EBML file does, or has top-schema elements near its start."""
+    header = EBML.to_bytes(4, "big")
+    if any(copy.read(0, 4) == header and document_type(copy) in DOCUMENT_TYPES for copy in copies):
+        return True
+    aligned = AlignedCopies(copies)
+    end = min(aligned.end, FIRST_BYTES)
+    children = elements.divide(aligned, 0, end, TOP, Budget(end), is_cut=True)
+    return sum(child.identity in STRONG and bool(child.vouched) for child in children) > 1
+
+
+def document_type(copy: Copy) -> str:
+    """Returns the document type that a copy's EBML header names, or nothing."""
+    header = dict(ebml.children(copy.read(0, WINDOW))).get(EBML, b"")
+    return ebml.text(dict(ebml.children(header)).get(DOCUMENT_TYPE, b""))
+
+
+class MatroskaReader:
+    """Reads a file over all its copies."""
+
+    def __init__(self, copies: typing.Sequence[Copy]) -> None:
+        self.copies, self.aligned = copies, AlignedCopies(copies)
+        self.budget = Budget(PASSES_OVER_THE_FILE * sum(copy.size for copy in copies))
+        self.stretches = Stretches(copies)
+        self.gaps: list[tuple[int, int]] = []
+        top = elements.divide(self.aligned, 0, self.aligned.end, TOP, self.budget, is_cut=True)
+        self.top = [self._without_head(child) or child for child in top]
+        self.metadata = self._read_metadata()
+        self.clusters = clusters.Clusters(self.aligned, self.metadata, self.budget)
+        if not any(track.is_ffv1 for track in self.metadata.tracks):
+            guessed = {track.number: track for track in self._guessed_tracks()}
+            self.metadata = dataclasses.replace(self.metadata, tracks=list({**self.metadata.by_number(), **guessed}.values()))
+            self.clusters = clusters.Clusters(self.aligned, self.metadata, self.budget)
+
+    def layout(self) -> Layout:
+        segment = next((child for child in self.top if child.identity == SEGMENT), None)
+        claimed_end, sized = self._read_end(segment) if segment else (None, NONE)
+        size = self._size(claimed_end)
+        live: list[elements.Child] = []
+        for child in self.top:
+            if child.identity in STRONG or child.identity == elements.UNDIVIDED:
+                self._add_live(live)
+                live = []
+            if live or child.identity == CLUSTER and child.content == child.end:
+                live.append(child)
+            elif child is segment:
+                self._add_head(child._replace(sized=sized))
+            elif child.place < size:
+                self._add(child, claimed_end)
+        self._add_live(live)
+        if claimed_end is not None and claimed_end > size:
+            self.gaps.append((size, claimed_end - size))
+        strong = [child for child in self.top if child.identity in STRONG]
+        if segment and claimed_end is not None and any(child.place < claimed_end < child.end for child in strong):
+            self.gaps.insert(0, (segment.place, segment.content - segment.place))
+        return Layout(size, list(self.metadata.tracks), self.stretches.frames, self.stretches.made, self.metadata.claims, self.gaps, rises=True)
+
+    # ---- the file as a whole
+
+    def _read_end(self, segment: elements.Child) -> tuple[typing.Optional[int], Numbers]:
+        """Returns where the Segment ends by its head, and the copies that are right: where its last element ends or a copy does, or what
+        most of them have, though nothing vouches for that. None is the unknown size."""
+        ends: dict[typing.Optional[int], set[int]] = {}
+        for number in segment.identified:
+            size = ebml.read_size(self.aligned.peek(number, segment.place + 4, 8), 0)
+            if size and segment.place + 4 + size[1] == segment.content:
+                ends.setdefault(None if size[0] is None else segment.content + size[0], set()).add(number)
+        if not ends:
+            return None, NONE
+        last = max((child.end for child in self.top if child.identity != elements.UNDIVIDED), default=0)
+        sizes = {copy.size for copy in self.copies}
+        end = max(ends, key=lambda each: (each == last, each in sizes, len(ends[each])))
+        return end, frozenset(ends[end]) if end == last or end in sizes else NONE
+
+    def _size(self, claimed_end: typing.Optional[int]) -> int:
+        """Returns the size of OUT: up to the Segment's end where a copy ends there, or that of the longest copy."""
+        if claimed_end is not None and any(copy.size == claimed_end for copy in self.copies):
+            last = max((child.end for child in self.top if child.identity in STRONG), default=0)
+            return claimed_end if last <= claimed_end else self.aligned.end
+        return self.aligned.end
+
+    def _without_head(self, child: elements.Child) -> typing.Optional[elements.Child]:
+        """Returns the element that bytes which no copy divides are but for its head, if its children cover all the rest; or what an element
+        of an unknown ID is by its children."""
+        if child.identity in TOP.known:
+            return None
+        heads = [self.aligned.peek(number, child.place, 4) for number in self.aligned.numbers]
+        named = [identity for identity in CHILDREN if identity.to_bytes(4, "big") in heads] or list(CHILDREN)
+        first, last = (child.place + 5, child.place + 13) if child.identity == elements.UNDIVIDED else (child.content, child.content + 1)
+        for content in range(first, min(last, child.end)):
+            for identity in named:
+                if elements.divides(self.aligned, content, child.end, CHILDREN[identity]):
+                    return elements.Child(identity, child.place, content, child.end, is_headless=True)
+        return None
+
+    def _read_metadata(self) -> metadata.Metadata:
+        contents: dict[int, bytes] = {}
+        for child in self.top:
+            if child.identity in metadata.READ:
+                contents[child.identity] = contents.get(child.identity, b"") + self._content(child)
+        return metadata.read(contents)
+
+    def _guessed_tracks(self) -> list[Track]:
+        """Returns the tracks whose blocks are FFV1 frames by the footers of their slices, for files whose own description is lost."""
+        found: set[int] = set()
+        described = {track.number for track in self.metadata.tracks if track.codec}
+        for child in [child for child in self.top if child.identity == CLUSTER][:CLUSTERS_TO_GUESS_BY]:
+            for number, start, end in self.clusters.payloads(child.content, child.end):
+                if number not in described | found and any(slice_footers.is_frame(copy, start, end) for copy in self.copies):
+                    found.add(number)
+        return [Track(number, Content.VIDEO, "V_FFV1", is_ffv1=True) for number in sorted(found)]
+
+    def _content(self, child: elements.Child) -> bytes:
+        """Returns the content of an element: of a copy where it matches its CRC-32, or can be divided, names most FFV1 tracks, and
+        is what most copies have."""
+        size = min(child.end - child.content, MOST_METADATA)
+        passing = self.budget.passing(self.aligned, child.content, child.end)
+        contents = [self.copies[number].read(child.content, size) for number in sorted(passing)[:1] or self.aligned.numbers]
+
+        def worth(content: bytes) -> tuple[bool, int, int, bytes]:
+            tracks = metadata.read({child.identity: content}).tracks if child.identity == metadata.TRACKS else ()
+            is_divided = len(content) == size and ebml.divides(content)
+            return is_divided, sum(track.is_ffv1 for track in tracks), contents.count(content), content
+
+        return max(contents, key=worth) if len(contents) > 1 else contents[0]
+
+    # ---- its elements
+
+    def _add_head(self, child: elements.Child) -> None:
+        for item in clusters.framing(child):
+            self.stretches.plain(item.start, item.end, What(Content.FRAMING), item.vouched)
+
+    def _add(self, child: elements.Child, claimed_end: typing.Optional[int]) -> None:
+        """Adds a top-schema element, or bytes that no copy divides: after the Segment's end they are no gap."""
+        if child.identity == elements.UNDIVIDED:
+            if claimed_end is not None and child.place >= claimed_end:
+                self.stretches.plain(child.place, child.end, What(Content.UNKNOWN))
+            else:
+                self._add_items(self.clusters.read(child.place, child.end))
+            return
+        if child.is_headless:
+            self.gaps.append((child.place, child.content - child.place))
+        self._add_head(child)
+        if child.identity == CLUSTER:
+            self._add_cluster(child)
+        elif child.content < child.end:
+            what = What(CONTENTS.get(child.identity, Content.UNKNOWN))
+            if self._has_crc(child):
+                self.stretches.element(child.content, child.end, what)
+            else:
+                vouched = self._sound_headers(child) if child.identity == EBML else NONE
+                self.stretches.plain(child.content, child.end, what, vouched)
+
+    def _has_crc(self, child: elements.Child) -> bool:
+        """Reports whether an element's content begins with a CRC-32 in some copy."""
+        size = child.end - child.content
+        return not child.is_cut and ebml.CRC_SIZE < size <= MOST_STRETCH and any(
+            self.aligned.peek(number, child.content, 2) == ebml.CRC_HEAD for number in self.aligned.numbers)
+
+    def _sound_headers(self, child: elements.Child) -> Numbers:
+        """Returns the copies whose EBML header has known children alone, and a document type that is known."""
+        sound = set()
+        for number in self.aligned.numbers:
+            data = self.copies[number].read(child.content, min(child.end - child.content, WINDOW))
+            fields = dict(ebml.children(data))
+            if ebml.divides(data) and IN_HEADER.issuperset(fields) and ebml.text(fields.get(DOCUMENT_TYPE, b"")) in DOCUMENT_TYPES:
+                sound.add(number)
+        return frozenset(sound)
+
+    def _add_cluster(self, child: elements.Child) -> None:
+        items = self.clusters.read(child.content, child.end, child.is_cut)
+        if not self._has_crc(child):
+            self._add_items(items)
+            return
+        timed = [item for item in items if item.time is not None]
+        what = What(Content.CLUSTER, None, min((item.time for item in timed), default=None), max(map(self._end, timed), default=None))
+        self.stretches.element(child.content, child.end, what, [item.frame for item in items if item.frame])
+
+    def _end(self, item: clusters.Item) -> float:
+        return round((item.time or 0.0) + self.clusters.steps.get(item.track or 0, 0.0), clusters.DIGITS)
+
+    def _add_live(self, live: typing.Sequence[elements.Child]) -> None:
+        """Adds an element of unknown size: its head, and its children."""
+        if live:
+            self._add_head(live[0])
+            self._add_items(self.clusters.items(live[1:]))
+
+    def _add_items(self, items: typing.Iterable[clusters.Item]) -> None:
+        """Adds what no CRC-32 of an element covers."""
+        for item in items:
+            what = What(item.content, item.track, item.time, None if item.time is None else self._end(item))
+            if item.is_gap:
+                self.gaps.append((item.start, item.end - item.start))
+            if item.frame:
+                self.stretches.frame(item.frame, what)
+            else:
+                self.stretches.plain(item.start, item.end, what, item.vouched)
+
+
+def layout(copies: typing.Sequence[Copy]) -> Layout:
+    """Returns what lies where in a file, from copies of it: they have the same bytes at the same places but for damage, and may end early."""
+    return MatroskaReader(copies).layout()
+
+
+def claims(copies: typing.Sequence[Copy], layout: Layout) -> typing.Iterator[Claims]:
+    """Yields what each copy of the file that a layout describes claims of the recording."""
+    identities = {content: identity for identity, content in CONTENTS.items() if identity in metadata.READ}
+    known: dict[tuple[tuple[int, bytes], ...], Claims] = {}
+    for number, copy in enumerate(copies):
+        contents: dict[int, bytes] = {}
+        for stretch in layout.stretches:
+            identity, place = identities.get(stretch.what.content), stretch.places[number]
+            if identity is not None and place is not None:
+                contents[identity] = contents.get(identity, b"") + copy.read(place, min(stretch.size, MOST_METADATA))
+        key = tuple(sorted(contents.items()))
+        if key not in known:
+            known[key] = metadata.read(contents).claims
+        yield known[key]

@@ -1,0 +1,39 @@
+"""The footers of FFV1 slices (RFC 9043, section 4.9): each has its slice's size, so they lead from a frame's end to its start."""
+from __future__ import annotations
+
+import itertools
+import typing
+
+from ..model import Copy
+
+# A footer has three bytes of size, one of error status, and four of parity.
+FOOTER = 8
+MOST_SLICES = 4096
+ENOUGH_SLICES = 6
+
+
+def starts(copy: Copy, start: int, end: int) -> typing.Iterator[int]:
+    """Yields where the slices of a frame begin in a copy, the last slice's first, as far as footers lead within a range."""
+    for _ in range(MOST_SLICES):
+        footer = copy.read(end - FOOTER, FOOTER) if end - FOOTER >= start else b""
+        size = int.from_bytes(footer[:3], "big") if len(footer) == FOOTER else 0
+        end -= size + FOOTER
+        if size == 0 or end < start:
+            return
+        yield end
+
+
+def is_frame(copy: Copy, start: int, end: int) -> bool:
+    """Reports whether footers lead from the end of a range to its start."""
+    return any(place == start for place in starts(copy, start, end))
+
+
+def seems_frame(copy: Copy, start: int, end: int) -> bool:
+    """Reports whether footers lead from the end of a range to its start, or through so many slices that this is no chance."""
+    places = list(itertools.islice(starts(copy, start, end), ENOUGH_SLICES))
+    return len(places) == ENOUGH_SLICES or bool(places) and places[-1] == start
+
+
+def first_within(copies: typing.Iterable[Copy], first: int, last: int, end: int) -> typing.Optional[int]:
+    """Returns where a frame begins that ends at a place, if the footers of some copy lead to a place between two others."""
+    return next((place for copy in copies for place in starts(copy, first, end) if place <= last), None)

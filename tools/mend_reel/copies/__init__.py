@@ -1,0 +1,1 @@
+"""Which copies go together, where they differ, and whose bytes serve."""

@@ -1,0 +1,1 @@
+"""What checks say of frames, copies and OUT: the verdict."""

@@ -1,0 +1,86 @@
+"""How much of a copy its checksums verify, and whether the slices of a recording have parities at all."""
+from __future__ import annotations
+
+import dataclasses
+import typing
+
+from ..containers import ebml
+from ..model import Copy, Frame, Kind, Layout
+from .frame_checks import Judge, has_only_sizes, is_uniform, passes, slices
+
+MOST_SAMPLES = 16
+
+
+@dataclasses.dataclass(frozen=True)
+class CopyHealth:
+    """Of a copy: how many frames its file has, how many of them pass in it, how many of its bytes pass a checksum, and whether all
+    that has one passes."""
+
+    frames: int = 0
+    intact: int = 0
+    verified: int = 0
+    is_undamaged: bool = False
+
+
+def health(copy: Copy, number: int, layout: Layout, judge: Judge) -> CopyHealth:
+    """The health of a copy of the file that a layout describes, of which it is the copy `number`."""
+    judged = judge(copy, [(frame.place, frame.size) for frame in layout.frames])
+    intact = {frame.place: frame.size for frame, each in zip(layout.frames, judged) if each.is_intact()}
+    verified, passing = 0, True
+    for stretch in layout.stretches:
+        place = stretch.places[number]
+        if place is None:
+            passing = False
+        elif stretch.kind is Kind.ELEMENT and ebml.passes(copy, place, place + stretch.size):
+            verified += stretch.size
+        else:
+            passing = passing and stretch.kind is not Kind.ELEMENT
+            verified += sum(intact.get(frame.place, 0) for frame in stretch.parts)
+    is_whole = passing and not layout.gaps and len(intact) == len(layout.frames)
+    return CopyHealth(len(layout.frames), len(intact), verified, is_whole)
+
+
+# ---- recordings without parities
+
+
+def lack_parities(layout: Layout, copies: typing.Sequence[Copy]) -> bool:
+    """Whether the slices of a recording have no parities: of frames all over it no slice passes in any copy, though there is reason to
+    believe that most of them are undamaged."""
+    count = len(layout.frames)
+    step = max(count // MOST_SAMPLES, 1)
+    samples = layout.frames[step // 2 :: step][:MOST_SAMPLES]
+    believed = 0
+    for frame in samples:
+        versions = [copy.read(frame.place, frame.size) for copy in copies if frame.end <= copy.size]
+        if any(passes(version[start:end]) for version in versions for start, end in slices(version)):
+            return False
+        believed += is_believed(layout, frame, versions, copies)
+    return 2 * believed > len(samples)
+
+
+def is_believed(layout: Layout, frame: Frame, versions: typing.Sequence[bytes], copies: typing.Sequence[Copy]) -> bool:
+    """Whether a frame seems undamaged: its slices are divided by sizes alone, its copies are equal, its element passes, or it is of a
+    version of FFV1 that has neither footers nor a record. A frame of bytes that are all the same is lost."""
+    if any(map(is_uniform, versions)):
+        return False
+    track = next((track for track in layout.tracks if track.number == frame.track), None)
+    if track and not track.record or any(map(has_only_sizes, versions)):
+        return True
+    if len(versions) > 1 and len(set(versions)) == 1:
+        return True
+    around = next((stretch for stretch in layout.stretches if stretch.start <= frame.place < stretch.end), None)
+    return around is not None and around.kind is Kind.ELEMENT and any(
+        place is not None and ebml.passes(copy, place, place + around.size) for copy, place in zip(copies, around.places))
+
+
+def without_parts(layout: Layout) -> Layout:
+    """The layout of a recording without parities: its frames are plain bytes, and elements have no parts."""
+    made = []
+    for stretch in layout.stretches:
+        kind = Kind.PLAIN if stretch.kind is Kind.FRAME else stretch.kind
+        made.append(dataclasses.replace(stretch, kind=kind, parts=()))
+    return dataclasses.replace(layout, stretches=made)
+
+
+NO_PARITIES = ("the slices of this recording have no parities (it was made without -slicecrc 1), so no damage within a frame can be found "
+               "or mended by them: frames are judged by the container's checksums, or by whether the copies agree")

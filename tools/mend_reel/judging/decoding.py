@@ -1,0 +1,57 @@
+"""Frames with guessed slices: each of these has what most copies have, or one bit inverted, and so passes. What decodes besides is taken for
+right."""
+from __future__ import annotations
+
+import typing
+
+from ..containers.configuration_record import has_range_coder
+from ..containers.ffprobe import can_ask
+from ..model import Frame, Layout, Outcome, State, Stretch, Track
+from ..program.external_programs import run
+from .results import is_guessed
+
+# FFmpeg decodes from a keyframe on: it is asked about a while before a frame, and a little after it, in seconds.
+BEFORE, AFTER = 2.0, 0.5
+# At most so many bytes lie between the place of a packet that ffprobe reports and its frame: a block's header.
+HEADER = 64
+ENTRIES = "frame=pkt_pos,pkt_size"
+
+Decodes = typing.Callable[[Track, Frame, int], bool]
+
+
+class FfmpegDecoder:
+    """Has FFmpeg decode frames of a file. It complains of a slice of a range coder that does not end where its samples do, as a wrong one does
+    in all but a few of 1000. Of Golomb-Rice slices it complains of nothing, so these are not decoded."""
+
+    def __init__(self, out: str) -> None:
+        self.out = out
+
+    def __call__(self, track: Track, frame: Frame, place: int) -> bool:
+        """Whether a frame of a track, which lies at this place of the file, is decoded with those around it, and nothing complained of."""
+        if not can_ask() or not has_range_coder(track.record):
+            return False
+        interval = f"{max(frame.time - BEFORE, 0):.3f}%{frame.time + AFTER:.3f}"
+        done = run("ffprobe", "-v", "warning", "-threads", "1", "-protocol_whitelist", "file", "-select_streams", "v", "-read_intervals", interval,
+                   "-show_entries", ENTRIES, "-of", "csv=p=0", "file:" + self.out)
+        shown = (line.split(",") for line in done.stdout.decode("ascii", "replace").splitlines())
+        found = any(len(words) > 1 and words[0].isdigit() and 0 <= place - int(words[0]) <= HEADER and words[1] == str(frame.size) for words in shown)
+        return done.returncode == 0 and not done.stderr.strip() and found
+
+
+def decoded(layout: Layout, stretches: typing.Sequence[Stretch], outcomes: typing.Sequence[Outcome], decodes: Decodes) -> frozenset[int]:
+    """The places of those frames with guessed slices for which no other checksum vouches, and that decode. `stretches` are in the order of
+    OUT, which lacks those that no copy has, and `outcomes` have their numbers there."""
+    starts, size = [], 0
+    for stretch in stretches:
+        starts.append(size)
+        size += stretch.size if any(place is not None for place in stretch.places) else 0
+    tracks, found = {track.number: track for track in layout.tracks}, set()
+    for outcome in outcomes:
+        stretch = stretches[outcome.number]
+        for part, slices in outcome.slices.items():
+            frame = stretch.parts[part]
+            if outcome.state is not State.MISSING or not is_guessed(slices) or frame.track not in tracks:
+                continue
+            if decodes(tracks[frame.track], frame, starts[outcome.number] + frame.place - stretch.start):
+                found.add(frame.place)
+    return frozenset(found)

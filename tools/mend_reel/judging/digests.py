@@ -1,0 +1,138 @@
+"""Digests of files, and whether a file is the original by a digest that was kept of it."""
+from __future__ import annotations
+
+import dataclasses
+import hashlib
+import os
+import re
+import typing
+
+from ..model import Copy, Fault
+
+PIECE = 1 << 20
+ALGORITHMS = {32: "md5", 40: "sha1", 64: "sha256", 128: "sha512"}
+PLAIN_LINE = re.compile(r"(\\?)([0-9a-fA-F]+) [ *](.+)", re.DOTALL)
+TAGGED_LINE = re.compile(r"(\\?)([A-Za-z0-9]+) \((.*)\) = ([0-9a-fA-F]+)", re.DOTALL)
+ESCAPES = {r"\\": "\\", r"\n": "\n", r"\r": "\r"}
+FRAMES_SIGN = "#format: frame checksums"
+MOST_LINE, MOST_LINES = 1 << 16, 1 << 20
+MOST_STREAMS = 64
+
+
+@dataclasses.dataclass(frozen=True)
+class Compared:
+    """What a kept digest says of a file: whether it is the original, in a sentence; whether the digest is of the whole file; and the frames
+    that differ, as the digest file numbers them, by stream, where it has one of each frame."""
+
+    is_original: bool
+    text: str
+    is_of_all: bool
+    differing: typing.Mapping[int, typing.Sequence[int]] = dataclasses.field(default_factory=dict)
+
+
+@dataclasses.dataclass(frozen=True)
+class Entry:
+    """A line of a digest file: the name, and the digest in small hexadecimal digits."""
+
+    name: str
+    algorithm: str
+    digest: str
+
+
+def compare(digest_file: str, path: str, named: str, copies: typing.Sequence[str]) -> Compared:
+    """What a digest file says of the file at a path, which is named so (OUT has another name while it is made). A line is meant if it has
+    that name, or that of a copy, or is the only one."""
+    if is_of_frames(digest_file):
+        from . import frame_digests
+
+        return frame_digests.compare(digest_file, path, named)
+    entry = choose(list(entries(digest_file)), named, copies, digest_file)
+    made, algorithm = digest(path, entry.algorithm), entry.algorithm.upper()
+    if made == entry.digest:
+        return Compared(True, f"{named} is the original: its {algorithm} is that of {digest_file}", True)
+    return Compared(False, f"{named} is not the original: its {algorithm} is {made}, and {digest_file} has {entry.digest}", True)
+
+
+def sha256(copy: Copy) -> str:
+    """The SHA-256 of a copy."""
+    made = hashlib.sha256()
+    for place in range(0, copy.size, PIECE):
+        made.update(copy.read(place, PIECE))
+    return made.hexdigest()
+
+
+def digest(path: str, algorithm: str) -> str:
+    made = hashlib.new(algorithm)
+    try:
+        with open(path, "rb", buffering=0) as file:
+            while piece := file.read(PIECE):
+                made.update(piece)
+    except OSError as error:
+        raise Fault(f"cannot read {path}: {error.strerror}") from None
+    return made.hexdigest()
+
+
+# ---- lines of digest files
+
+
+def lines(path: str) -> typing.Iterator[str]:
+    """The lines of a digest file, names as the system has them."""
+    try:
+        with open(path, "rb") as file:
+            for _ in range(MOST_LINES):
+                line = file.readline(MOST_LINE)
+                if not line:
+                    return
+                if len(line) == MOST_LINE:
+                    break
+                yield os.fsdecode(line.rstrip(b"\r\n"))
+    except OSError as error:
+        raise Fault(f"cannot read {path}: {error.strerror}") from None
+    raise Fault(f"{path} is no file of digests: it is too long")
+
+
+def is_of_frames(path: str) -> bool:
+    return next(iter(lines(path)), "").startswith(FRAMES_SIGN)
+
+
+def entries(path: str) -> typing.Iterator[Entry]:
+    """The digests that a file has, as md5sum, sha1sum, sha256sum and sha512sum write them, or with the name of the algorithm."""
+    for line in lines(path):
+        entry = read_line(line)
+        if entry:
+            yield entry
+
+
+def read_line(line: str) -> typing.Optional[Entry]:
+    tagged, plain = TAGGED_LINE.fullmatch(line), PLAIN_LINE.fullmatch(line)
+    if tagged:
+        escaped, algorithm, name, made = tagged.groups()
+        algorithm = algorithm.lower()
+    elif plain:
+        escaped, made, name = plain.groups()
+        algorithm = ALGORITHMS.get(len(made), "")
+    else:
+        return None
+    if ALGORITHMS.get(len(made)) != algorithm:
+        return None
+    return Entry(unescaped(name) if escaped else name, algorithm, made.lower())
+
+
+def unescaped(name: str) -> str:
+    """A name in which a backslash, a line feed and a carriage return stand as two characters."""
+    return re.sub(r"\\[\\nr]", lambda match: ESCAPES[match.group()], name)
+
+
+def choose(found: typing.Sequence[Entry], named: str, copies: typing.Sequence[str], digest_file: str) -> Entry:
+    """The entry that is meant: the one of the file's name, else that of a copy's, else the only one."""
+    for names in ([named], copies):
+        bases = {os.path.basename(name) for name in names}
+        meant = {(entry.algorithm, entry.digest): entry for entry in found if os.path.basename(entry.name) in bases}
+        if len(meant) > 1 and names is copies:
+            raise Fault(f"{digest_file} has several digests of the copies' names: give that of the original the name of OUT")
+        if meant:
+            return max(meant.values(), key=lambda entry: len(entry.digest))
+    if len({(entry.algorithm, entry.digest) for entry in found}) == 1:
+        return found[0]
+    raise Fault(f"{digest_file} has no digest" + (" of the name of OUT or of a copy" if found else " that md5sum, sha1sum, sha256sum or "
+                                                  "FFmpeg's framemd5 wrote"))

@@ -1,0 +1,125 @@
+"""Which frames of a copy pass, as the program reports it, and which slices two versions of a frame have in common."""
+from __future__ import annotations
+
+import dataclasses
+import os
+import pathlib
+import typing
+import zlib
+
+from ..model import Copy, Fault
+from ..program.external_programs import last_line, run
+
+Range = tuple[int, int]
+MOST_BYTES = 1 << 30
+FOOTER = 8
+# The parity of a slice has the polynomial of CRC-32 with the bits of each byte the other way round, and begins with zeros.
+TURNED = bytes(int(f"{byte:08b}"[::-1], 2) for byte in range(256))
+ZEROS = 0xFFFFFFFF
+
+
+@dataclasses.dataclass(frozen=True)
+class Judged:
+    """What the program reports of a frame: how many slices its footers lead to, how many of them pass, and whether they cover it."""
+
+    links: int = 0
+    passing: int = 0
+    is_whole: bool = False
+
+    def is_intact(self) -> bool:
+        return self.is_whole and 0 < self.links == self.passing
+
+
+Judge = typing.Callable[[Copy, typing.Sequence[Range]], list[Judged]]
+
+
+class Scan:
+    """Judges frames by `ffv1restore scan`, and remembers what that reported."""
+
+    def __init__(self, program: str, work: pathlib.Path) -> None:
+        self.program, self.work = program, work
+        self.known: dict[tuple[int, int, int], Judged] = {}
+
+    def __call__(self, copy: Copy, ranges: typing.Sequence[Range]) -> list[Judged]:
+        """The judgement of each range. A range that the copy does not have has no slices."""
+        fits = {(place, size) for place, size in ranges if 0 < size <= MOST_BYTES and 0 <= place and place + size <= copy.size}
+        left = sorted(each for each in fits if (copy.file, *each) not in self.known)
+        while left:
+            now, left = part_overlaps(left)
+            for each, judged in zip(now, self.scan(copy, now)):
+                self.known[(copy.file, *each)] = judged
+        return [self.known.get((copy.file, *each), Judged()) for each in ranges]
+
+    def scan(self, copy: Copy, ranges: typing.Sequence[Range]) -> list[Judged]:
+        """Has the program judge ranges that rise and do not overlap. It reads the copy by a link, as it takes only names that are text."""
+        path, link = self.work / f"ranges.{copy.file}", self.work / f"scanned.{copy.file}"
+        path.write_text("".join(f"{place} {size}\n" for place, size in ranges), encoding="ascii")
+        if not link.is_symlink():
+            link.symlink_to(os.path.abspath(copy.path))
+        done = run(self.program, "scan", path, link)
+        lines = done.stdout.decode("ascii", "replace").splitlines()
+        if done.returncode not in (0, 3) or len(lines) != len(ranges):
+            raise Fault(f"cannot judge the frames of {copy.path}: {last_line(done.stderr, done.returncode)}")
+        try:
+            return [read_line(line) for line in lines]
+        except (ValueError, IndexError):
+            raise Fault(f"{self.program} did not report what it found in {copy.path}") from None
+
+
+def part_overlaps(ranges: typing.Sequence[Range]) -> tuple[list[Range], list[Range]]:
+    """Of ranges in their order those that follow each other, and those that begin within one of these."""
+    now: list[Range] = []
+    later = []
+    for each in ranges:
+        (later if now and each[0] < sum(now[-1]) else now).append(each)
+    return now, later
+
+
+def read_line(line: str) -> Judged:
+    """A line of `scan`: `range 3 links 24 pass 23 whole`."""
+    words = line.split()
+    return Judged(int(words[3]), int(words[5]), words[6] == "whole")
+
+
+def slices(frame: bytes) -> typing.Iterator[tuple[int, int]]:
+    """From where to where the slices of a frame lie, from the last one on, as far as the footers lead (RFC 9043, section 4.9)."""
+    end = len(frame)
+    while end >= FOOTER:
+        start = end - FOOTER - int.from_bytes(frame[end - 8 : end - 5], "big")
+        if start < 0:
+            return
+        yield start, end
+        end = start
+
+
+def passes(piece: bytes) -> bool:
+    """Whether a slice passes its parity. One without content says nothing."""
+    return len(piece) > FOOTER and zlib.crc32(piece.translate(TURNED), ZEROS) == ZEROS
+
+
+def share_slice(one: bytes, other: bytes) -> bool:
+    """Whether two versions of a frame are equal, or have in the same place a slice that is equal and passes. Bytes that are all the same
+    are what a lost sector leaves, so they say nothing."""
+    if len(one) != len(other) or is_uniform(one) or is_uniform(other):
+        return False
+    if one == other:
+        return True
+    for start, end in slices(one):
+        if one[end - 8 : end - 5] != other[end - 8 : end - 5]:
+            return False
+        if one[start:end] == other[start:end] and passes(one[start:end]):
+            return True
+    return False
+
+
+def is_uniform(piece: bytes) -> bool:
+    return not piece or piece.count(piece[:1]) == len(piece)
+
+
+def has_only_sizes(frame: bytes) -> bool:
+    """Whether the slices of a frame are divided by sizes of three bytes alone, as those without parities are."""
+    end, count = len(frame), 0
+    while end >= 3:
+        end -= 3 + int.from_bytes(frame[end - 3 : end], "big")
+        count += 1
+    return end == 0 and count > 0

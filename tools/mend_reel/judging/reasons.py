@@ -1,0 +1,171 @@
+"""Why OUT may not be what was recorded, in lines that an archivist understands."""
+from __future__ import annotations
+
+import dataclasses
+import enum
+import typing
+
+from ..model import Because, Content
+
+NEIGHBOUR = 512
+MANY = frozenset({Content.TAGS, Content.CHAPTERS, Content.ATTACHMENTS, Content.CLUSTER, Content.SUBTITLES, Content.UNKNOWN})
+MOST_LINES = 50
+
+
+class Why(enum.Enum):
+    """Why a place of OUT is in doubt, and what to do."""
+
+    DAMAGED = "damaged in every copy; a further copy may restore {it}"
+    ALONE_DAMAGED = "damaged in the only copy that has {it}; a further copy may restore {it}"
+    VOTED = ("damaged in every copy; {out} has {it} as most copies have each part of a slice, by which all slices pass. That can be by chance; "
+             "a further copy may restore {it}")
+    REPAIRED = ("damaged in every copy; {out} has {it} with inverted bits, one in a slice, by which all slices pass. That can be by chance; "
+                "a further copy may restore {it}")
+    GUESSED = ("damaged in every copy; {out} has {it} as most copies have each part of some slices, and with one inverted bit in others, by which "
+               "all slices pass. That can be by chance; a further copy may restore {it}")
+    BESIDE = "damaged in every copy between the frames, where sound and block headers lie; a further copy may restore {it}"
+    DISPUTED = "two different versions pass their checksums; see whether all copies are of one recording. {out} has that of copy {source}"
+    DIFFER = "the copies differ, and no checksum says which is right; {out} has that of copy {source}{because}"
+    ABSENT = "no copy has these bytes, so {out} lacks them; a further copy may have them"
+    UNDIVIDED = "no copy's element headers lead through these bytes, so frames may be hidden there; a further copy may show them"
+    HIDDEN = "{out} has the bytes, but its container does not show {it}; a further copy may have what shows {it}"
+    UNREAD = "its container can't be read; a further copy may have its headers"
+    HOLE = "the times of the frames around leave room for {it}, but {out} shows none; a further copy may have {it}"
+    SHORT = "{out} ends before the time at which the file says that it does; a further copy may have the end"
+    SHORTER = "{out} ends before the time at which copy {copy} says that the recording does; a further copy may have the end"
+    COUNT = "{out} has {has} frames, but the file says that it has {count}; a further copy may have the others"
+    INDEX = "the index of the file names {it}, but {out} does not show {it}; a further copy may have {it}"
+    ORDER = "by the times around, bytes of another place may lie here; a further copy may have the right ones"
+    UNPLACED = "copy {copy} has {it}, and {out} has no place for {it}; see whether a copy of another length is the whole recording"
+    TRACK = "copy {copy} has {it}, and {out} lacks {it}; see whether that copy's file is the whole recording"
+    CONTRARY = "copy {copy} has other intact frames at these times; see whether it is of the same recording"
+
+
+# What lies there is not known.
+OF_BYTES = frozenset({Why.ABSENT, Why.UNDIVIDED})
+OF_FILE = frozenset({Why.SHORT, Why.SHORTER, Why.COUNT})
+OF_FRAMES = frozenset({Why.HOLE, Why.INDEX, Why.ORDER, Why.UNPLACED, Why.CONTRARY})
+
+
+@dataclasses.dataclass(frozen=True)
+class Reason:
+    """Why a place of OUT is in doubt: what lies there (frames by their numbers, if it is frames), from which byte of OUT to which, from when
+    to when, the copy that OUT follows there, the copy that says so, and how many frames OUT has, or would have."""
+
+    why: Why
+    content: Content = Content.UNKNOWN
+    track: typing.Optional[int] = None
+    frames: typing.Optional[tuple[int, int]] = None
+    bytes: typing.Optional[tuple[int, int]] = None
+    times: typing.Optional[tuple[float, float]] = None
+    source: typing.Optional[int] = None
+    copy: typing.Optional[int] = None
+    has: int = 0
+    count: int = 1
+    because: Because = Because.ALONE
+
+    def is_many(self) -> bool:
+        if self.frames:
+            return self.frames[0] != self.frames[1]
+        return self.why in OF_FRAMES and self.count > 1 or self.content in MANY
+
+    def has_only_bytes(self) -> bool:
+        return self.why in OF_BYTES and self.content is Content.UNKNOWN and self.bytes is not None
+
+    def subject(self, out: str) -> str:
+        """What is in doubt."""
+        track = "" if self.track is None else f" of track {self.track}"
+        if self.frames:
+            first, last = self.frames
+            return (f"frame {first}" if first == last else f"frames {first} to {last}") + track
+        if self.why in OF_FRAMES:
+            return f"{self.count} frame{'s' if self.count > 1 else ''}{track}"
+        if self.why in OF_FILE:
+            return "the recording" if self.track is None else f"track {self.track}"
+        if self.bytes and self.has_only_bytes():
+            return f"bytes {self.bytes[0]} to {self.bytes[1]}"
+        return out if self.why is Why.UNREAD else self.content.value + track
+
+    def where(self) -> str:
+        """When it plays, and which bytes it is: within brackets after frames, which are named by their numbers."""
+        span = f"bytes {self.bytes[0]} to {self.bytes[1]}" if self.bytes and not self.has_only_bytes() else ""
+        time = span_of_times(self.times) if self.times else ""
+        if self.frames:
+            inner = ", ".join(filter(None, (time, span)))
+            return f" ({inner})" if inner else ""
+        outer = "" if not time else f" from {time}" if " to " in time else f" at {time}"
+        return outer + (f" ({span})" if span else "")
+
+    def text(self, out: str = "OUT") -> str:
+        """The reason in a line, in which OUT has a name."""
+        why = self.why.value.format(it="them" if self.is_many() else "it", source=one_more(self.source), because=self.because.value,
+                                    copy=one_more(self.copy), has=self.has, count=self.count, out=out)
+        return f"{self.subject(out)}{self.where()}: {why}"
+
+
+def one_more(number: typing.Optional[int]) -> str:
+    """The number of a copy as a person counts."""
+    return "" if number is None else str(number + 1)
+
+
+def time_code(seconds: float) -> str:
+    """A time as hours, minutes and seconds."""
+    thousandths = round(abs(seconds) * 1000)
+    minutes, rest = divmod(thousandths, 60000)
+    return f"{'-' if seconds < 0 and thousandths else ''}{minutes // 60}:{minutes % 60:02}:{rest // 1000:02}.{rest % 1000:03}"
+
+
+def span_of_times(times: tuple[float, float]) -> str:
+    first, last = map(time_code, times)
+    return first if first == last else f"{first} to {last}"
+
+
+# ---- reasons of neighbours
+
+
+def key_of(reason: Reason) -> tuple[typing.Any, ...]:
+    """What reasons have in common that can be one."""
+    return reason.why, reason.content, reason.track, reason.source, reason.because, reason.copy
+
+
+def goes_on(before: Reason, after: Reason) -> bool:
+    """Whether a reason is the one before it, of what lies next."""
+    if key_of(before) != key_of(after):
+        return False
+    if before.frames and after.frames:
+        return after.frames[0] == before.frames[1] + 1
+    if before.frames or after.frames or before.why in OF_FILE:
+        return False
+    if before.bytes and after.bytes:
+        return after.bytes[0] <= before.bytes[1] + NEIGHBOUR
+    return before.why in OF_FRAMES and before.why is not Why.HOLE
+
+
+def widest(before: typing.Optional[tuple], after: typing.Optional[tuple]) -> typing.Optional[tuple]:
+    if before is None or after is None:
+        return before or after
+    return min(before[0], after[0]), max(before[1], after[1])
+
+
+def join(reasons: typing.Iterable[Reason]) -> list[Reason]:
+    """The reasons in order, those of neighbours as one."""
+    joined: list[Reason] = []
+    last: dict[tuple, int] = {}
+    for reason in reasons:
+        key = key_of(reason)
+        at = last.get(key)
+        if at is not None and goes_on(joined[at], reason):
+            before = joined[at]
+            joined[at] = dataclasses.replace(
+                before, frames=widest(before.frames, reason.frames), bytes=widest(before.bytes, reason.bytes),
+                times=widest(before.times, reason.times), count=before.count + reason.count)
+        else:
+            last[key] = len(joined)
+            joined.append(reason)
+    return joined
+
+
+def lines(reasons: typing.Sequence[Reason], out: str = "OUT", most: int = MOST_LINES) -> list[str]:
+    """The reasons in lines, so many at most, and how many more there are."""
+    shown = [reason.text(out) for reason in reasons[:most]]
+    return shown + ([f"and {len(reasons) - most} more"] if len(reasons) > most else [])

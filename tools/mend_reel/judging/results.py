@@ -1,0 +1,242 @@
+"""What became of each frame, and how many bytes of OUT each kind of check vouches for."""
+from __future__ import annotations
+
+import bisect
+import dataclasses
+import enum
+import itertools
+import typing
+
+from ..model import Frame, Kind, Layout, Outcome, SliceReport, State, Stretch
+
+GIVEN = ("settled", "woven")
+GUESSED = ("voted", "repaired")
+
+
+class FrameState(enum.Enum):
+    """How a frame stands in OUT, from the best to the worst."""
+
+    WHOLE = "whole"
+    RESTORED = "restored"
+    WOVEN = "woven"
+    LOST = "not restored"
+
+
+ORDER = list(FrameState)
+
+
+@dataclasses.dataclass(frozen=True)
+class FrameResult:
+    """A frame that is damaged in some copy: its number in the layout, its number in its track, its stretch, how it stands in OUT, in which
+    copies it is damaged, which lack it, and its slices as the program listed them."""
+
+    number: int
+    order: int
+    frame: Frame
+    stretch: int
+    state: FrameState
+    damaged: tuple[int, ...]
+    lacking: tuple[int, ...]
+    slices: tuple[SliceReport, ...] = ()
+
+
+@dataclasses.dataclass
+class Counts:
+    """How many frames there are, how many of them some copy has damaged, and what became of these."""
+
+    frames: int = 0
+    damaged: int = 0
+    restored: int = 0
+    woven: int = 0
+    lost: int = 0
+
+    def named(self) -> dict[str, int]:
+        return {"frames": self.frames, "damaged": self.damaged, "restored": self.restored, "woven": self.woven, "not restored": self.lost}
+
+
+@dataclasses.dataclass
+class Sums:
+    """How many bytes of OUT pass a checksum, are equal in several copies, are of one copy alone, and are none of these."""
+
+    verified: int = 0
+    agreed: int = 0
+    alone: int = 0
+    open: int = 0
+
+    def named(self) -> dict[str, int]:
+        return {"verified": self.verified, "agreed": self.agreed, "alone": self.alone, "open": self.open}
+
+
+def is_given(slices: typing.Sequence[SliceReport]) -> bool:
+    """Whether all slices of a frame are settled or woven."""
+    return all(place.state in GIVEN for place in slices)
+
+
+def is_guessed(slices: typing.Sequence[SliceReport]) -> bool:
+    """Whether all slices of a frame are settled, woven or guessed, and some are guessed: voted or repaired."""
+    return not is_given(slices) and all(place.state in (*GIVEN, *GUESSED) for place in slices)
+
+
+def copies_of(marks: str, mark: str, copy_of_mark: typing.Sequence[int]) -> set[int]:
+    """The copies that have a mark. Several marks may be of one copy."""
+    return {copy_of_mark[at] for at, each in enumerate(marks) if each == mark}
+
+
+class Results:
+    """What became of the frames of a recording. `copy_of_mark` has the copy that each mark of an outcome is of; `decoded` the places of frames
+    with guessed slices that decode."""
+
+    def __init__(self, layout: Layout, stretches: typing.Sequence[Stretch], outcomes: typing.Iterable[Outcome],
+                 copy_of_mark: typing.Sequence[int], decoded: typing.AbstractSet[int] = frozenset()) -> None:
+        self.layout, self.stretches, self.copy_of_mark, self.decoded = layout, stretches, copy_of_mark, decoded
+        self.places = [frame.place for frame in layout.frames]
+        self.orders = count_in_tracks(layout.frames)
+        self.outcomes = {outcome.number: outcome for outcome in outcomes}
+        self.having = [sum(place is not None for place in stretch.places) for stretch in stretches]
+        self.states = [self.find_state(number, stretch) for number, stretch in enumerate(stretches)]
+        absent = [stretch for stretch, having in zip(stretches, self.having) if not having]
+        self.absent_starts = [stretch.start for stretch in absent]
+        self.absent_sums = [0, *itertools.accumulate(stretch.size for stretch in absent)]
+        self.frames: dict[int, FrameResult] = {}
+        for number, stretch in enumerate(stretches):
+            outcome = self.outcomes.get(number)
+            if outcome or not self.having[number]:
+                self.add(number, stretch, outcome)
+
+    def source(self, stretch: Stretch) -> typing.Optional[int]:
+        """The copy that a stretch is taken from where nothing vouches for its bytes."""
+        has = stretch.source < len(stretch.places) and stretch.places[stretch.source] is not None
+        return self.copy_of_mark[stretch.source] if has else None
+
+    def in_out(self, place: int) -> int:
+        """Where a place of the layout is in OUT, which lacks what no copy has."""
+        return place - self.absent_sums[bisect.bisect_left(self.absent_starts, place)]
+
+    def numbers(self, stretch: Stretch) -> range:
+        """The numbers of the frames that have bytes in a stretch."""
+        first = bisect.bisect_left(self.places, stretch.start)
+        if first and self.layout.frames[first - 1].end > stretch.start:
+            first -= 1
+        return range(first, bisect.bisect_left(self.places, stretch.end))
+
+    def add(self, number: int, stretch: Stretch, outcome: typing.Optional[Outcome]) -> None:
+        """Adds those frames of a stretch that some copy has damaged. A frame that no checksum is of may lie in several stretches."""
+        parts = {frame.place: part for part, frame in enumerate(stretch.parts)}
+        for at in self.numbers(stretch):
+            result = self.judge(number, outcome, parts.get(self.places[at]), at) if outcome else self.absent(number, at)
+            known = self.frames.get(at)
+            if result and known:
+                worse = max(result, known, key=lambda each: ORDER.index(each.state))
+                result = dataclasses.replace(worse, damaged=tuple(sorted({*result.damaged, *known.damaged})))
+            if result:
+                self.frames[at] = result
+
+    def judge(self, number: int, outcome: Outcome, part: typing.Optional[int], at: int) -> typing.Optional[FrameResult]:
+        """What became of a frame; `part` is its number in its stretch, where the program lists its slices."""
+        slices = () if part is None else tuple(outcome.slices.get(part, ()))
+        zeros, ones = copies_of(outcome.marks, "0", self.copy_of_mark), copies_of(outcome.marks, "1", self.copy_of_mark)
+        lacking = copies_of(outcome.marks, "-", self.copy_of_mark) - zeros - ones
+        damaged = self.damaged(self.stretches[number].kind, outcome, part is not None, slices)
+        if not damaged:
+            return None
+        result = FrameState.WOVEN if self.places[at] in self.decoded else how_it_stands(outcome.state, slices, part is not None)
+        return FrameResult(at, self.orders[at], self.layout.frames[at], number, result, tuple(sorted(damaged)), tuple(sorted(lacking)), slices)
+
+    def damaged(self, kind: Kind, outcome: Outcome, is_part: bool, slices: typing.Sequence[SliceReport]) -> set[int]:
+        """The copies that have a frame, and not as it was recorded: other bytes than OUT has in a slice, or none that passes."""
+        zeros, ones = copies_of(outcome.marks, "0", self.copy_of_mark), copies_of(outcome.marks, "1", self.copy_of_mark)
+        if kind is Kind.ELEMENT and is_part and not slices:
+            return set()
+        if not slices:
+            return zeros if outcome.state.is_good() else zeros | ones
+        if not is_given(slices) and outcome.state not in (State.WHOLE, State.WOVEN):
+            return zeros | ones
+        damaged = set().union(*(copies_of(place.marks, "0", self.copy_of_mark) for place in slices))
+        return damaged if is_given(slices) else damaged | zeros
+
+    def absent(self, number: int, at: int) -> FrameResult:
+        """A frame that no copy has."""
+        return FrameResult(at, self.orders[at], self.layout.frames[at], number, FrameState.LOST, (), tuple(sorted(set(self.copy_of_mark))))
+
+    def within(self, number: int) -> list[FrameResult]:
+        """The damaged frames of a stretch."""
+        return [self.frames[at] for at in self.numbers(self.stretches[number]) if at in self.frames]
+
+    def is_absent(self, at: int) -> bool:
+        """Whether no copy has a frame."""
+        result = self.frames.get(at)
+        return result is not None and not result.damaged
+
+    def counts(self) -> Counts:
+        counts = Counts(frames=len(self.layout.frames), damaged=len(self.frames))
+        for frame in self.frames.values():
+            counts.lost += frame.state is FrameState.LOST
+            counts.woven += frame.state is FrameState.WOVEN
+        counts.restored = counts.damaged - counts.lost
+        return counts
+
+    def sums(self) -> Sums:
+        sums = Sums()
+        for number, (stretch, state) in enumerate(zip(self.stretches, self.states)):
+            if state is State.AGREED:
+                sums.agreed += stretch.size
+            elif state is State.ALONE:
+                sums.alone += stretch.size
+            elif self.having[number]:
+                verified = self.verified(number, stretch)
+                sums.verified += verified
+                sums.open += stretch.size - verified
+        return sums
+
+    def state(self, number: int) -> State:
+        return self.states[number]
+
+    def is_vouched(self, number: int) -> bool:
+        """Whether a checksum or all copies vouch for a stretch, or it is a frame that decodes with guessed slices."""
+        return self.states[number].is_good() or self.is_decoded(self.stretches[number])
+
+    def is_decoded(self, stretch: Stretch) -> bool:
+        return stretch.kind is Kind.FRAME and bool(stretch.parts) and all(frame.place in self.decoded for frame in stretch.parts)
+
+    def find_state(self, number: int, stretch: Stretch) -> State:
+        """The state of a stretch. Those that the program did not list are undamaged."""
+        outcome, having = self.outcomes.get(number), self.having[number]
+        if outcome:
+            return outcome.state
+        if not having:
+            return State.MISSING
+        return State.WHOLE if stretch.kind is not Kind.PLAIN else State.AGREED if having > 1 else State.ALONE
+
+    def verified(self, number: int, stretch: Stretch) -> int:
+        """How many bytes of a stretch pass a checksum in OUT: all, or those of its frames that are given back, or decode with guessed slices."""
+        if self.state(number) in (State.WHOLE, State.WOVEN) or self.is_decoded(stretch):
+            return stretch.size
+        if stretch.kind is not Kind.ELEMENT:
+            return 0
+        parts = {frame.place: frame.size for frame in stretch.parts}
+        given = 0
+        for at in self.numbers(stretch):
+            result = self.frames.get(at)
+            if not result or result.slices and is_given(result.slices) or self.places[at] in self.decoded:
+                given += parts.get(self.places[at], 0)
+        return given
+
+
+def how_it_stands(state: State, slices: typing.Sequence[SliceReport], has_parts: bool) -> FrameState:
+    """How a damaged frame stands in OUT."""
+    given = bool(slices) and is_given(slices)
+    if not given and state not in (State.WHOLE, State.WOVEN) and (has_parts or not state.is_good()):
+        return FrameState.LOST
+    if any(place.state == "woven" for place in slices) or not given and state is State.WOVEN:
+        return FrameState.WOVEN
+    return FrameState.RESTORED
+
+
+def count_in_tracks(frames: typing.Sequence[Frame]) -> list[int]:
+    """The number of each frame in its track, from 0."""
+    counts: dict[int, int] = {}
+    orders = []
+    for frame in frames:
+        orders.append(counts.get(frame.track, 0))
+        counts[frame.track] = orders[-1] + 1
+    return orders

@@ -1,0 +1,1 @@
+"""The command line, the steps of a run, and the programs and files that it uses."""

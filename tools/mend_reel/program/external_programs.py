@@ -1,0 +1,54 @@
+"""The programs that are run: ffv1restore, and FFmpeg's where a container other than Matroska is read."""
+from __future__ import annotations
+
+import os
+import pathlib
+import shutil
+import subprocess
+import sys
+import typing
+
+from ..model import Fault
+
+Word = typing.Union[str, "os.PathLike[str]"]
+
+
+def run(*words: Word) -> "subprocess.CompletedProcess[bytes]":
+    """Runs a program to its end, without an input."""
+    try:
+        return subprocess.run([os.fspath(word) for word in words], stdin=subprocess.DEVNULL, capture_output=True, check=False, restore_signals=False)
+    except OSError as error:
+        raise Fault(f"cannot run {os.fspath(words[0])}: {error.strerror}") from None
+
+
+def last_line(text: bytes, status: int) -> str:
+    """The fault that a program reported on its standard error, without its name."""
+    how = f"was ended by signal {-status}" if status < 0 else f"ended with status {status}"
+    lines = os.fsdecode(text).strip().splitlines() or [f"the program {how}"]
+    return lines[-1].replace("ffv1restore: ", "", 1)
+
+
+def find_ffv1restore() -> str:
+    """The program: the one that FFV1RESTORE names, the one beside this tool, or the one on the PATH."""
+    named = os.environ.get("FFV1RESTORE")
+    beside = pathlib.Path(sys.argv[0]).resolve().parent / "ffv1restore"
+    found = named or (str(beside) if os.access(beside, os.X_OK) else shutil.which("ffv1restore"))
+    if not found:
+        raise Fault("there is no ffv1restore on the PATH")
+    return found
+
+
+def need(name: str, why: str) -> None:
+    """Refuses to go on without a program of FFmpeg's."""
+    if not shutil.which(name):
+        raise Fault(f"there is no {name} on the PATH, and {why}")
+
+
+def version_of(program: str) -> str:
+    """The first line that a program prints of its version, or nothing."""
+    try:
+        done = run(program, "-version" if os.path.basename(program).startswith("ff") and "restore" not in program else "version")
+    except Fault:
+        return ""
+    lines = done.stdout.decode(errors="replace").splitlines()
+    return lines[0] if done.returncode == 0 and lines else ""

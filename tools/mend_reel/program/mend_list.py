@@ -1,0 +1,78 @@
+"""The list that the program mends by: a line for each stretch, and below an element one for each of its frames."""
+from __future__ import annotations
+
+import dataclasses
+import typing
+
+from ..containers.stretch_builder import MOST_STRETCH
+from ..model import Frame, Kind, Stretch
+
+FIRST_PART = 6
+
+
+@dataclasses.dataclass
+class Listed:
+    """The stretches of a list, as they stand in it, and those left out because no copy has them: gaps of OUT."""
+
+    written: list[Stretch] = dataclasses.field(default_factory=list)
+    left: list[Stretch] = dataclasses.field(default_factory=list)
+
+
+def write(stretches: typing.Iterable[Stretch], file: typing.TextIO) -> Listed:
+    """Writes the list of some stretches to a file, and returns them as they stand there. What the program would refuse is changed before:
+    a place that does not rise is none, and where the source lacks the stretch the first copy that has it is its source."""
+    listed = Listed()
+    ends: list[int] = []
+    for stretch in stretches:
+        ends += [0] * (len(stretch.places) - len(ends))
+        for piece in pieces(stretch):
+            piece = rising(piece, ends)
+            having = [number for number, place in enumerate(piece.places) if place is not None]
+            if not having:
+                listed.left.append(piece)
+                continue
+            piece.source = piece.source if piece.source in having else having[0]
+            for number in having:
+                ends[number] = (piece.places[number] or 0) + piece.size
+            listed.written.append(piece)
+            file.writelines(lines(piece))
+    return listed
+
+
+def pieces(stretch: Stretch) -> typing.Iterator[Stretch]:
+    """Yields a stretch, in several plain ones if it is too long for one, and nothing if it is empty."""
+    if stretch.size <= MOST_STRETCH:
+        if stretch.size > 0:
+            yield stretch
+        return
+    for offset in range(0, stretch.size, MOST_STRETCH):
+        places = tuple(None if place is None else place + offset for place in stretch.places)
+        yield dataclasses.replace(stretch, kind=Kind.PLAIN, start=stretch.start + offset, size=min(MOST_STRETCH, stretch.size - offset),
+                                  places=places, parts=())
+
+
+def rising(stretch: Stretch, ends: typing.Sequence[int]) -> Stretch:
+    """Returns a stretch without the places that begin before the end of the stretch before, and without parts that can't be listed."""
+    places = tuple(None if place is None or place < end else place for place, end in zip(stretch.places, ends))
+    parts = tuple(listable(stretch)) if stretch.kind is Kind.ELEMENT else stretch.parts
+    if places == stretch.places and parts == stretch.parts:
+        return stretch
+    return dataclasses.replace(stretch, places=places, parts=parts)
+
+
+def listable(stretch: Stretch) -> typing.Iterator[Frame]:
+    """Yields the frames of an element that rise, begin after its CRC-32, and end within it."""
+    end = stretch.start + FIRST_PART
+    for frame in stretch.parts:
+        if end <= frame.place and frame.size > 0 and frame.end <= stretch.end:
+            yield frame
+            end = frame.end
+
+
+def lines(stretch: Stretch) -> typing.Iterator[str]:
+    """Yields the lines of a stretch."""
+    places = " ".join("-" if place is None else str(place) for place in stretch.places)
+    yield f"{stretch.kind.value} {stretch.size} {stretch.source + 1} {places}\n"
+    if stretch.kind is Kind.ELEMENT:
+        for frame in stretch.parts:
+            yield f"part {frame.place - stretch.start} {frame.size}\n"

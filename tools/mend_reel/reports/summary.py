@@ -1,0 +1,67 @@
+"""What the reports for people and for machines are made of."""
+from __future__ import annotations
+
+import dataclasses
+import enum
+import os
+import typing
+
+from ..copies.arrangement import Matched
+from ..judging.digests import Compared
+from ..judging.verdict import Verdict
+from ..model import Layout
+
+
+class Role(enum.Enum):
+    """How a copy serves."""
+
+    BASIS = "a copy of the mended file"
+    OTHER = "another file of the same recording"
+    LEFT = "left out"
+
+
+@dataclasses.dataclass
+class CopySummary:
+    """A copy, or OUT: its path, its size, its container, how it serves, how many of its bytes pass a checksum, and its SHA-256, where these
+    are known."""
+
+    path: str
+    size: int
+    form: str = ""
+    role: Role = Role.BASIS
+    why: str = ""
+    verified: typing.Optional[int] = None
+    sha256: typing.Optional[str] = None
+
+    def name(self) -> str:
+        """The path as text: bytes that are none stand as the replacement character."""
+        return os.fsencode(self.path).decode("utf-8", "replace")
+
+
+@dataclasses.dataclass
+class Summary:
+    """One call of the tool: when, by which programs, how it was called, the copies, OUT (if it was made), what lies where, the verdict, what
+    a kept digest says, and what else is to be said."""
+
+    date: str
+    versions: typing.Mapping[str, str]
+    command: typing.Sequence[str]
+    copies: typing.Sequence[CopySummary]
+    out: typing.Optional[CopySummary]
+    layout: Layout
+    verdict: Verdict
+    matched: typing.Sequence[Matched] = ()
+    compared: typing.Optional[Compared] = None
+    notes: typing.Sequence[str] = ()
+
+    def title(self) -> str:
+        return self.out.name() if self.out else ", ".join(copy.name() for copy in self.copies[:4])
+
+    def sentence(self) -> str:
+        """The verdict for a person: what a kept digest says, if it decides, or else what the checks say."""
+        decides = self.compared and (self.compared.is_of_all or not self.compared.is_original)
+        return self.compared.text if self.compared and decides else self.verdict.sentence(self.out_name())
+
+    def out_name(self) -> str:
+        """What OUT is called within sentences, where there may be none."""
+        return "OUT" if self.out else "the copy" if len(self.copies) == 1 else "the mended file"
