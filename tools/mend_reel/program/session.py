@@ -8,7 +8,8 @@ import stat
 import typing
 
 from ..containers import ffmpeg_files, ffprobe, matroska
-from ..copies import arrangement, broken_headers, differences, preferred_copy
+from ..copies import broken_headers, differences, preferred_copy
+from ..copies.arrangement import arrange, describe
 from ..copies.inputs import Inputs, add_other_files
 from ..judging import copy_health, decoding
 from ..judging.frame_checks import Scan
@@ -60,14 +61,14 @@ class Session:
         self.progress.begin("reading the containers")
         for copy, form in zip(copies, of_each(self.options.jobs, self.form, copies)):
             copy.form = form
-        arrangement = arrangement.arrange(copies, self.judge)
+        arrangement = arrange(copies, self.judge)
         layout, inputs = arrangement.layout, Inputs([copies[number] for number in arrangement.basis], list(arrangement.basis))
         if copy_health.lack_parities(layout, inputs.files):
             layout = copy_health.without_parts(layout)
             self.notes.append(copy_health.NO_PARITIES)
         claims = self.compare(layout, inputs)
         add_other_files(inputs, layout, copies, arrangement.matched, self.work)
-        others = {matched.number: arrangement.describe([copies[matched.number]], self.judge, False) for matched in arrangement.matched}
+        others = {matched.number: describe([copies[matched.number]], self.judge, False) for matched in arrangement.matched}
         claims += [other.claims for other in others.values()]
         made = self.make(layout, inputs)
         verdict = judge(Evidence(layout, made.stretches, made.outcomes, made.out, claims, arrangement.matched, arrangement.left,
@@ -146,7 +147,7 @@ class Session:
         try:
             self.progress.begin("decoding frames with voted or repaired slices")
             decoded = decoding.decoded(layout, *mended, decoding.FfmpegDecoder(os.path.abspath(part)))
-            return Made(*mended, arrangement.describe([out], self.judge, False), part, decoded)
+            return Made(*mended, describe([out], self.judge, False), part, decoded)
         finally:
             os.close(out.file)
 
