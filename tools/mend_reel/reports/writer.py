@@ -8,7 +8,7 @@ import sys
 import typing
 
 from ..copies.arrangement import Arrangement
-from ..judging import copy_standing, digests, reasons
+from ..judging import copy_standing, digests
 from ..judging.copy_standing import Standing
 from ..judging.digests import Compared
 from ..judging.verdict import Verdict
@@ -17,7 +17,7 @@ from ..program.external_programs import version_of
 from ..program.options import VERSION, Options
 from ..program.output_files import Files
 from ..program.parallel import of_each
-from . import json_document, page
+from . import json_document, page, printed_lines
 from .summary import CopySummary, Role, Summary
 
 Writer = typing.Callable[[typing.TextIO, Summary], None]
@@ -44,15 +44,16 @@ class Reporter:
             verdict = dataclasses.replace(verdict, status=0, reasons=[])
         elif compared:
             self.notes.append(compared.text)
-        of_copies = self.copy_summaries(copies, arrangement, found)
+        copies_of = self.copy_summaries(copies, arrangement, found)
         out = self.out_summary(part, next((copies[number].form for number in arrangement.basis if copies[number].form), ""))
         versions = {"mend-reel": VERSION, "ffv1restore": version_of(self.program), "ffprobe": version_of("ffprobe")}
         summary = Summary(datetime.datetime.now(datetime.timezone.utc).isoformat(timespec="seconds"), versions, ["mend-reel", *sys.argv[1:]],
-                          of_copies, out, layout, verdict, arrangement.matched, compared, self.notes)
+                          copies_of, out, layout, verdict, arrangement.matched, compared, self.notes)
         for path, writer in ((self.options.report, page.write), (self.options.json, json_document.write)):
             if path is not None:
                 self.write(path, writer, summary)
-        return self.lines(summary, {number: found[number] for number in arrangement.basis}), verdict.status
+        of_copies = self.of_copies(summary, {number: found[number] for number in arrangement.basis})
+        return printed_lines.lines(summary, of_copies), verdict.status
 
     def compare(self, path: str) -> typing.Optional[Compared]:
         """What a kept digest says of OUT, or of the copy that is checked."""
@@ -87,12 +88,10 @@ class Reporter:
         except OSError as error:
             raise Fault(f"cannot write {path}: {error.strerror}") from None
 
-    def lines(self, summary: Summary, found: typing.Mapping[int, Standing]) -> list[str]:
-        """The lines to print: what is in doubt, notes, counts, and the verdict."""
-        verdict = summary.verdict
-        counted = {**verdict.counts.named(), **verdict.sums.named()}
-        doubt = " in its bytes, but see what follows" if verdict.reasons else ""
-        of_copies = [f"copy {number + 1}, {summary.copies[number].path}: {standing.text()}{doubt if standing.is_undamaged() else ''}"
-                     for number, standing in found.items()]
-        return [*(of_copies if summary.out is None else []), *reasons.lines(verdict.reasons, summary.out_name()), *self.notes, *verdict.notes,
-                *(f"{name} {count}" for name, count in counted.items()), summary.sentence()]
+    def of_copies(self, summary: Summary, found: typing.Mapping[int, Standing]) -> list[str]:
+        """How each copy stands by itself, where no OUT is made."""
+        if summary.out is not None:
+            return []
+        doubt = " in its bytes, but see what follows" if summary.verdict.reasons else ""
+        return [f"copy {number + 1}, {summary.copies[number].path}: {standing.text()}{doubt if standing.is_undamaged() else ''}"
+                for number, standing in found.items()]
