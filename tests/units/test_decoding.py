@@ -21,11 +21,11 @@ RECORDS = {name: (REAL / name / "record").read_bytes() for name in ("gray-48x32-
 
 class DecodedTest(unittest.TestCase):
     def decoded(self, layout, outcomes, answer=True):
-        """What is decoded, and what was asked about: the track, the place, and how far before that of the layout it is."""
+        """What is decoded, and what was asked about: the track and the place."""
         asked = []
 
-        def decodes(track, frame, place):
-            asked.append((track.number, place, frame.place - place))
+        def decodes(track, frame):
+            asked.append((track.number, frame.place))
             return answer
 
         return decoded(layout, layout.stretches, outcomes, decodes), asked
@@ -33,12 +33,12 @@ class DecodedTest(unittest.TestCase):
     def test_a_frame_with_a_repaired_slice_is_asked_about(self):
         layout = recording()
         outcomes = [Outcome(element(number), State.MISSING, 0, "00", {0: SLICES}) for number in (1, 3)]
-        self.assertEqual(self.decoded(layout, outcomes), ({724, 1748}, [(1, 724, 0), (1, 1748, 0)]))
-        self.assertEqual(self.decoded(layout, outcomes, False), (set(), [(1, 724, 0), (1, 1748, 0)]))
+        self.assertEqual(self.decoded(layout, outcomes), ({724, 1748}, [(1, 724), (1, 1748)]))
+        self.assertEqual(self.decoded(layout, outcomes, False), (set(), [(1, 724), (1, 1748)]))
 
     def test_a_frame_with_a_voted_slice_is_asked_about(self):
         outcome = Outcome(element(1), State.MISSING, 0, "00", {0: (settled("11", 100), voted("00", 0, 100))})
-        self.assertEqual(self.decoded(recording(), [outcome]), ({724}, [(1, 724, 0)]))
+        self.assertEqual(self.decoded(recording(), [outcome]), ({724}, [(1, 724)]))
 
     def test_others_are_not(self):
         slices = (missing("00", 100), repaired("00", 0, 100)), (settled("11", 100), settled("01", 0, 100))
@@ -47,15 +47,9 @@ class DecodedTest(unittest.TestCase):
         outcomes += [Outcome(element(3), State.MISSING, 0, "00")]
         self.assertEqual(self.decoded(recording(), outcomes), (set(), []))
 
-    def test_out_lacks_what_no_copy_has(self):
-        layout = recording()
-        layout.stretches[2].places = (None, None)
-        outcomes = [Outcome(element(1), State.MISSING, 0, "00", {0: SLICES})]
-        self.assertEqual(self.decoded(layout, outcomes), ({724}, [(1, 224, 500)]))
-
 
 class DecoderTest(unittest.TestCase):
-    FRAME = Frame(1, 3.0, 0, 7)
+    FRAME = Frame(1, 3.0, 100, 7)
 
     def ask(self, probe="exit 1", frame=FRAME, record=RECORDS["bgra-32x28-4-slices"]):
         """Whether a frame at place 100 is decoded, where ffprobe is this script."""
@@ -64,7 +58,7 @@ class DecoderTest(unittest.TestCase):
             program.write_text(f"#!/bin/sh\n{probe}\n")
             program.chmod(program.stat().st_mode | stat.S_IXUSR)
             with unittest.mock.patch.dict(os.environ, {"PATH": f"{name}:/usr/bin:/bin"}):
-                return FfmpegDecoder("out")(Track(1, Content.VIDEO, "ffv1", True, 96, 80, record), frame, 100)
+                return FfmpegDecoder("out")(Track(1, Content.VIDEO, "ffv1", True, 96, 80, record), frame)
 
     def test_a_range_coder(self):
         right = 'case "$*" in *"-read_intervals 1.000%3.500 "*" file:out") echo 9,7; echo 96,7;; esac'
@@ -72,7 +66,7 @@ class DecoderTest(unittest.TestCase):
         self.assertTrue(self.ask(right, record=RECORDS["yuv420p10-48x40-6-slices"]))
         self.assertFalse(self.ask(right + "; echo 'bytestream end mismatching by 3' >&2"))
         self.assertFalse(self.ask(right + "; exit 1"))
-        self.assertFalse(self.ask(right, Frame(1, 4.0, 0, 7)))
+        self.assertFalse(self.ask(right, Frame(1, 4.0, 100, 7)))
 
     def test_golomb_rice_and_no_record_are_not_decoded(self):
         self.assertTrue(self.ask("echo 96,7"))
@@ -85,7 +79,7 @@ class DecoderTest(unittest.TestCase):
 
     def test_without_ffprobe(self):
         with unittest.mock.patch.dict(os.environ, {"PATH": ""}):
-            self.assertFalse(FfmpegDecoder("out")(Track(1, Content.VIDEO, "ffv1", True, 96, 80, RECORDS["bgra-32x28-4-slices"]), self.FRAME, 100))
+            self.assertFalse(FfmpegDecoder("out")(Track(1, Content.VIDEO, "ffv1", True, 96, 80, RECORDS["bgra-32x28-4-slices"]), self.FRAME))
 
 
 class CoderTest(unittest.TestCase):

@@ -29,20 +29,17 @@ class Lines(unittest.TestCase):
         third = stretch(Kind.FRAME, 140, 22, (None, 145, 107), 1, [(140, 22)])
         lines, listed = write(first, second, third)
         self.assertEqual(lines, ["plain 40 1 0 5 -", "crc32 100 3 40 45 7", "part 6 10", "part 20 80", "frame 22 2 - 145 107"])
-        self.assertEqual(listed.written, [first, second, third])
-        self.assertEqual(listed.left, [])
+        self.assertEqual(listed, [first, second, third])
 
     def test_places_that_do_not_rise(self) -> None:
         lines, listed = write(stretch(Kind.PLAIN, 0, 10, (100, 0)), stretch(Kind.PLAIN, 10, 10, (109, 10)), stretch(Kind.PLAIN, 20, 10, (110, 19)),
                               stretch(Kind.PLAIN, 30, 10, (120, 20), 1))
         self.assertEqual(lines, ["plain 10 1 100 0", "plain 10 2 - 10", "plain 10 1 110 -", "plain 10 2 120 20"])
-        self.assertEqual([each.source for each in listed.written], [0, 1, 0, 1])
+        self.assertEqual([each.source for each in listed], [0, 1, 0, 1])
 
-    def test_stretch_that_no_copy_has(self) -> None:
-        gone = stretch(Kind.PLAIN, 10, 10, (None, None))
-        lines, listed = write(stretch(Kind.PLAIN, 0, 10, (0, 0)), gone, stretch(Kind.PLAIN, 20, 10, (5, None)), stretch(Kind.PLAIN, 30, 5, (30, None)))
-        self.assertEqual(lines, ["plain 10 1 0 0", "plain 5 1 30 -"])
-        self.assertEqual([(each.start, each.places) for each in listed.left], [(10, (None, None)), (20, (None, None))])
+    def test_a_stretch_that_no_copy_has_is_a_mistake(self) -> None:
+        with self.assertRaises(AssertionError):
+            write(stretch(Kind.PLAIN, 10, 10, (None, None)))
 
     def test_source_that_lacks_it(self) -> None:
         self.assertEqual(write(stretch(Kind.PLAIN, 0, 10, (None, 3), 0))[0], ["plain 10 2 - 3"])
@@ -51,13 +48,13 @@ class Lines(unittest.TestCase):
         parts = [(5, 1), (6, 4), (9, 5), (10, 0), (10, 5), (90, 11), (95, 5)]
         lines, listed = write(stretch(Kind.ELEMENT, 0, 100, (0,), 0, parts))
         self.assertEqual(lines, ["crc32 100 1 0", "part 6 4", "part 10 5", "part 95 5"])
-        self.assertEqual([frame.place for frame in listed.written[0].parts], [6, 10, 95])
+        self.assertEqual([frame.place for frame in listed[0].parts], [6, 10, 95])
 
     def test_sizes(self) -> None:
         most = 1 << 30
         lines, listed = write(stretch(Kind.PLAIN, 0, 0, (0,)), stretch(Kind.ELEMENT, 0, most, (0,)), stretch(Kind.FRAME, most, 2 * most + 1, (most,)))
         self.assertEqual(lines, [f"crc32 {most} 1 0", f"plain {most} 1 {most}", f"plain {most} 1 {2 * most}", f"plain 1 1 {3 * most}"])
-        self.assertEqual([each.start for each in listed.written], [0, most, 2 * most, 3 * most])
+        self.assertEqual([each.start for each in listed], [0, most, 2 * most, 3 * most])
 
     def test_many(self) -> None:
         lines, _ = write(*(stretch(Kind.PLAIN, at, 1, (at, at)) for at in range(2000)))

@@ -1,21 +1,20 @@
 """The lines that are printed."""
 import unittest
 
-from .test_reports import DAMAGED, summary
-from .test_verdict import recording
 from mend_reel.judging.results import Counts, Sums
 from mend_reel.reports.printed_lines import lines, of_bytes, of_frames
+from .test_reports import DAMAGED, summary
+from .test_verdict import recording
 
 
 class PrintedLinesTest(unittest.TestCase):
     def test_the_verdict_comes_first_and_then_the_counts(self):
-        made = lines(summary(recording(), *DAMAGED, notes=["a note"]), ["copy 1, a: damaged"])
+        made = lines(summary(recording(), *DAMAGED, notes=["a note"]))
         self.assertEqual(made[0], "OUT is not known to be what was recorded: one place is in doubt.")
         self.assertEqual(made[1], "frames: 6, 2 damaged, 1 restored (1 woven), 1 not restored")
         self.assertRegex(made[2], r"^bytes: \d,\d+ verified \(\d\d\.\d %\), \d+ agreed, \d+ open$")
-        self.assertEqual(made[3], "copy 1, a: damaged")
-        self.assertRegex(made[4], r"^frame 1 .*: damaged in every copy")
-        self.assertEqual(made[5], "a note")
+        self.assertRegex(made[3], r"^frame 1 .*: damaged in every copy")
+        self.assertEqual(made[4], "a note")
 
     def test_of_frames_only_what_there_is_is_named(self):
         for counts, line in ((Counts(50), "frames: 50, 0 damaged"), (Counts(1234, 3, 3), "frames: 1,234, 3 damaged, 3 restored"),

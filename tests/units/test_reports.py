@@ -22,8 +22,8 @@ DAMAGED = (Outcome(element(1), State.MISSING, 0, "10", {0: (settled("11", 100), 
            Outcome(element(4), State.WHOLE, 0, "10"))
 
 
-def summary(layout, *outcomes, out=True, copies=2, **more):
-    judged = judge(Evidence(layout, layout.stretches, outcomes, layout))
+def summary(layout, *outcomes, out=True, copies=2, compared=None, **more):
+    judged = judge(Evidence(layout, layout.stretches, outcomes, layout, compared=compared))
     of_copies = [CopySummary(f"/films/copy-{number}.mkv", layout.size, "matroska", verified=layout.size // 2) for number in range(copies)]
     return Summary("2026-11-26T12:00:00Z", {"mend-reel": "0.2.0"}, ["mend-reel", "out.mkv", "a<b>.mkv"], of_copies,
                    CopySummary("/films/out.mkv", layout.size, "matroska", sha256="ab" * 32) if out else None, layout, judged, **more)
@@ -87,12 +87,6 @@ class MachineTest(unittest.TestCase):
         self.assertEqual(bytes.fromhex(copies[1]["path_hex"]), os.fsencode(path))
         self.assertEqual((copies[1]["path"], "path_hex" in copies[0]), ("/films/\ufffd\ufffd.mkv", False))
 
-    def test_what_no_copy_has_is_listed(self):
-        layout = recording()
-        layout.stretches[element(1)].places = (None, None)
-        stretch, = self.read(summary(layout))["stretches"]
-        self.assertEqual((stretch["bytes"], stretch["open"], stretch["taken_from"], stretch["frames"][0]["state"]), (None, True, None, "not restored"))
-
 
 class PageTest(unittest.TestCase):
     def page(self, made):
@@ -155,13 +149,12 @@ class PageTest(unittest.TestCase):
     def test_one_copy_and_no_frames(self):
         layout = recording(0)
         _, words = self.page(summary(layout, out=False, copies=1))
-        self.assertIn("The copy is what was recorded", words)
+        self.assertIn("/films/copy-0.mkv is what was recorded", words)
 
     def test_without_out_the_page_names_none(self):
-        for copies, name in ((1, "the copy"), (2, "the mended file")):
-            _, words = self.page(summary(recording(), *DAMAGED, out=False, copies=copies))
-            self.assertIn(f"Bytes of {name}", words)
-            self.assertNotRegex(words, r"\bOUT\b")
+        _, words = self.page(summary(recording(), *DAMAGED, out=False, copies=1))
+        self.assertIn("Bytes of /films/copy-0.mkv", words)
+        self.assertNotRegex(words, r"\bOUT\b")
 
     def test_many_frames_make_a_bounded_page(self):
         layout = recording(2200)

@@ -5,6 +5,7 @@ import unittest
 from mend_reel.containers.frame_times import constant_step, end_of, lasts
 from mend_reel.copies.arrangement import Leaving, Left, Matched
 from mend_reel.judging.completeness import Excuses, Seen, misplaced
+from mend_reel.judging.digests import Compared
 from mend_reel.judging.reasons import Why
 from mend_reel.judging.results import FrameState, Results
 from mend_reel.judging.verdict import Evidence, judge
@@ -95,7 +96,7 @@ class FateTest(unittest.TestCase):
     def test_a_frame_of_a_whole_element(self):
         results = self.results(recording(), Outcome(element(2), State.WHOLE, 0, "10", {0: (settled("10"),)}))
         result = results.frames[2]
-        self.assertEqual((result.state, result.damaged, result.lacking, result.order), (FrameState.RESTORED, (1,), (), 2))
+        self.assertEqual((result.state, result.damaged, result.order), (FrameState.RESTORED, (1,), 2))
         self.assertEqual(results.counts().named(), {"frames": 6, "damaged": 1, "restored": 1, "woven": 0, "not restored": 0})
 
     def test_sound_alone_is_no_frame(self):
@@ -176,21 +177,13 @@ class FateTest(unittest.TestCase):
         for stretch in layout.stretches:
             stretch.places += (None,)
         results = self.results(layout, Outcome(element(2), State.WHOLE, 0, "1-0", {0: (settled("1-0"),)}), copy_of_mark=(0, 3, 3))
-        self.assertEqual((results.frames[2].damaged, results.frames[2].lacking), ((3,), ()))
+        self.assertEqual(results.frames[2].damaged, (3,))
 
     def test_sums(self):
         layout = recording()
         layout.stretches[0].places = (0, None)
         results = self.results(layout, Outcome(1, State.OPEN, 0, "10"), Outcome(3, State.AGREED, 0, "11-"))
-        self.assertEqual(results.sums().named(), {"verified": 6 * 500, "agreed": 5 * 12, "alone": 100, "open": 12})
-
-    def test_what_no_copy_has_is_not_in_out(self):
-        layout = recording()
-        layout.stretches[element(1)].places = (None, None)
-        results = self.results(layout)
-        self.assertEqual((results.frames[1].state, results.frames[1].damaged, results.is_absent(1)), (FrameState.LOST, (), True))
-        self.assertEqual([results.in_out(layout.stretches[element(number)].start) for number in (0, 1, 2)], [112, 624, 636])
-        self.assertEqual(sum(results.sums().named().values()), layout.size - 500)
+        self.assertEqual(results.sums().named(), {"verified": 6 * 500, "agreed": 5 * 12, "alone": 100, "open": 12, "read": 0})
 
 
 class VerdictTest(unittest.TestCase):
@@ -231,12 +224,58 @@ class VerdictTest(unittest.TestCase):
         self.assertEqual(found.reasons[0].text(), "frame 1 (0:00:00.040, bytes 724 to 1024): damaged in every copy; OUT has it as most copies have "
                          "each part of a slice, by which all slices pass. That can be by chance; a further copy may restore it")
 
-    def test_one_copy(self):
-        layout = recording()
+    def of_one_copy(self, layout, *outcomes, **more):
         for stretch in layout.stretches:
             stretch.places = stretch.places[:1]
-        found = verdict(layout, Outcome(element(1), State.MISSING, 0, "1", {0: (missing("1"),)}), Outcome(element(4), State.MISSING, 0, "1", {}))
-        self.assertEqual(whys(found), [Why.ALONE_DAMAGED, Why.ALONE_DAMAGED])
+        return verdict(layout, *outcomes, **more)
+
+    def test_one_copy(self):
+        found = self.of_one_copy(recording(), Outcome(element(1), State.MISSING, 0, "1", {0: (missing("1"),)}),
+                                 Outcome(element(4), State.MISSING, 0, "1", {}))
+        self.assertEqual([(reason.why, reason.bytes) for reason in found.reasons], [
+            (Why.ALONE, (0, 100)), (Why.ALONE, (612, 624)), (Why.ALONE_DAMAGED, (724, 1024)), (Why.ALONE, (2148, 2160)),
+            (Why.ALONE_DAMAGED, (2160, 2660))])
+        self.assertEqual(found.status, 3)
+
+    def test_the_header_of_an_element_that_passes_is_verified(self):
+        found = self.of_one_copy(recording())
+        self.assertEqual((found.sums.verified, found.sums.alone, whys(found)), (6 * 512, 100, [Why.ALONE]))
+
+    def test_what_one_copy_alone_has_is_one_reason_up_to_what_is_vouched_for(self):
+        layout = plain()
+        for stretch in layout.stretches:
+            stretch.places = (stretch.start, stretch.start if 800 < stretch.start < 1300 else None)
+        found = verdict(layout)
+        sound = [(reason.bytes, reason.count, reason.times, reason.copy) for reason in found.reasons if reason.content is Content.SOUND]
+        self.assertEqual(sound, [((440, 540), 100, (0.0, 0.0), 0), ((1320, 2740), 400, (0.08, 0.2), 0)])
+        self.assertEqual(found.status, 3)
+
+    def test_what_maps_say_could_not_be_read_in_the_others_is_read(self):
+        layout = plain()
+        for stretch in layout.stretches[3:6]:
+            stretch.places, stretch.is_read = (stretch.start, None), True
+        found = verdict(layout)
+        self.assertEqual((found.status, found.sums.read, found.sums.alone), (0, 140, 0))
+
+    def test_a_file_that_is_checked(self):
+        found = self.of_one_copy(plain(), is_check=True)
+        self.assertEqual((found.status, found.sentence("reel.avi")), (0, "reel.avi: no damage was found; 34.3 % of the bytes can't be checked, "
+                                                                         "among them all of the sound."))
+        found = self.of_one_copy(recording(), is_check=True)
+        self.assertEqual(found.sentence("reel.mkv"), "reel.mkv: no damage was found; 3.2 % of the bytes can't be checked.")
+
+    def test_a_file_that_is_checked_without_a_checksum(self):
+        layout = plain()
+        stretches = [dataclasses.replace(stretch, kind=Kind.PLAIN, parts=()) for stretch in layout.stretches]
+        found = self.of_one_copy(dataclasses.replace(layout, stretches=stretches), is_check=True)
+        self.assertEqual((found.status, whys(found)), (3, [Why.UNCHECKED]))
+
+    def test_a_digest_decides(self):
+        of_all, of_frames = (Compared(True, "it is the original", is_of_all) for is_of_all in (True, False))
+        lost = Outcome(element(1), State.MISSING, 0, "10", {0: (missing(),)})
+        self.assertEqual((verdict(recording(), lost, compared=of_all).status, verdict(recording(), lost, compared=of_frames).status), (0, 3))
+        self.assertEqual(verdict(recording(), compared=Compared(False, "it is not", False)).status, 3)
+        self.assertEqual(verdict(recording(), compared=of_frames).notes, ["it is the original"])
 
     def test_copies_that_differ(self):
         layout = plain()
@@ -274,14 +313,6 @@ class CompletenessTest(unittest.TestCase):
         found = verdict(layout, out=without(layout, 2, 3))
         self.assertIn("frames 2 to 3", found.reasons[0].text())
         self.assertEqual(found.reasons[0].why, Why.HIDDEN)
-
-    def test_frames_after_what_no_copy_has_lie_before_their_places(self):
-        layout = recording()
-        layout.stretches[element(1)].places = (None, None)
-        moved = [dataclasses.replace(frame, place=frame.place - 500 * (number > 1)) for number, frame in enumerate(layout.frames) if number != 1]
-        found = verdict(layout, out=dataclasses.replace(layout, frames=moved))
-        self.assertNotIn(Why.HIDDEN, whys(found))
-        self.assertIn(Why.ABSENT, whys(found))
 
     def hidden_everywhere(self, layout, *numbers, **claims):
         """The verdict on a recording of which no container shows some frames: they are neither listed nor in OUT."""

@@ -4,6 +4,7 @@ Places and sizes count bytes, times are in seconds. Copies count from 0 here, an
 """
 from __future__ import annotations
 
+import collections
 import dataclasses
 import enum
 import os
@@ -24,7 +25,7 @@ class Kind(enum.Enum):
 
 
 class State(enum.Enum):
-    """What became of a stretch, by the word of the program."""
+    """What became of a stretch, by the word of the program; `read` is one that is alone because the others could not be read there."""
 
     WHOLE = "whole"
     WOVEN = "woven"
@@ -33,9 +34,11 @@ class State(enum.Enum):
     ALONE = "alone"
     AGREED = "agreed"
     OPEN = "open"
+    READ = "read"
 
     def is_good(self) -> bool:
-        return self in (State.WHOLE, State.WOVEN, State.AGREED, State.ALONE)
+        """Whether a checksum, several copies, or a map of what could not be read in the others vouch for it."""
+        return self in (State.WHOLE, State.WOVEN, State.AGREED, State.READ)
 
 
 class Content(enum.Enum):
@@ -57,6 +60,9 @@ class Content(enum.Enum):
     PADDING = "padding"
     FRAMING = "element header"
     UNKNOWN = "bytes between frames"
+
+
+BESIDE_TRACKS = frozenset({Content.ATTACHMENTS, Content.CHAPTERS, Content.TAGS})
 
 
 @dataclasses.dataclass(frozen=True)
@@ -125,8 +131,9 @@ class Because(enum.Enum):
 class Stretch:
     """A run of bytes of OUT. `start` is its place there, `places` has for each copy where it lies in it, if it does. `parts` are frames
     that lie within an element, by their places in OUT; a stretch of the kind FRAME has its own frame as its only one. `vouched` are
-    the copies of which the container itself confirms what they have here (a header that leads to the next element, say). `source` is the
-    copy FROM, and `because` says why."""
+    the copies of which the container itself confirms what they have here (a header that leads to the next element, say). `is_read` is
+    whether some copy has it, and a map says of each other one that it could not be read there. `source` is the copy FROM, and `because`
+    says why."""
 
     kind: Kind
     start: int
@@ -135,6 +142,7 @@ class Stretch:
     places: tuple[typing.Optional[int], ...] = ()
     parts: tuple[Frame, ...] = ()
     vouched: frozenset[int] = frozenset()
+    is_read: bool = False
     source: int = 0
     because: Because = Because.ALONE
 
@@ -156,6 +164,11 @@ class Layout:
     claims: Claims = Claims()
     gaps: list[tuple[int, int]] = dataclasses.field(default_factory=list)
     rises: bool = False
+
+    def contents(self) -> collections.Counter[Content]:
+        """What a file has: how many tracks of each kind, and whether attachments, chapters and tags."""
+        found = {stretch.what.content for stretch in self.stretches}
+        return collections.Counter([*(track.content for track in self.tracks), *(found & BESIDE_TRACKS)])
 
 
 @dataclasses.dataclass

@@ -178,7 +178,7 @@ class MatroskaReader:
 
     def _add_head(self, child: elements.Child) -> None:
         for item in clusters.framing(child):
-            self.stretches.plain(item.start, item.end, What(Content.FRAMING), item.vouched)
+            self.stretches.plain(item.start, item.end, What(Content.FRAMING), item.vouched, joins=False)
 
     def _add(self, child: elements.Child, claimed_end: typing.Optional[int]) -> None:
         """Adds a top-schema element, or bytes that no copy divides: after the Segment's end they are no gap."""

@@ -24,9 +24,10 @@ class Stretches:
             return (start,) * len(self._sizes)
         return tuple(start if end <= size else None for size in self._sizes)
 
-    def plain(self, start: int, end: int, what: What, vouched: Numbers = frozenset()) -> None:
+    def plain(self, start: int, end: int, what: What, vouched: Numbers = frozenset(), joins: bool = True) -> None:
+        """Adds bytes that no checksum covers. The header of an element does not join what is before it: its content may vouch for it."""
         last = self.made[-1] if self.made else None
-        if (last and last.kind is Kind.PLAIN and last.end == start and last.vouched == vouched and last.size + end - start <= MOST_PLAIN
+        if (joins and last and last.kind is Kind.PLAIN and last.end == start and last.vouched == vouched and last.size + end - start <= MOST_PLAIN
                 and (last.what.content, last.what.track) == (what.content, what.track)):
             last.size += end - start
             last.what = dataclasses.replace(last.what, end=what.end)

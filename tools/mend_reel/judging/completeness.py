@@ -69,7 +69,7 @@ def hidden(layout: Layout, out: Layout, results: Results) -> typing.Iterator[Rea
     """The listed frames that OUT's container does not show at their places."""
     shown = {(frame.track, frame.place, frame.size) for frame in out.frames}
     for number, frame in enumerate(layout.frames):
-        if (frame.track, results.in_out(frame.place), frame.size) not in shown and not results.is_absent(number):
+        if (frame.track, frame.place, frame.size) not in shown:
             order = results.orders[number]
             yield Reason(Why.HIDDEN, Content.FRAME, frame.track, (order, order), (frame.place, frame.end), (frame.time, frame.time))
 

@@ -16,7 +16,7 @@ BEFORE, AFTER = 2.0, 0.5
 HEADER = 64
 ENTRIES = "frame=pkt_pos,pkt_size"
 
-Decodes = typing.Callable[[Track, Frame, int], bool]
+Decodes = typing.Callable[[Track, Frame], bool]
 
 
 class FfmpegDecoder:
@@ -26,25 +26,21 @@ class FfmpegDecoder:
     def __init__(self, out: str) -> None:
         self.out = out
 
-    def __call__(self, track: Track, frame: Frame, place: int) -> bool:
-        """Whether a frame of a track, which lies at this place of the file, is decoded with those around it, and nothing complained of."""
+    def __call__(self, track: Track, frame: Frame) -> bool:
+        """Whether a frame of a track is decoded with those around it, and nothing complained of."""
         if not can_ask() or not has_range_coder(track.record):
             return False
         interval = f"{max(frame.time - BEFORE, 0):.3f}%{frame.time + AFTER:.3f}"
         done = run("ffprobe", "-v", "warning", "-threads", "1", "-protocol_whitelist", "file", "-select_streams", "v", "-read_intervals", interval,
                    "-show_entries", ENTRIES, "-of", "csv=p=0", "file:" + self.out)
         shown = (line.split(",") for line in done.stdout.decode("ascii", "replace").splitlines())
-        found = any(len(words) > 1 and words[0].isdigit() and 0 <= place - int(words[0]) <= HEADER and words[1] == str(frame.size) for words in shown)
+        found = any(len(words) > 1 and words[0].isdigit() and 0 <= frame.place - int(words[0]) <= HEADER and words[1] == str(frame.size) for words in shown)
         return done.returncode == 0 and not done.stderr.strip() and found
 
 
 def decoded(layout: Layout, stretches: typing.Sequence[Stretch], outcomes: typing.Sequence[Outcome], decodes: Decodes) -> frozenset[int]:
     """The places of those frames with guessed slices for which no other checksum vouches, and that decode. `stretches` are in the order of
-    OUT, which lacks those that no copy has, and `outcomes` have their numbers there."""
-    starts, size = [], 0
-    for stretch in stretches:
-        starts.append(size)
-        size += stretch.size if any(place is not None for place in stretch.places) else 0
+    OUT, and `outcomes` have their numbers there."""
     tracks, found = {track.number: track for track in layout.tracks}, set()
     for outcome in outcomes:
         stretch = stretches[outcome.number]
@@ -52,6 +48,6 @@ def decoded(layout: Layout, stretches: typing.Sequence[Stretch], outcomes: typin
             frame = stretch.parts[part]
             if outcome.state is not State.MISSING or not is_guessed(slices) or frame.track not in tracks:
                 continue
-            if decodes(tracks[frame.track], frame, starts[outcome.number] + frame.place - stretch.start):
+            if decodes(tracks[frame.track], frame):
                 found.add(frame.place)
     return frozenset(found)

@@ -37,13 +37,15 @@ class Why(enum.Enum):
     INDEX = "the index of the file names {it}, but {out} does not show {it}; a further copy may have {it}"
     ORDER = "by the times around, bytes of another place may lie here; a further copy may have the right ones"
     UNPLACED = "copy {copy} has {it}, and {out} has no place for {it}; see whether a copy of another length is the whole recording"
-    TRACK = "copy {copy} has {it}, and {out} lacks {it}; see whether that copy's file is the whole recording"
+    LACKS = "copy {copy} has {it}, and {out} lacks {it}; see whether that copy's file is the whole recording"
+    ALONE = "copy {copy} alone has {it}, {amount}, and no checksum covers {it}; a further copy may confirm {it}"
+    UNCHECKED = "no frame has a checksum, so no damage in them can be found; a further copy may confirm them"
     CONTRARY = "copy {copy} has other intact frames at these times; see whether it is of the same recording"
 
 
 # What lies there is not known.
 OF_BYTES = frozenset({Why.ABSENT, Why.UNDIVIDED})
-OF_FILE = frozenset({Why.SHORT, Why.SHORTER, Why.COUNT})
+OF_FILE = frozenset({Why.SHORT, Why.SHORTER, Why.COUNT, Why.UNCHECKED})
 OF_FRAMES = frozenset({Why.HOLE, Why.INDEX, Why.ORDER, Why.UNPLACED, Why.CONTRARY})
 
 
@@ -63,6 +65,11 @@ class Reason:
     has: int = 0
     count: int = 1
     because: Because = Because.ALONE
+
+    def joined_with(self, after: Reason) -> Reason:
+        """This reason and that of what lies after it as one."""
+        return dataclasses.replace(self, frames=widest(self.frames, after.frames), bytes=widest(self.bytes, after.bytes),
+                                   times=widest(self.times, after.times), count=self.count + after.count)
 
     def is_many(self) -> bool:
         if self.frames:
@@ -99,7 +106,8 @@ class Reason:
     def text(self, out: str = "OUT") -> str:
         """The reason in a line, in which OUT has a name."""
         why = self.why.value.format(it="them" if self.is_many() else "it", source=one_more(self.source), because=self.because.value,
-                                    copy=one_more(self.copy), has=self.has, count=self.count, out=out)
+                                    copy=one_more(self.copy), has=self.has, count=self.count, out=out,
+                                    amount=f"{self.count:,} byte{'s' if self.count != 1 else ''}")
         return f"{self.subject(out)}{self.where()}: {why}"
 
 
@@ -134,7 +142,7 @@ def goes_on(before: Reason, after: Reason) -> bool:
         return False
     if before.frames and after.frames:
         return after.frames[0] == before.frames[1] + 1
-    if before.frames or after.frames or before.why in OF_FILE:
+    if before.frames or after.frames or before.why in OF_FILE or before.why is Why.ALONE:
         return False
     if before.bytes and after.bytes:
         return after.bytes[0] <= before.bytes[1] + NEIGHBOUR
@@ -155,10 +163,7 @@ def join(reasons: typing.Iterable[Reason]) -> list[Reason]:
         key = key_of(reason)
         at = last.get(key)
         if at is not None and goes_on(joined[at], reason):
-            before = joined[at]
-            joined[at] = dataclasses.replace(
-                before, frames=widest(before.frames, reason.frames), bytes=widest(before.bytes, reason.bytes),
-                times=widest(before.times, reason.times), count=before.count + reason.count)
+            joined[at] = joined[at].joined_with(reason)
         else:
             last[key] = len(joined)
             joined.append(reason)

@@ -4,10 +4,9 @@ from __future__ import annotations
 import bisect
 import dataclasses
 import enum
-import itertools
 import typing
 
-from ..model import Frame, Kind, Layout, Outcome, SliceReport, State, Stretch
+from ..model import Content, Frame, Kind, Layout, Outcome, SliceReport, State, Stretch
 
 GIVEN = ("settled", "woven")
 GUESSED = ("voted", "repaired")
@@ -28,7 +27,7 @@ ORDER = list(FrameState)
 @dataclasses.dataclass(frozen=True)
 class FrameResult:
     """A frame that is damaged in some copy: its number in the layout, its number in its track, its stretch, how it stands in OUT, in which
-    copies it is damaged, which lack it, and its slices as the program listed them."""
+    copies it is damaged, and its slices as the program listed them."""
 
     number: int
     order: int
@@ -36,7 +35,6 @@ class FrameResult:
     stretch: int
     state: FrameState
     damaged: tuple[int, ...]
-    lacking: tuple[int, ...]
     slices: tuple[SliceReport, ...] = ()
 
 
@@ -56,15 +54,21 @@ class Counts:
 
 @dataclasses.dataclass
 class Sums:
-    """How many bytes of OUT pass a checksum, are equal in several copies, are of one copy alone, and are none of these."""
+    """How many bytes of OUT pass a checksum, are equal in several copies, are of one copy alone, are none of these, and are of the one copy
+    that could be read there."""
 
     verified: int = 0
     agreed: int = 0
     alone: int = 0
     open: int = 0
+    read: int = 0
 
     def named(self) -> dict[str, int]:
-        return {"verified": self.verified, "agreed": self.agreed, "alone": self.alone, "open": self.open}
+        return dataclasses.asdict(self)
+
+    def unchecked(self) -> float:
+        """The share of the bytes that no checksum covers."""
+        return 1 - self.verified / max(sum(self.named().values()), 1)
 
 
 def is_given(slices: typing.Sequence[SliceReport]) -> bool:
@@ -83,8 +87,8 @@ def copies_of(marks: str, mark: str, copy_of_mark: typing.Sequence[int]) -> set[
 
 
 class Results:
-    """What became of the frames of a recording. `copy_of_mark` has the copy that each mark of an outcome is of; `decoded` the places of frames
-    with guessed slices that decode."""
+    """What became of the frames of a recording. `copy_of_mark` has the copy that each mark of an outcome is of; `decoded` the places of
+    frames with guessed slices that decode."""
 
     def __init__(self, layout: Layout, stretches: typing.Sequence[Stretch], outcomes: typing.Iterable[Outcome],
                  copy_of_mark: typing.Sequence[int], decoded: typing.AbstractSet[int] = frozenset()) -> None:
@@ -92,25 +96,15 @@ class Results:
         self.places = [frame.place for frame in layout.frames]
         self.orders = count_in_tracks(layout.frames)
         self.outcomes = {outcome.number: outcome for outcome in outcomes}
-        self.having = [sum(place is not None for place in stretch.places) for stretch in stretches]
         self.states = [self.find_state(number, stretch) for number, stretch in enumerate(stretches)]
-        absent = [stretch for stretch, having in zip(stretches, self.having) if not having]
-        self.absent_starts = [stretch.start for stretch in absent]
-        self.absent_sums = [0, *itertools.accumulate(stretch.size for stretch in absent)]
+        self.vouch_for_headers()
         self.frames: dict[int, FrameResult] = {}
-        for number, stretch in enumerate(stretches):
-            outcome = self.outcomes.get(number)
-            if outcome or not self.having[number]:
-                self.add(number, stretch, outcome)
+        for number, outcome in self.outcomes.items():
+            self.add(number, stretches[number], outcome)
 
-    def source(self, stretch: Stretch) -> typing.Optional[int]:
+    def source(self, stretch: Stretch) -> int:
         """The copy that a stretch is taken from where nothing vouches for its bytes."""
-        has = stretch.source < len(stretch.places) and stretch.places[stretch.source] is not None
-        return self.copy_of_mark[stretch.source] if has else None
-
-    def in_out(self, place: int) -> int:
-        """Where a place of the layout is in OUT, which lacks what no copy has."""
-        return place - self.absent_sums[bisect.bisect_left(self.absent_starts, place)]
+        return self.copy_of_mark[stretch.source]
 
     def numbers(self, stretch: Stretch) -> range:
         """The numbers of the frames that have bytes in a stretch."""
@@ -119,12 +113,11 @@ class Results:
             first -= 1
         return range(first, bisect.bisect_left(self.places, stretch.end))
 
-    def add(self, number: int, stretch: Stretch, outcome: typing.Optional[Outcome]) -> None:
+    def add(self, number: int, stretch: Stretch, outcome: Outcome) -> None:
         """Adds those frames of a stretch that some copy has damaged. A frame that no checksum is of may lie in several stretches."""
         parts = {frame.place: part for part, frame in enumerate(stretch.parts)}
         for at in self.numbers(stretch):
-            result = self.judge(number, outcome, parts.get(self.places[at]), at) if outcome else self.absent(number, at)
-            known = self.frames.get(at)
+            result, known = self.judge(number, outcome, parts.get(self.places[at]), at), self.frames.get(at)
             if result and known:
                 worse = max(result, known, key=lambda each: ORDER.index(each.state))
                 result = dataclasses.replace(worse, damaged=tuple(sorted({*result.damaged, *known.damaged})))
@@ -134,13 +127,11 @@ class Results:
     def judge(self, number: int, outcome: Outcome, part: typing.Optional[int], at: int) -> typing.Optional[FrameResult]:
         """What became of a frame; `part` is its number in its stretch, where the program lists its slices."""
         slices = () if part is None else tuple(outcome.slices.get(part, ()))
-        zeros, ones = copies_of(outcome.marks, "0", self.copy_of_mark), copies_of(outcome.marks, "1", self.copy_of_mark)
-        lacking = copies_of(outcome.marks, "-", self.copy_of_mark) - zeros - ones
         damaged = self.damaged(self.stretches[number].kind, outcome, part is not None, slices)
         if not damaged:
             return None
-        result = FrameState.WOVEN if self.places[at] in self.decoded else how_it_stands(outcome.state, slices, part is not None)
-        return FrameResult(at, self.orders[at], self.layout.frames[at], number, result, tuple(sorted(damaged)), tuple(sorted(lacking)), slices)
+        state = FrameState.WOVEN if self.places[at] in self.decoded else how_it_stands(outcome.state, slices, part is not None)
+        return FrameResult(at, self.orders[at], self.layout.frames[at], number, state, tuple(sorted(damaged)), slices)
 
     def damaged(self, kind: Kind, outcome: Outcome, is_part: bool, slices: typing.Sequence[SliceReport]) -> set[int]:
         """The copies that have a frame, and not as it was recorded: other bytes than OUT has in a slice, or none that passes."""
@@ -148,24 +139,15 @@ class Results:
         if kind is Kind.ELEMENT and is_part and not slices:
             return set()
         if not slices:
-            return zeros if outcome.state.is_good() else zeros | ones
+            return zeros if outcome.state.is_good() or outcome.state is State.ALONE else zeros | ones
         if not is_given(slices) and outcome.state not in (State.WHOLE, State.WOVEN):
             return zeros | ones
         damaged = set().union(*(copies_of(place.marks, "0", self.copy_of_mark) for place in slices))
         return damaged if is_given(slices) else damaged | zeros
 
-    def absent(self, number: int, at: int) -> FrameResult:
-        """A frame that no copy has."""
-        return FrameResult(at, self.orders[at], self.layout.frames[at], number, FrameState.LOST, (), tuple(sorted(set(self.copy_of_mark))))
-
     def within(self, number: int) -> list[FrameResult]:
         """The damaged frames of a stretch."""
         return [self.frames[at] for at in self.numbers(self.stretches[number]) if at in self.frames]
-
-    def is_absent(self, at: int) -> bool:
-        """Whether no copy has a frame."""
-        result = self.frames.get(at)
-        return result is not None and not result.damaged
 
     def counts(self) -> Counts:
         counts = Counts(frames=len(self.layout.frames), damaged=len(self.frames))
@@ -178,11 +160,9 @@ class Results:
     def sums(self) -> Sums:
         sums = Sums()
         for number, (stretch, state) in enumerate(zip(self.stretches, self.states)):
-            if state is State.AGREED:
-                sums.agreed += stretch.size
-            elif state is State.ALONE:
-                sums.alone += stretch.size
-            elif self.having[number]:
+            if state in (State.AGREED, State.ALONE, State.READ):
+                setattr(sums, state.value, getattr(sums, state.value) + stretch.size)
+            else:
                 verified = self.verified(number, stretch)
                 sums.verified += verified
                 sums.open += stretch.size - verified
@@ -192,23 +172,32 @@ class Results:
         return self.states[number]
 
     def is_vouched(self, number: int) -> bool:
-        """Whether a checksum or all copies vouch for a stretch, or it is a frame that decodes with guessed slices."""
+        """Whether a checksum or several copies vouch for a stretch, or it is a frame that decodes with guessed slices."""
         return self.states[number].is_good() or self.is_decoded(self.stretches[number])
 
     def is_decoded(self, stretch: Stretch) -> bool:
         return stretch.kind is Kind.FRAME and bool(stretch.parts) and all(frame.place in self.decoded for frame in stretch.parts)
 
     def find_state(self, number: int, stretch: Stretch) -> State:
-        """The state of a stretch. Those that the program did not list are undamaged."""
-        outcome, having = self.outcomes.get(number), self.having[number]
-        if outcome:
-            return outcome.state
-        if not having:
-            return State.MISSING
-        return State.WHOLE if stretch.kind is not Kind.PLAIN else State.AGREED if having > 1 else State.ALONE
+        """The state of a stretch. Those that the program did not list are undamaged. What one copy alone has was read where maps say that
+        the others could not be read there."""
+        outcome, having = self.outcomes.get(number), sum(place is not None for place in stretch.places)
+        state = (outcome.state if outcome else State.WHOLE if stretch.kind is not Kind.PLAIN
+                 else State.AGREED if having > 1 else State.ALONE)
+        return State.READ if state is State.ALONE and stretch.is_read else state
+
+    def vouch_for_headers(self) -> None:
+        """Counts the header of an element whose content passes its CRC-32 as verified: with another size it could not pass. One that is
+        known by its content alone is not."""
+        gaps = {place for place, _ in self.layout.gaps}
+        for number, (header, content) in enumerate(zip(self.stretches, self.stretches[1:])):
+            if (self.states[number] is State.ALONE and header.what.content is Content.FRAMING and header.start not in gaps
+                    and content.kind is Kind.ELEMENT and self.states[number + 1] in (State.WHOLE, State.WOVEN)):
+                self.states[number] = State.WHOLE
 
     def verified(self, number: int, stretch: Stretch) -> int:
-        """How many bytes of a stretch pass a checksum in OUT: all, or those of its frames that are given back, or decode with guessed slices."""
+        """How many bytes of a stretch pass a checksum in OUT: all, or those of its frames that are given back, or decode with guessed
+        slices."""
         if self.state(number) in (State.WHOLE, State.WOVEN) or self.is_decoded(stretch):
             return stretch.size
         if stretch.kind is not Kind.ELEMENT:
@@ -220,6 +209,16 @@ class Results:
             if not result or result.slices and is_given(result.slices) or self.places[at] in self.decoded:
                 given += parts.get(self.places[at], 0)
         return given
+
+    def verified_in(self, copy: int) -> int:
+        """How many bytes of a copy pass a checksum: those of stretches that do, and that it has as OUT has them."""
+        found = 0
+        for number, stretch in enumerate(self.stretches):
+            outcome = self.outcomes.get(number)
+            marks = outcome.marks if outcome else "".join("-" if place is None else "1" for place in stretch.places)
+            if self.states[number] in (State.WHOLE, State.WOVEN) and copy in copies_of(marks, "1", self.copy_of_mark):
+                found += stretch.size
+        return found
 
 
 def how_it_stands(state: State, slices: typing.Sequence[SliceReport], has_parts: bool) -> FrameState:

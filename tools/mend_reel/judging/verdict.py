@@ -1,4 +1,4 @@
-"""Whether OUT is what was recorded, as far as any check can tell, and if not why."""
+"""Whether OUT is what was recorded, as far as any check can tell, and if not why. The status is decided here and nowhere else."""
 from __future__ import annotations
 
 import collections
@@ -6,8 +6,9 @@ import dataclasses
 import typing
 
 from ..copies.arrangement import Left, Matched
-from ..model import Because, Claims, Content, Kind, Layout, Outcome, State, Stretch, Track
+from ..model import Because, Claims, Content, Kind, Layout, Outcome, State, Stretch
 from .completeness import Seen, find_lacks
+from .digests import Compared
 from .reasons import Reason, Why, join
 from .results import GUESSED, Counts, FrameResult, FrameState, Results, Sums, is_guessed
 
@@ -20,8 +21,9 @@ PLAYED = (Content.SOUND, Content.VIDEO, Content.SUBTITLES)
 class Evidence:
     """What the verdict is judged by: what OUT was made by and its stretches as they were listed; what became of those that are not undamaged;
     what lies where in OUT as it was read again (None where nothing can be read); what the containers of copies claim of the recording;
-    copies that are other files; copies that are left out; which copy each mark of an outcome is of; the tracks of the other files; whether
-    damaged element headers of copies were left out; and the places of frames with guessed slices that decode."""
+    copies that are other files; copies that are left out; which copy each mark of an outcome is of; what the other files have, by copy;
+    whether damaged element headers of copies were left out; the places of frames with guessed slices that decode; what a kept digest
+    says; and whether one file is checked, and no OUT is made."""
 
     layout: Layout
     stretches: typing.Sequence[Stretch]
@@ -31,49 +33,75 @@ class Evidence:
     matched: typing.Sequence[Matched] = ()
     left: typing.Sequence[Left] = ()
     copy_of_mark: typing.Sequence[int] = ()
-    tracks: typing.Mapping[int, typing.Sequence[Track]] = dataclasses.field(default_factory=dict)
+    others: typing.Mapping[int, Layout] = dataclasses.field(default_factory=dict)
     has_damaged_heads: bool = False
     decoded: typing.AbstractSet[int] = frozenset()
+    compared: typing.Optional[Compared] = None
+    is_check: bool = False
 
 
 @dataclasses.dataclass
 class Verdict:
-    """Status 0 where OUT is what was recorded, as far as any check can tell, else 3 and each reason."""
+    """Each reason why OUT may not be what was recorded, what else is to be said, and what a kept digest says. A digest of a whole file
+    decides; so does one of its frames that differ."""
 
-    status: int
     reasons: list[Reason]
     notes: list[str]
     sums: Sums
     counts: Counts
     results: Results
     has_damage: bool = False
+    compared: typing.Optional[Compared] = None
+    is_check: bool = False
+
+    @property
+    def status(self) -> int:
+        """0 where OUT is what was recorded, as far as any check can tell (of a file that is checked: no damage was found), or else 3."""
+        if self.compared and not self.compared.is_original:
+            return 3
+        return 3 if self.reasons else 0
 
     def sentence(self, out: str = "OUT") -> str:
         """The verdict for a person."""
-        out = out[:1].upper() + out[1:]
+        if self.compared and (self.compared.is_of_all or not self.compared.is_original):
+            return self.compared.text
         if self.reasons:
             many = len(self.reasons) > 1
             count = f"{len(self.reasons)} places are" if many else "one place is"
             return f"{out} is not known to be what was recorded: {count} in doubt."
+        if self.is_check:
+            return f"{out}: no damage was found; {self.unchecked()}."
         found = "all damage is mended" if self.has_damage else "no damage was found"
         return f"{out} is what was recorded, as far as any check can tell: {found}."
+
+    def unchecked(self) -> str:
+        """How much no checksum covers, and which contents no checksum covers at all."""
+        share, checked, contents = 100 * self.sums.unchecked(), set(), {}
+        for number, stretch in enumerate(self.results.stretches):
+            contents[stretch.what.content] = None
+            if self.results.state(number) in (State.WHOLE, State.WOVEN):
+                checked |= {stretch.what.content} | (set(PLAYED) if stretch.what.content is Content.CLUSTER else set())
+        alone = [f"all of the {content.value}" for content in contents if content in PLAYED and content not in checked]
+        amount = "under 0.1" if share < 0.1 else f"{share:.1f}"
+        return f"{amount} % of the bytes can't be checked" + (", among them " + " and ".join(alone) if alone else "")
 
 
 def judge(evidence: Evidence) -> Verdict:
     """The verdict on OUT."""
     copy_of_mark = evidence.copy_of_mark or range(max((len(stretch.places) for stretch in evidence.stretches), default=0))
     results = Results(evidence.layout, evidence.stretches, evidence.outcomes, copy_of_mark, evidence.decoded)
-    sums, counts = results.sums(), results.counts()
-    found = [*of_gaps(evidence.layout), *of_stretches(results)]
+    found = [*of_gaps(evidence.layout), *of_stretches(results), *(of_unchecked(results) if evidence.is_check else of_one_copy(results))]
     found.sort(key=lambda reason: reason.bytes or (0, 0))
     found += find_lacks(Seen(evidence.layout, evidence.out, results, evidence.claims, evidence.matched))
-    found += of_tracks(evidence)
+    found += of_other_contents(evidence)
     if sum(track.is_ffv1 for track in evidence.layout.tracks) == 1:
         found = [dataclasses.replace(reason, track=None) if reason.content is Content.FRAME else reason for reason in found]
-    reasons = join(found)
+    compared, counts = evidence.compared, results.counts()
+    reasons = [] if compared and compared.is_original and compared.is_of_all else join(found)
     notes = [f"copy {left.number + 1} is left out: {left.text()}" for left in evidence.left]
+    notes += [compared.text] if compared and compared.is_original and not compared.is_of_all else []
     has_damage = bool(counts.damaged or results.outcomes or evidence.has_damaged_heads or is_cut(evidence, copy_of_mark))
-    return Verdict(3 if reasons else 0, reasons, notes + of_the_rest(results) + of_one_copy(results), sums, counts, results, has_damage)
+    return Verdict(reasons, notes + of_the_rest(results), results.sums(), counts, results, has_damage, compared, evidence.is_check)
 
 
 def is_cut(evidence: Evidence, copy_of_mark: typing.Sequence[int]) -> bool:
@@ -83,29 +111,44 @@ def is_cut(evidence: Evidence, copy_of_mark: typing.Sequence[int]) -> bool:
     return any(None in stretch.places and any(stretch.places[at] is None for at in own) for stretch in evidence.stretches)
 
 
-def of_tracks(evidence: Evidence) -> typing.Iterator[Reason]:
-    """What other files have tracks of, and OUT has not as many."""
-    own = collections.Counter(track.content for track in evidence.layout.tracks)
-    for copy, tracks in evidence.tracks.items():
-        more = collections.Counter(track.content for track in tracks) - own
-        yield from (Reason(Why.TRACK, content, copy=copy) for content in more)
+def of_other_contents(evidence: Evidence) -> typing.Iterator[Reason]:
+    """What other files have, and OUT lacks or has less of: tracks of a kind, attachments, chapters, tags."""
+    own = evidence.layout.contents()
+    for copy, other in evidence.others.items():
+        yield from (Reason(Why.LACKS, content, copy=copy) for content in other.contents() - own)
 
 
-def of_one_copy(results: Results) -> list[str]:
-    """What plays in the recording without a checksum, and is of one copy alone though there are several: damage there can't be seen."""
-    if len(set(results.copy_of_mark)) < 2:
-        return []
-    sizes: typing.Counter[str] = collections.Counter()
+def of_unchecked(results: Results) -> typing.Iterator[Reason]:
+    """That no frame of a file that is checked has a checksum."""
+    frames = [number for number, stretch in enumerate(results.stretches) if results.numbers(stretch)]
+    if frames and all(results.state(number) is State.ALONE for number in frames):
+        yield Reason(Why.UNCHECKED)
+
+
+def of_one_copy(results: Results) -> typing.Iterator[Reason]:
+    """What one copy alone has and no checksum covers: nothing vouches for it. Stretches of one content are one reason, up to the next one
+    for which something vouches."""
+    runs: dict[tuple[Content, typing.Optional[int]], Reason] = {}
     for number, stretch in enumerate(results.stretches):
-        if results.state(number) is State.ALONE and stretch.what.content in PLAYED:
-            sizes[Reason(Why.ABSENT, stretch.what.content, stretch.what.track).subject("OUT")] += stretch.size
-    return [f"{what}: {size} bytes have no checksum and are of one copy alone, so damage there can't be seen" for what, size in sizes.items()]
+        key = stretch.what.content, stretch.what.track
+        if results.state(number) is not State.ALONE:
+            yield from filter(None, [runs.pop(key, None)])
+            continue
+        reason, copy = of_bytes(Why.ALONE, stretch, results.source(stretch)), results.source(stretch)
+        reason = dataclasses.replace(reason, copy=copy, count=stretch.size)
+        before = runs.get(key)
+        if before and before.copy == copy:
+            runs[key] = before.joined_with(reason)
+        else:
+            yield from filter(None, [before])
+            runs[key] = reason
+    yield from runs.values()
 
 
 def of_the_rest(results: Results) -> list[str]:
     """What lies beside frames that are not restored, in elements that are not either: nothing vouches for it."""
     lost = {result.stretch for result in results.frames.values() if result.state is FrameState.LOST}
-    around = [number for number in lost if results.stretches[number].kind is Kind.ELEMENT]
+    around = [number for number in lost if results.stretches[number].kind is Kind.ELEMENT and not results.is_vouched(number)]
     size = sum(results.stretches[number].size - sum(frame.size for frame in results.stretches[number].parts) for number in around)
     if not size:
         return []
@@ -120,21 +163,19 @@ def of_gaps(layout: Layout) -> typing.Iterator[Reason]:
 
 
 def of_stretches(results: Results) -> typing.Iterator[Reason]:
-    """The stretches of OUT that are not whole, woven, agreed or alone."""
+    """The stretches of OUT that are not whole, woven, agreed or read; what is alone stands apart."""
     for number, stretch in enumerate(results.stretches):
         state = results.state(number)
-        if not results.is_vouched(number):
+        if state is not State.ALONE and not results.is_vouched(number):
             lost = [result for result in results.within(number) if result.state is FrameState.LOST]
             yield from of_stretch(stretch, state, lost, results.source(stretch))
 
 
-def of_stretch(stretch: Stretch, state: State, lost: typing.Sequence[FrameResult], source: typing.Optional[int]) -> typing.Iterator[Reason]:
+def of_stretch(stretch: Stretch, state: State, lost: typing.Sequence[FrameResult], source: int) -> typing.Iterator[Reason]:
     """Why a stretch is in doubt: the frames that are lost in it, if it is for them, else all of it."""
     having = sum(place is not None for place in stretch.places)
     damaged = Why.ALONE_DAMAGED if having == 1 else Why.DAMAGED
-    if not having:
-        yield of_bytes(Why.ABSENT, stretch)
-    elif state is State.OPEN:
+    if state is State.OPEN:
         yield dataclasses.replace(of_frame(Why.DIFFER, lost[0], source), because=stretch.because) if lost else of_bytes(Why.DIFFER, stretch, source)
     elif state is State.DISPUTED:
         yield of_bytes(Why.DISPUTED, stretch, source)
@@ -160,7 +201,7 @@ def guess_of(frame: FrameResult) -> typing.Optional[Why]:
     return Why.GUESSED if voted and repaired else Why.VOTED if voted else Why.REPAIRED
 
 
-def of_frame(why: Why, result: FrameResult, source: typing.Optional[int]) -> Reason:
+def of_frame(why: Why, result: FrameResult, source: int) -> Reason:
     frame = result.frame
     return Reason(why, Content.FRAME, frame.track, (result.order, result.order), (frame.place, frame.end), (frame.time, frame.time),
                   source if why in (Why.DIFFER, Why.DISPUTED) else None)

@@ -12,10 +12,9 @@ import tempfile
 import typing
 
 from ..model import Fault
-from . import options
+from . import options, session
 from .output_files import INTERRUPTS, Files, uninterrupted
 from .progress import Progress
-from .session import Session
 
 
 CONTROLS = re.compile(r"[\x00-\x1f\x7f]")
@@ -58,6 +57,11 @@ def write_out(lines: typing.Iterable[str]) -> None:
         raise Fault(f"cannot write standard output: {error.strerror}") from None
 
 
+def complain(fault: Exception) -> None:
+    """Prints a fault in a line on standard error."""
+    print(f"mend-reel: {in_one_line(str(fault))}".encode(errors="surrogateescape").decode(errors="replace"), file=sys.stderr)
+
+
 def main() -> int:
     asked = options.read(sys.argv[1:])
     for number in INTERRUPTS:
@@ -71,14 +75,16 @@ def main() -> int:
         check(asked)
         with uninterrupted():
             work = pathlib.Path(tempfile.mkdtemp(prefix="mend-reel."))
-        lines, status = Session(asked, work, files, progress).run()
+        lines, faults, status = session.run(asked, work, files, progress)
         progress.end()
         write_out(lines)
+        for fault in faults:
+            complain(fault)
         files.settle()
         return status
     except (Fault, OSError) as fault:
         progress.end()
-        print(f"mend-reel: {in_one_line(str(fault))}".encode(errors="surrogateescape").decode(errors="replace"), file=sys.stderr)
+        complain(fault)
         return 1
     finally:
         if work:

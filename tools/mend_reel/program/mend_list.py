@@ -10,31 +10,22 @@ from ..model import Frame, Kind, Stretch
 FIRST_PART = 6
 
 
-@dataclasses.dataclass
-class Listed:
-    """The stretches of a list, as they stand in it, and those left out because no copy has them: gaps of OUT."""
-
-    written: list[Stretch] = dataclasses.field(default_factory=list)
-    left: list[Stretch] = dataclasses.field(default_factory=list)
-
-
-def write(stretches: typing.Iterable[Stretch], file: typing.TextIO) -> Listed:
+def write(stretches: typing.Iterable[Stretch], file: typing.TextIO) -> list[Stretch]:
     """Writes the list of some stretches to a file, and returns them as they stand there. What the program would refuse is changed before:
     a place that does not rise is none, and where the source lacks the stretch the first copy that has it is its source."""
-    listed = Listed()
+    listed: list[Stretch] = []
     ends: list[int] = []
     for stretch in stretches:
         ends += [0] * (len(stretch.places) - len(ends))
         for piece in pieces(stretch):
             piece = rising(piece, ends)
             having = [number for number, place in enumerate(piece.places) if place is not None]
-            if not having:
-                listed.left.append(piece)
-                continue
-            piece.source = piece.source if piece.source in having else having[0]
+            assert having, "each byte of OUT is in some copy"
+            source = piece.source if piece.source in having else having[0]
+            piece = piece if source == piece.source else dataclasses.replace(piece, source=source)
             for number in having:
                 ends[number] = (piece.places[number] or 0) + piece.size
-            listed.written.append(piece)
+            listed.append(piece)
             file.writelines(lines(piece))
     return listed
 

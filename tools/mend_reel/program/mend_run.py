@@ -73,7 +73,7 @@ def mend(program: str, stretches: typing.Sequence[Stretch], listed: pathlib.Path
     otherwise, or that is open. `report` is called with how many bytes of OUT are done."""
     names = [link_to(copy, work) for copy in copies]
     command = [program, "mend", str(listed), out, *map(str, names)]
-    found, done, count, is_understood = [], 0, 0, True
+    found, done, count, is_alone, is_understood = [], 0, 0, False, True
     with open(work / "faults", "w+b") as faults:
         try:
             child = subprocess.Popen(command, stdin=subprocess.DEVNULL, stdout=subprocess.PIPE, stderr=faults, restore_signals=False)
@@ -86,6 +86,7 @@ def mend(program: str, stretches: typing.Sequence[Stretch], listed: pathlib.Path
                         raise ValueError
                     done += stretches[count].size
                     count += 1
+                    is_alone |= outcome.state is State.ALONE
                     if not outcome.is_undamaged():
                         found.append(outcome)
                     report(done)
@@ -100,7 +101,7 @@ def mend(program: str, stretches: typing.Sequence[Stretch], listed: pathlib.Path
         faults.seek(0)
         judge_end(child.returncode, faults.read(), {out: out_name, **{str(name): copy.path for name, copy in zip(names, copies)}})
     good = all(outcome.state.is_good() for outcome in found)
-    if count != len(stretches) or (child.returncode == 0) != good:
+    if count != len(stretches) or child.returncode not in ({0, 3} if good and is_alone else {0} if good else {3}):
         raise Fault(f"{program} did not report what became of each stretch")
     return found
 

@@ -11,11 +11,13 @@ from ..containers import ffmpeg_files, ffprobe, matroska
 from ..copies import broken_headers, differences, preferred_copy
 from ..copies.arrangement import arrange, describe
 from ..copies.inputs import Inputs, add_other_files
-from ..judging import copy_health, decoding
+from ..judging import copy_health, decoding, digests
+from ..judging.digests import Compared
 from ..judging.frame_checks import Scan
 from ..judging.results import FrameState
 from ..judging.verdict import Evidence, Verdict, judge
-from ..model import Claims, Copy, Frame, Layout, Outcome, Stretch, open_copy
+from ..model import Claims, Copy, Fault, Frame, Layout, Outcome, Stretch, open_copy
+from ..reports.summary import Summary
 from ..reports.writer import Reporter
 from . import mend_list
 from .external_programs import find_ffv1restore
@@ -41,8 +43,26 @@ class Made:
     decoded: frozenset[int] = frozenset()
 
 
+def run(options: Options, work: pathlib.Path, files: Files, progress: Progress) -> tuple[list[str], list[Fault], int]:
+    """Makes OUT, or judges each file by itself. Returns the lines to print, the faults of files that can't be judged, and the exit status."""
+    reporter, summaries, faults = Reporter(options, find_ffv1restore(), files), [], []
+    if options.out is not None:
+        summaries.append(Session(options, work, files, progress).run(reporter))
+    for number, path in enumerate(options.copies if options.out is None else ()):
+        folder = work / str(number)
+        folder.mkdir()
+        try:
+            summaries.append(Session(dataclasses.replace(options, copies=(path,)), folder, files, progress).run(reporter))
+        except Fault as fault:
+            faults.append(fault)
+    if not summaries:
+        raise faults[0]
+    lines, status = reporter.report(summaries)
+    return lines, faults, 1 if faults else status
+
+
 class Session:
-    """One call of the tool."""
+    """One OUT, or one file that is checked."""
 
     def __init__(self, options: Options, work: pathlib.Path, files: Files, progress: Progress) -> None:
         self.options, self.work, self.files, self.progress = options, work, files, progress
@@ -53,11 +73,19 @@ class Session:
         self.has_damaged_heads = False
         self.reads: list[bool] = []
 
-    def run(self) -> tuple[list[str], int]:
-        """Does the work, but for giving the files that are made their names. Returns the lines to print, and the exit status."""
+    def run(self, reporter: Reporter) -> Summary:
+        """Does the work, but for giving the files that are made their names."""
         for path in filter(None, (self.options.keep, self.options.pictures)):
             self.files.make_folder(path)
         copies = [open_copy(path) for path in self.options.copies]
+        try:
+            return self.judged(copies, reporter)
+        finally:
+            for copy in copies:
+                os.close(copy.file)
+
+    def judged(self, copies: typing.Sequence[Copy], reporter: Reporter) -> Summary:
+        """What becomes of some copies."""
         self.progress.begin("reading the containers")
         for copy, form in zip(copies, of_each(self.options.jobs, self.form, copies)):
             copy.form = form
@@ -71,13 +99,18 @@ class Session:
         others = {matched.number: describe([copies[matched.number]], self.judge, False) for matched in arrangement.matched}
         claims += [other.claims for other in others.values()]
         made = self.make(layout, inputs)
-        verdict = judge(Evidence(layout, made.stretches, made.outcomes, made.out, claims, arrangement.matched, arrangement.left,
-                                 inputs.numbers, {number: other.tracks for number, other in others.items()}, self.has_damaged_heads,
-                                 made.decoded))
+        verdict = judge(Evidence(
+            layout, made.stretches, made.outcomes, made.out, claims, arrangement.matched, arrangement.left, inputs.numbers, others,
+            self.has_damaged_heads, made.decoded, self.compared(made.part or self.options.copies[0]), self.options.out is None))
         self.keep_frames(layout, inputs, made, verdict)
-        summary = Reporter(self.options, self.program, self.files, self.notes).report(copies, arrangement, layout, verdict, made.part)
         self.keeper.hand_over(self.options.copies)
-        return summary
+        return reporter.summary(copies, arrangement, layout, verdict, made.part, self.notes)
+
+    def compared(self, path: str) -> typing.Optional[Compared]:
+        """What a kept digest says of OUT, or of the file that is checked."""
+        if self.options.digest is None:
+            return None
+        return digests.compare(self.options.digest, path, self.options.out or path, self.options.copies)
 
     @staticmethod
     def form(copy: Copy) -> str:
@@ -157,32 +190,30 @@ class Session:
         listed = self.write_list(layout.stretches)
         outcomes = self.mend_listed(listed, out, layout.size, inputs)
         if self.follows_others(layout, listed, outcomes, inputs):
-            listed = mend_list.Listed(self.write_list(listed.written).written, listed.left)
+            listed = self.write_list(listed)
             outcomes = self.mend_listed(listed, out, layout.size, inputs)
         self.keeper.keep_list(self.work / "list", inputs.files)
-        order = sorted([*listed.written, *listed.left], key=lambda stretch: stretch.start)
-        numbers = {id(stretch): number for number, stretch in enumerate(order)}
-        return order, [dataclasses.replace(outcome, number=numbers[id(listed.written[outcome.number])]) for outcome in outcomes]
+        return listed, outcomes
 
-    def follows_others(self, layout: Layout, listed: mend_list.Listed, outcomes: typing.Sequence[Outcome], inputs: Inputs) -> bool:
+    def follows_others(self, layout: Layout, listed: list[Stretch], outcomes: typing.Sequence[Outcome], inputs: Inputs) -> bool:
         """Chooses the copies that are followed in stretches whose bytes nothing vouches for, by where the program reports that copies differ.
         Returns whether they are others than were followed."""
-        doubtful = [listed.written[outcome.number] for outcome in outcomes if not outcome.state.is_good()]
+        doubtful = [listed[outcome.number] for outcome in outcomes if not outcome.state.is_good()]
         before = [stretch.source for stretch in doubtful]
         if doubtful:
             reads = self.reads + [False] * (len(inputs.files) - len(self.reads))
-            preferred_copy.choose(dataclasses.replace(layout, stretches=listed.written), inputs.files, [0] * len(reads), reads,
+            preferred_copy.choose(dataclasses.replace(layout, stretches=listed), inputs.files, [0] * len(reads), reads,
                           lambda frames: self.passing(frames, inputs.files), {outcome.number for outcome in outcomes})
         return [stretch.source for stretch in doubtful] != before
 
-    def write_list(self, stretches: typing.Sequence[Stretch]) -> mend_list.Listed:
+    def write_list(self, stretches: typing.Sequence[Stretch]) -> list[Stretch]:
         with open(self.work / "list", "w", encoding="ascii") as text:
             return mend_list.write(stretches, text)
 
-    def mend_listed(self, listed: mend_list.Listed, out: str, size: int, inputs: Inputs) -> list[Outcome]:
+    def mend_listed(self, listed: list[Stretch], out: str, size: int, inputs: Inputs) -> list[Outcome]:
         """Has the program make OUT by the list."""
         self.progress.begin("mending")
-        return mend(self.program, listed.written, self.work / "list", out, self.options.out or out, inputs.files, self.work,
+        return mend(self.program, listed, self.work / "list", out, self.options.out or out, inputs.files, self.work,
                     lambda done: self.progress.at(done, size))
 
     # ---- what is kept

@@ -42,7 +42,7 @@ def document(summary: Summary) -> Made:
         "bytes": verdict.sums.named(), "frames": {name.replace(" ", "_"): count for name, count in verdict.counts.named().items()},
         "verdict": {"status": verdict.status, "sentence": text_of(summary.sentence()),
                     "reasons": [reason_of(reason, summary.out_name()) for reason in verdict.reasons]},
-        "digest": {"is_original": summary.compared.is_original, "sentence": text_of(summary.compared.text)} if summary.compared else None,
+        "digest": {"is_original": verdict.compared.is_original, "sentence": text_of(verdict.compared.text)} if verdict.compared else None,
         "notes": [text_of(note) for note in [*summary.notes, *verdict.notes]],
     }
 
@@ -94,12 +94,11 @@ def listed(results: Results) -> typing.Iterator[int]:
 
 def stretch_of(results: Results, number: int) -> Made:
     stretch, outcome, state = results.stretches[number], results.outcomes.get(number), results.state(number)
-    has = any(place is not None for place in stretch.places)
     what = stretch.what
     return {
         "stretch": number + 1, "content": what.content.value, "track": what.track, "checksum": stretch.kind.value, "state": state.value,
         "open": not state.is_good(), "combinations": outcome.count if outcome else 0, "time": times_of((what.start, what.end)),
-        "bytes": [results.in_out(stretch.start), results.in_out(stretch.start) + stretch.size] if has else None,
+        "bytes": [stretch.start, stretch.end],
         "taken_from": counted(results.source(stretch)),
         "copies": places_of(stretch, outcome, results.copy_of_mark), "frames": [frame_of(result, results) for result in results.within(number)],
     }
@@ -113,8 +112,8 @@ def places_of(stretch: Stretch, outcome: typing.Optional[Outcome], copy_of_mark:
 
 
 def frame_of(result: FrameResult, results: Results) -> Made:
-    place = results.in_out(result.frame.place)
-    return {"frame": result.order, "track": result.frame.track, "time": round(result.frame.time, 6), "bytes": [place, place + result.frame.size],
+    return {"frame": result.order, "track": result.frame.track, "time": round(result.frame.time, 6),
+            "bytes": [result.frame.place, result.frame.end],
             "state": result.state.value, "damaged_in": [copy + 1 for copy in result.damaged],
             "slices": [slice_of(each, results.copy_of_mark) for each in result.slices]}
 

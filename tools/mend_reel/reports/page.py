@@ -25,10 +25,11 @@ margin:0 .4em 0 1.2em;border:1px solid #444;vertical-align:-.15em}code{font-size
 code.sha{font-size:.72em}th[scope=row]{white-space:nowrap}
 footer{margin-top:3em;color:#555;font-size:.9em}svg,.key,.verdict{print-color-adjust:exact;-webkit-print-color-adjust:exact}
 tr,svg{break-inside:avoid}@media print{body{margin:0;max-width:none;font-size:11pt}}"""
-SUMS = {"verified": "pass a checksum", "agreed": "have none, and several copies agree", "alone": "have none, and one copy alone has them",
+SUMS = {"verified": "pass a checksum", "agreed": "have none, and several copies agree", "read": "have none, and only that copy could be read there",
+        "alone": "have none, and one copy alone has them",
         "open": "are damaged, or differ and nothing decides"}
 STANDS = {State.WHOLE: "whole", State.WOVEN: "woven", State.AGREED: "agreed", State.ALONE: "alone", State.DISPUTED: "disputed",
-          State.MISSING: "not restored", State.OPEN: "open"}
+          State.MISSING: "not restored", State.OPEN: "open", State.READ: "read"}
 
 
 def text(words: typing.Any) -> str:
@@ -47,7 +48,7 @@ def write(file: typing.TextIO, summary: Summary) -> None:
 
 def verdict(summary: Summary) -> str:
     """What is to be known first: the verdict, and what a kept digest says."""
-    judged, compared = summary.verdict, summary.compared
+    judged, compared = summary.verdict, summary.verdict.compared
     made = banner(judged.status == 0, summary.sentence())
     return made + (banner(compared.is_original, compared.text) if compared and compared.text != summary.sentence() else "")
 

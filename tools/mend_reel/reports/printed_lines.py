@@ -1,17 +1,15 @@
 """The lines that are printed: the verdict, what frames and bytes there are, and why OUT may not be what was recorded."""
 from __future__ import annotations
 
-import typing
-
 from ..judging import reasons
 from ..judging.results import Counts, Sums
 from .summary import Summary
 
 
-def lines(summary: Summary, of_copies: typing.Sequence[str] = ()) -> list[str]:
-    """The verdict comes first, then the counts, how each copy stands where there is no OUT, what is in doubt, and notes."""
+def lines(summary: Summary) -> list[str]:
+    """The verdict comes first, then the counts, what is in doubt, and notes."""
     verdict = summary.verdict
-    return [summary.sentence(), of_frames(verdict.counts), of_bytes(verdict.sums), *of_copies, *reasons.lines(verdict.reasons, summary.out_name()),
+    return [summary.sentence(), of_frames(verdict.counts), of_bytes(verdict.sums), *reasons.lines(verdict.reasons, summary.out_name()),
             *summary.notes, *verdict.notes]
 
 

@@ -7,7 +7,6 @@ import os
 import typing
 
 from ..copies.arrangement import Matched
-from ..judging.digests import Compared
 from ..judging.verdict import Verdict
 from ..model import Layout
 
@@ -40,8 +39,8 @@ class CopySummary:
 
 @dataclasses.dataclass
 class Summary:
-    """One call of the tool: when, by which programs, how it was called, the copies, OUT (if it was made), what lies where, the verdict, what
-    a kept digest says, and what else is to be said."""
+    """One OUT, or one file that was checked: when, by which programs, how the tool was called, the copies, OUT (if it was made), what lies
+    where, the verdict, and what else is to be said."""
 
     date: str
     versions: typing.Mapping[str, str]
@@ -51,17 +50,15 @@ class Summary:
     layout: Layout
     verdict: Verdict
     matched: typing.Sequence[Matched] = ()
-    compared: typing.Optional[Compared] = None
     notes: typing.Sequence[str] = ()
 
     def title(self) -> str:
         return self.out.name() if self.out else ", ".join(copy.name() for copy in self.copies[:4])
 
     def sentence(self) -> str:
-        """The verdict for a person: what a kept digest says, if it decides, or else what the checks say."""
-        decides = self.compared and (self.compared.is_of_all or not self.compared.is_original)
-        return self.compared.text if self.compared and decides else self.verdict.sentence(self.out_name())
+        """The verdict for a person."""
+        return self.verdict.sentence(self.out_name())
 
     def out_name(self) -> str:
         """What OUT is called within sentences, where there may be none."""
-        return "OUT" if self.out else "the copy" if len(self.copies) == 1 else "the mended file"
+        return "OUT" if self.out else self.title()

@@ -113,7 +113,7 @@ class Timeline:
 
     def add_rest(self, number: int, stretch: Stretch) -> None:
         """Adds what else lies in a stretch: the sound in a cluster, or the stretch itself if it is no frame."""
-        if stretch.kind is Kind.FRAME or stretch.what.content in (Content.FRAME, Content.VIDEO) or not self.results.having[number]:
+        if stretch.kind is Kind.FRAME or stretch.what.content in (Content.FRAME, Content.VIDEO):
             return
         kind = self.SOUND if self.SOUND in self.kinds and stretch.what.content in OF_SOUND else self.CONTAINER
         span, outcome = self.span(stretch.start, stretch.end), self.results.outcomes.get(number)
