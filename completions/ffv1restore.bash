@@ -17,7 +17,7 @@ _mend_reel() {
         --jobs) COMPREPLY=() ;;
         *)
             case "$word" in
-                -*) mapfile -t COMPREPLY < <(compgen -W "--check --force --report --json --digest --digests --keep --pictures --jobs --quiet --version --help" -- "$word") ;;
+                -*) mapfile -t COMPREPLY < <(compgen -W "-o --out --check --force --report --json --digest --digests --map --keep --pictures --jobs --quiet --version --help" -- "$word") ;;
                 *) mapfile -t COMPREPLY < <(compgen -f -- "$word") ;;
             esac ;;
     esac

@@ -18,7 +18,8 @@ def stretch(kind: Kind, start: int, size: int, places: Places, source: int = 0, 
 
 def write(*stretches: Stretch) -> typing.Tuple[typing.List[str], mend_list.Listed]:
     file = io.StringIO()
-    listed = mend_list.write(iter(stretches), file)
+    listed = mend_list.list_of(iter(stretches))
+    mend_list.write(listed, file)
     return file.getvalue().splitlines(), listed
 
 

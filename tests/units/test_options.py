@@ -14,9 +14,24 @@ class OptionsTest(unittest.TestCase):
             read(words)
         return ended.exception.code, printed.getvalue().splitlines()[-1]
 
-    def test_out_comes_first(self):
+    def test_out_comes_first_where_it_is_not_named(self):
         options = read(["--force", "out", "a", "--jobs", "2", "b"])
-        self.assertEqual((options.out, options.copies, options.force, options.jobs), ("out", ("a", "b"), True, 2))
+        self.assertEqual((options.out, options.is_named, options.copies, options.force, options.jobs), ("out", False, ("a", "b"), True, 2))
+
+    def test_out_is_named(self):
+        for words in (["-o", "out", "a", "b"], ["a", "-oout", "b"], ["a", "b", "--out", "out"], ["--out=out", "a", "b"]):
+            options = read(words)
+            self.assertEqual((options.out, options.is_named, options.copies), ("out", True, ("a", "b")))
+
+    def test_names_after_two_hyphens_are_no_options(self):
+        self.assertEqual(read(["-o", "out", "--", "a", "-b.mkv"]).copies, ("a", "-b.mkv"))
+        self.assertEqual(read(["-o", "out", "--", "--", "--check"]).copies, ("--", "--check"))
+        self.assertEqual((read(["--", "-out", "-a"]).out, read(["--", "-out", "-a"]).copies), ("-out", ("-a",)))
+        self.assertEqual(read(["--check", "--", "-a"]).copies, ("-a",))
+
+    def test_maps_are_of_copies(self):
+        options = read(["-o", "out", "a", "a=b", "c", "--map", "a=b=x", "--map", "c=y=z", "--digest", "d"])
+        self.assertEqual((options.maps, options.read()), ({1: "x", 2: "y=z"}, ["d", "x", "y=z"]))
 
     def test_check_has_no_out(self):
         options = read(["--check", "a", "--report", "page"])
@@ -36,6 +51,16 @@ class OptionsTest(unittest.TestCase):
             (["--jobs", "two", "out", "a"], "argument --jobs: invalid number value: 'two'"),
             (["--check", "--keep", "x", "a"], "argument --keep: not allowed with argument --check"),
             (["out", "a", "--report"], "argument --report: expected one argument"),
+            (["out", "a", "--report", "--"], "argument --report: expected one argument"),
+            (["-o", "out"], "the following arguments are required: COPY"),
+            (["-o", "", "a"], "a name is empty"),
+            (["-o", "out", "a", ""], "a name is empty"),
+            (["--check", "-o", "x", "a"], "argument -o: not allowed with argument --check"),
+            (["--check", "--map", "a=x", "a"], "argument --map: not allowed with argument --check"),
+            (["--check", "--digest", "x", "a", "b"], "argument --digest: with --check there must be one copy"),
+            (["-o", "out", "a", "--map", "b=x"], "argument --map: b=x is not the name of a copy, =, and its map"),
+            (["-o", "out", "a", "--map", "a="], "argument --map: a= is not the name of a copy, =, and its map"),
+            (["-o", "out", "a", "--map", "a=x", "--map", "a=y"], "argument --map: a has two maps"),
         ]:
             with self.subTest(words=words):
                 self.assertEqual(self.refused(*words), (2, f"mend-reel: error: {line}"))

@@ -1,49 +1,53 @@
-"""Files that are made under another name."""
+"""Files that are made as parts, and what names stand for."""
 import os
 import pathlib
 import tempfile
 import unittest
 
 from mend_reel.model import Fault
-from mend_reel.program.output_files import Files, check_room, front_of, leftovers
+from mend_reel.program import output_files
+from mend_reel.program.output_files import Files, check_room, descriptor_of, front_of, holds_data, is_same, is_written_to, leftovers
 
 
-class FilesTest(unittest.TestCase):
+class InFolder(unittest.TestCase):
     def setUp(self):
         self.temporary = tempfile.TemporaryDirectory()
         self.folder = pathlib.Path(self.temporary.name)
         self.path = str(self.folder / "out [1].mkv")
+        self.work = self.folder / "work"
+        self.work.mkdir()
 
     def tearDown(self):
         self.temporary.cleanup()
 
     def names(self):
-        return sorted(os.listdir(self.folder))
+        return sorted(set(os.listdir(self.folder)) - {"work"})
 
     def make(self, files, path, content):
-        file, part = files.make(path)
-        with os.fdopen(file, "wb") as made:
-            made.write(content)
-        return part
+        output = files.make(path, str(self.work))
+        pathlib.Path(output.part).write_bytes(content)
+        return output
 
+
+class FilesTest(InFolder):
     def test_file_has_its_name_when_all_is_done(self):
         files = Files()
-        self.make(files, self.path, b"abc")
+        output = self.make(files, self.path, b"abc")
         self.assertNotIn("out [1].mkv", self.names())
-        files.settle()
+        files.settle(output)
         files.remove()
         self.assertEqual(self.names(), ["out [1].mkv"])
         self.assertEqual(pathlib.Path(self.path).read_bytes(), b"abc")
 
-    def test_first_file_is_renamed_at_last(self):
+    def test_a_file_that_can_get_no_name_takes_no_other_away(self):
         files = Files()
-        self.make(files, self.path, b"abc")
+        out, report = self.make(files, self.path, b"abc"), self.make(files, str(self.folder / "report"), b"page")
         (self.folder / "report").mkdir()
-        self.make(files, str(self.folder / "report"), b"page")
+        files.settle(out)
         with self.assertRaisesRegex(Fault, "cannot write .*report"):
-            files.settle()
+            files.settle(report)
         files.remove()
-        self.assertEqual(self.names(), ["report"])
+        self.assertEqual(self.names(), ["out [1].mkv", "report"])
 
     def test_older_file_is_unchanged_by_a_fault(self):
         pathlib.Path(self.path).write_bytes(b"old")
@@ -55,15 +59,14 @@ class FilesTest(unittest.TestCase):
     def test_file_has_the_permissions_of_a_new_one(self):
         umask = os.umask(0o027)
         try:
-            files = Files()
-            part = self.make(files, self.path, b"abc")
-            self.assertEqual(os.stat(part).st_mode & 0o777, 0o640)
+            output = self.make(Files(), self.path, b"abc")
+            self.assertEqual(os.stat(output.part).st_mode & 0o777, 0o640)
         finally:
             os.umask(umask)
 
     def test_leftovers_are_those_of_the_same_name(self):
         files, others = Files(), Files()
-        part = self.make(files, self.path, b"abc")
+        part = self.make(files, self.path, b"abc").part
         self.make(others, str(self.folder / "out 1.mkv"), b"abc")
         (self.folder / "out [1].mkv.notes.part").write_bytes(b"")
         self.assertEqual(leftovers(self.path), [part])
@@ -71,8 +74,7 @@ class FilesTest(unittest.TestCase):
     def test_longest_name_can_be_made(self):
         files = Files()
         path = str(self.folder / ("ü" * 127))
-        self.make(files, path, b"abc")
-        files.settle()
+        files.settle(self.make(files, path, b"abc"))
         self.assertEqual(self.names(), ["ü" * 127])
         self.assertLess(len(os.fsencode(front_of(path))), 210)
 
@@ -97,12 +99,87 @@ class FilesTest(unittest.TestCase):
 
     def test_file_in_no_folder_is_a_fault(self):
         with self.assertRaisesRegex(Fault, "cannot write .*none/out: No such file"):
-            Files().make(str(self.folder / "none/out"))
+            Files().make(str(self.folder / "none/out"), str(self.work))
 
     def test_room_that_is_not_there_is_a_fault(self):
-        with self.assertRaisesRegex(Fault, r"cannot write .*out \[1\].mkv: it needs 1152921504606846976 bytes"):
-            check_room(self.path, 1 << 60)
-        check_room(self.path, 1)
+        with self.assertRaisesRegex(Fault, r"cannot write out.mkv: it needs 1152921504606846976 bytes"):
+            check_room(self.path, "out.mkv", 1 << 60)
+        check_room(self.path, "out.mkv", 1)
+
+
+class LinksTest(InFolder):
+    def test_the_file_after_a_link_gives_way_and_the_link_stays(self):
+        (self.folder / "far").mkdir()
+        os.symlink("far/out", self.path)
+        files = Files()
+        output = self.make(files, self.path, b"abc")
+        self.assertEqual(os.path.dirname(output.part), os.path.realpath(self.folder / "far"))
+        files.settle(output)
+        self.assertEqual((os.readlink(self.path), (self.folder / "far/out").read_bytes()), ("far/out", b"abc"))
+
+    def test_a_link_that_leads_nowhere_holds_data(self):
+        os.symlink("nothing", self.path)
+        self.assertTrue(holds_data(self.path))
+        self.assertFalse(holds_data(str(self.folder / "nothing")))
+
+    def test_a_file_is_the_same_by_any_name(self):
+        one, other = str(self.folder / "one"), str(self.folder / "other")
+        pathlib.Path(one).write_bytes(b"abc")
+        pathlib.Path(other).write_bytes(b"abc")
+        os.link(one, str(self.folder / "hard"))
+        os.symlink("hard", str(self.folder / "soft"))
+        self.assertEqual([is_same(one, str(self.folder / name)) for name in ("one", "hard", "soft", "other", "none")],
+                         [True, True, True, False, False])
+
+
+class WrittenToTest(InFolder):
+    def test_names_of_open_files(self):
+        os.symlink("/dev/stdout", str(self.folder / "link"))
+        os.symlink("-", str(self.folder / "dash"))
+        names = ["-", "/dev/stdout", "/dev/stderr", "/dev/fd/7", "/proc/self/fd/12", "/dev/./fd/../stdout", str(self.folder / "link")]
+        self.assertEqual([descriptor_of(name) for name in names], [1, 1, 2, 7, 12, 1, 1])
+        self.assertEqual([descriptor_of(name) for name in ("out", "./-", "/dev/null", str(self.folder / "dash"))], [None] * 4)
+
+    def test_devices_and_pipes_are_written_to(self):
+        os.mkfifo(str(self.folder / "pipe"))
+        (self.folder / "file").write_bytes(b"")
+        paths = ["/dev/null", "-", str(self.folder / "pipe"), str(self.folder / "file"), str(self.folder), str(self.folder / "none")]
+        self.assertEqual([is_written_to(path) for path in paths], [True, True, True, False, False, False])
+        self.assertEqual([holds_data(path) for path in paths], [False, False, False, True, True, False])
+
+    def test_a_disk_holds_data(self):
+        state = os.stat_result([0o060600, *[0] * 9])
+        original, output_files.state_of = output_files.state_of, lambda path: state
+        try:
+            self.assertTrue(holds_data("/dev/sda"))
+        finally:
+            output_files.state_of = original
+
+    def test_an_open_file_gets_the_part_where_it_stands(self):
+        path = str(self.folder / "log")
+        with open(path, "w+b", buffering=0) as log:
+            log.write(b"before ")
+            files = Files()
+            output = self.make(files, f"/dev/fd/{log.fileno()}", b"made")
+            self.assertEqual(os.path.dirname(output.part), str(self.work))
+            files.settle(output)
+            log.write(b" after")
+        self.assertEqual((pathlib.Path(path).read_bytes(), list(self.work.iterdir())), (b"before made after", []))
+
+    def test_a_pipe_gets_the_part_and_stays_a_pipe(self):
+        path = str(self.folder / "pipe")
+        os.mkfifo(path)
+        reader = os.open(path, os.O_RDONLY | os.O_NONBLOCK)
+        try:
+            files = Files()
+            files.settle(self.make(files, path, b"made"))
+            self.assertEqual((os.read(reader, 10), is_written_to(path)), (b"made", True))
+        finally:
+            os.close(reader)
+
+    def test_a_file_that_is_not_open_is_a_fault(self):
+        with self.assertRaisesRegex(Fault, "cannot write /dev/fd/987: it is closed"):
+            Files().make("/dev/fd/987", str(self.work))
 
 
 if __name__ == "__main__":

@@ -35,6 +35,18 @@ class ProgressTest(unittest.TestCase):
     def test_nothing_done_has_no_time_left(self):
         self.assertEqual(self.shown(Terminal(), False, [(100.0, 0), (110.0, 0)]), "\r\033[Kreading: 0 %\r\033[K")
 
+    def test_a_stream_that_takes_nothing_is_left_alone(self):
+        class Closed(Terminal):
+            writes = 0
+
+            def write(self, text):
+                self.writes += 1
+                raise BrokenPipeError
+
+        stream = Closed()
+        self.shown(stream, False, [(100.0, 0), (110.0, 50), (130.0, 150)])
+        self.assertEqual(stream.writes, 1)
+
     def test_clock(self):
         self.assertEqual([clock(0), clock(59.6), clock(3661)], ["0:00:00", "0:01:00", "1:01:01"])
 

@@ -1,65 +1,92 @@
 """The tool itself: what is asked for, what is done, and how it ends."""
 from __future__ import annotations
 
+import contextlib
 import io
 import os
-import pathlib
-import re
-import shutil
 import signal
 import sys
-import tempfile
 import typing
 
 from ..model import Fault
 from . import options, session
-from .output_files import INTERRUPTS, Files, uninterrupted
+from .kept_frames import refuse_kept
+from .one_line import in_one_line
+from .output_files import INTERRUPTS, Files, descriptor_of, holds_data, is_same, is_written_to
 from .progress import Progress
+from .session import Finished, Outputs
+from .work_folder import WorkFolder
 
 
-CONTROLS = re.compile(r"[\x00-\x1f\x7f]")
+class Interrupted(Fault):
+    """What ends the work because a signal came."""
 
 
 def interrupted(*_: typing.Any) -> typing.NoReturn:
     """Ends the work. What comes while it is cleared away is ignored."""
     for number in INTERRUPTS:
         signal.signal(number, signal.SIG_IGN)
-    raise Fault("interrupted, and no OUT was made")
+    raise Interrupted("interrupted")
 
 
 def check(asked: options.Options) -> None:
-    """Refuses to write over a copy, or over what is there."""
+    """Refuses to write over a file that is read, and over what is there. Files are compared, and not their names."""
     made = asked.made()
     for path in made:
-        for copy in asked.copies:
-            if os.path.exists(path) and os.path.exists(copy) and os.path.samefile(path, copy):
-                raise Fault(f"{path} is one of the copies")
-        if os.path.isdir(path):
+        for read in (*asked.copies, *asked.read()):
+            if is_same(path, read):
+                raise Fault(f"{path} is {'one of the copies' if read in asked.copies else f'read: it is {read}'}")
+        if os.path.isdir(path) and descriptor_of(path) is None:
             raise Fault(f"cannot write {path}: it is a folder")
-    if asked.out and os.path.lexists(asked.out) and not asked.force:
-        raise Fault(f"{asked.out} is there (--force overwrites it)")
-    places = [os.path.realpath(path) for path in made]
+        if holds_data(path) and not asked.force:
+            raise Fault(f"{path} is there (--force overwrites it)")
+    refuse_repeated(made)
+    refuse_kept(filter(None, (asked.keep, asked.pictures)), asked.copies, asked.force)
+
+
+def refuse_repeated(made: typing.Sequence[str]) -> None:
+    """Refuses to write two files to one place. A device takes several."""
+    places = [os.path.realpath(path) if descriptor is None else descriptor for path in made for descriptor in [descriptor_of(path)]]
     for number, place in enumerate(places):
-        if place in places[:number]:
+        if place in places[:number] and (isinstance(place, int) or not is_written_to(made[number])):
             raise Fault(f"{made[number]} is named twice")
 
 
-def in_one_line(text: str) -> str:
-    """A line in which control characters, as names may have, stand as digits."""
-    return CONTROLS.sub(lambda match: f"\\x{ord(match.group()):02x}", text)
-
-
-def write_out(lines: typing.Iterable[str]) -> None:
-    """Prints the lines. Where they can't be printed nothing is made."""
+def write_out(lines: typing.Iterable[str], stream: typing.TextIO) -> None:
+    """Prints the lines. A reader that takes no more of them has what it wants."""
     try:
-        print("\n".join(map(in_one_line, lines)), flush=True)
+        print("\n".join(map(in_one_line, lines)), file=stream, flush=True)
     except OSError as error:
-        raise Fault(f"cannot write standard output: {error.strerror}") from None
+        os.dup2(os.open(os.devnull, os.O_WRONLY), stream.fileno())
+        if not isinstance(error, BrokenPipeError):
+            raise Fault(f"cannot write standard {'output' if stream is sys.stdout else 'error'}: {error.strerror}") from None
 
 
-def complain(fault: Exception) -> None:
-    """Prints a fault in a line on standard error."""
-    print(f"mend-reel: {in_one_line(str(fault))}".encode(errors="surrogateescape").decode(errors="replace"), file=sys.stderr)
+def say(fault: str) -> None:
+    """Reports a fault on standard error, if there is one."""
+    line = f"mend-reel: {in_one_line(fault)}".encode(errors="surrogateescape").decode(errors="replace")
+    with contextlib.suppress(OSError):
+        print(line, file=sys.stderr or io.StringIO(), flush=True)
+
+
+def made_or_not(fault: Exception, asked: options.Options, outputs: typing.Optional[Outputs]) -> str:
+    """A fault, and whether OUT was made before it where that is to be said."""
+    if outputs is not None and outputs.is_out_made:
+        return f"{fault}; {asked.out} was made"
+    return f"{fault}, and no OUT was made" if isinstance(fault, Interrupted) else str(fault)
+
+
+def finish(asked: options.Options, outputs: Outputs, finished: Finished) -> int:
+    """Prints what was found, and then what could not be judged or written. Returns the exit status."""
+    to_other = any(descriptor_of(path) == 1 for path in asked.made())
+    faults = list(finished.faults)
+    try:
+        write_out(finished.lines, sys.stderr or io.StringIO() if to_other else sys.stdout)
+    except Fault as fault:
+        faults.append(fault)
+    for fault in faults:
+        say(made_or_not(fault, asked, outputs))
+    return 1 if faults else finished.status
 
 
 def main() -> int:
@@ -68,25 +95,21 @@ def main() -> int:
         signal.signal(number, interrupted)
     if isinstance(sys.stdout, io.TextIOWrapper):
         sys.stdout.reconfigure(errors="surrogateescape")
-    files, progress, work = Files(), Progress(asked.quiet), None
+    files, progress, work, outputs = Files(), Progress(asked.quiet), None, None
     try:
         if sys.stdout is None:
             raise Fault("cannot write standard output: it is closed")
         check(asked)
-        with uninterrupted():
-            work = pathlib.Path(tempfile.mkdtemp(prefix="mend-reel."))
-        lines, faults, status = session.run(asked, work, files, progress)
+        work = WorkFolder()
+        outputs = Outputs.make(asked, files, work)
+        finished = session.run(asked, work.path, outputs, progress)
         progress.end()
-        write_out(lines)
-        for fault in faults:
-            complain(fault)
-        files.settle()
-        return status
+        return finish(asked, outputs, finished)
     except (Fault, OSError) as fault:
         progress.end()
-        complain(fault)
+        say(made_or_not(fault, asked, outputs))
         return 1
     finally:
         if work:
-            shutil.rmtree(work, ignore_errors=True)
+            work.remove()
         files.remove()

@@ -5,11 +5,14 @@ import dataclasses
 import hashlib
 import os
 import pathlib
+import re
 import shutil
 import typing
 
 from ..model import Copy, Fault, Track
 from .external_programs import last_line, need, run
+from .one_line import in_one_line
+from .output_files import is_same
 
 # How the samples of a record are named by FFmpeg: by the planes and shifts that `ffv1restore show` prints.
 PIXELS = {
@@ -21,6 +24,10 @@ PIXELS = {
     ("3", "2", "0"): "yuv411p",
     ("3", "2", "2"): "yuv410p",
 }
+# What stands for the name of samples that FFmpeg has none for.
+NO_PICTURE = "none"
+# The names of the files that are kept.
+KEPT = re.compile(r"list|copies|frames-of-copy-\d+|(?:track-\d+-)?frame-\d+\.(?:hold|report|png)")
 
 
 @dataclasses.dataclass(frozen=True)
@@ -34,8 +41,18 @@ class Held:
     is_restored: bool
 
 
+def refuse_kept(folders: typing.Iterable[str], copies: typing.Sequence[str], force: bool) -> None:
+    """Refuses to overwrite what an earlier call kept in some folders, and copies that have such names."""
+    found = [os.path.join(folder, name) for folder in folders if os.path.isdir(folder) for name in sorted(os.listdir(folder)) if KEPT.fullmatch(name)]
+    for path in found:
+        if any(is_same(path, copy) for copy in copies):
+            raise Fault(f"{path} is one of the copies")
+        if not force:
+            raise Fault(f"{path} is there (--force overwrites it)")
+
+
 class Keeper:
-    """Keeps what was asked for, in the working folder, until all is done."""
+    """Keeps what was asked for, in the working folder, until all is done. What fails here is a note: OUT is not lost for it."""
 
     def __init__(self, program: str, work: pathlib.Path, keep: typing.Optional[str], pictures: typing.Optional[str]) -> None:
         self.program, self.work, self.keep, self.pictures = program, work, keep, pictures
@@ -50,15 +67,21 @@ class Keeper:
         """Keeps the list, and the paths of its copies. A copy in the working folder is kept too, as it would be gone else."""
         if not self.keep:
             return
+        try:
+            self.copy_list(listed, copies)
+        except OSError as error:
+            self.notes.append(f"the list is not kept: {error.strerror}")
+
+    def copy_list(self, listed: pathlib.Path, copies: typing.Sequence[Copy]) -> None:
         paths = []
         for copy in copies:
             if pathlib.Path(copy.path).parent == self.work:
                 shutil.copyfile(copy.path, self.work / "keep" / pathlib.Path(copy.path).name)
-                paths.append(os.path.join(os.path.realpath(self.keep), pathlib.Path(copy.path).name))
+                paths.append(os.path.join(os.path.realpath(self.keep or ""), pathlib.Path(copy.path).name))
             else:
                 paths.append(os.path.realpath(copy.path))
         shutil.copyfile(listed, self.work / "keep/list")
-        (self.work / "keep/copies").write_bytes(b"".join(os.fsencode(path) + b"\n" for path in paths))
+        (self.work / "keep/copies").write_bytes(b"".join(os.fsencode(path) + b"\0" for path in paths))
 
     def is_asked_for(self, track: Track) -> bool:
         """Whether a track's frames are to be held, and can be: it is in the profile of holdings."""
@@ -78,18 +101,26 @@ class Keeper:
             self.notes.append(f"no frame of track {track.number} is kept or shown: the recording is not in the profile ({why})")
             return ""
         planes, shifts = done.stdout.decode().splitlines()[2].split(" shift ")
-        return PIXELS[(planes.split()[1], *shifts.split()[:2])]  # type: ignore[index]
+        pixels = PIXELS.get((planes.split()[1], *shifts.split()[:2]), NO_PICTURE)
+        if self.pictures and pixels == NO_PICTURE:
+            self.notes.append(f"no frame of track {track.number} is shown: its planes ({planes}, shift {shifts}) have no name in FFmpeg")
+        return pixels
 
     def hold(self, frame: Held) -> None:
         """Makes the holding file of a frame, its report, and a picture of what it has."""
-        folder = self.work / "frame"
+        try:
+            self.hold_in(self.work / "frame", frame)
+        except (Fault, OSError) as fault:
+            self.notes.append(f"{frame.name} is not kept: {fault}")
+
+    def hold_in(self, folder: pathlib.Path, frame: Held) -> None:
         folder.mkdir()
         try:
             hold = self.take(frame, folder)
             if self.keep:
                 shutil.copyfile(hold, self.work / "keep" / f"{frame.name}.hold")
                 self.report(frame, hold)
-            if self.pictures and not frame.is_restored:
+            if self.pictures and not frame.is_restored and self.pixels[frame.track.number] != NO_PICTURE:
                 self.show(frame, hold, folder)
         finally:
             shutil.rmtree(folder)
@@ -109,9 +140,9 @@ class Keeper:
         """The report of a holding file, with the paths of the copies after each origin."""
         givers: dict[str, list[str]] = {}
         for path, piece in frame.pieces:
-            givers.setdefault(hashlib.sha256(piece).hexdigest(), []).append(os.path.realpath(path))
+            givers.setdefault(hashlib.sha256(piece).hexdigest(), []).append(in_one_line(os.path.realpath(path)))
         lines = run(self.program, "report", hold).stdout.decode().splitlines()
-        named = [line + " " + ", ".join(givers[line.split()[3]]) if " origin " in line else line for line in lines]
+        named = [line + " " + ", ".join(givers.get(line.split()[3], [])) if " origin " in line else line for line in lines]
         (self.work / "keep" / f"{frame.name}.report").write_bytes(b"".join(os.fsencode(line) + b"\n" for line in named))
 
     def show(self, frame: Held, hold: pathlib.Path, folder: pathlib.Path) -> None:
@@ -121,15 +152,19 @@ class Keeper:
             run("ffmpeg", "-v", "quiet", "-y", "-f", "rawvideo", "-pix_fmt", self.pixels[frame.track.number], "-s", size, "-i",
                 folder / "samples", self.work / "pictures" / f"{frame.name}.png")
 
-    def hand_over(self, copies: typing.Sequence[str]) -> None:
-        """Copies what was kept to where it is asked for, but over none of the copies."""
+    def hand_over(self, others: typing.Sequence[str]) -> list[str]:
+        """Copies what was kept to where it is asked for, but over none of some other files. Returns what could not be, in lines."""
         made = [(path, os.path.join(asked, path.name)) for asked, name in ((self.keep, "keep"), (self.pictures, "pictures")) if asked
                 for path in sorted((self.work / name).iterdir())]
-        for _, name in made:
-            if os.path.exists(name) and any(os.path.exists(copy) and os.path.samefile(name, copy) for copy in copies):
-                raise Fault(f"{name} is one of the copies")
-        for path, name in made:
-            try:
-                shutil.copyfile(path, name)
-            except OSError as error:
-                raise Fault(f"cannot write {name}: {error.strerror}") from None
+        return list(filter(None, (copy_over(path, name, others) for path, name in made)))
+
+
+def copy_over(path: pathlib.Path, name: str, others: typing.Sequence[str]) -> typing.Optional[str]:
+    """Copies a file, and returns why that could not be."""
+    if any(is_same(name, other) for other in others):
+        return f"{name} is not kept: it is another file of this call"
+    try:
+        shutil.copyfile(path, name)
+        return None
+    except OSError as error:
+        return f"{name} is not kept: {error.strerror}"

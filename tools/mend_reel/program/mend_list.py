@@ -2,6 +2,7 @@
 from __future__ import annotations
 
 import dataclasses
+import itertools
 import typing
 
 from ..containers.stretch_builder import MOST_STRETCH
@@ -10,24 +11,28 @@ from ..model import Frame, Kind, Stretch
 FIRST_PART = 6
 
 
-def write(stretches: typing.Iterable[Stretch], file: typing.TextIO) -> list[Stretch]:
-    """Writes the list of some stretches to a file, and returns them as they stand there. What the program would refuse is changed before:
-    a place that does not rise is none, and where the source lacks the stretch the first copy that has it is its source."""
+def list_of(stretches: typing.Iterable[Stretch]) -> list[Stretch]:
+    """The stretches as they can stand in a list. What the program would refuse is changed: a place that does not rise is none, and where the
+    source lacks the stretch the first copy that has it is its source."""
     listed: list[Stretch] = []
     ends: list[int] = []
-    for stretch in stretches:
-        ends += [0] * (len(stretch.places) - len(ends))
-        for piece in pieces(stretch):
-            piece = rising(piece, ends)
-            having = [number for number, place in enumerate(piece.places) if place is not None]
-            assert having, "each byte of OUT is in some copy"
-            source = piece.source if piece.source in having else having[0]
-            piece = piece if source == piece.source else dataclasses.replace(piece, source=source)
-            for number in having:
-                ends[number] = (piece.places[number] or 0) + piece.size
-            listed.append(piece)
-            file.writelines(lines(piece))
+    for piece in itertools.chain.from_iterable(map(pieces, stretches)):
+        ends += [0] * (len(piece.places) - len(ends))
+        piece = rising(piece, ends)
+        having = [number for number, place in enumerate(piece.places) if place is not None]
+        assert having, "each byte of OUT is in some copy"
+        source = piece.source if piece.source in having else having[0]
+        piece = piece if source == piece.source else dataclasses.replace(piece, source=source)
+        for number in having:
+            ends[number] = (piece.places[number] or 0) + piece.size
+        listed.append(piece)
     return listed
+
+
+def write(listed: typing.Iterable[Stretch], file: typing.TextIO) -> None:
+    """Writes the list to a file."""
+    for stretch in listed:
+        file.writelines(lines(stretch))
 
 
 def pieces(stretch: Stretch) -> typing.Iterator[Stretch]:

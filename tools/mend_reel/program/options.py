@@ -6,20 +6,25 @@ import dataclasses
 import typing
 
 VERSION = "0.2.0"
-USAGE = """mend-reel [options] OUT COPY...
+USAGE = """mend-reel [options] -o OUT COPY...
        mend-reel --check [options] COPY..."""
 DESCRIPTION = """Makes OUT, one good recording, from damaged copies of a recording with FFV1 video. No copy is changed. Every byte of OUT is
-verified by a checksum, or copies agree on it, or it is reported as open."""
+verified by a checksum, or copies agree on it, or it is reported. Without -o the first COPY is OUT, as it was before there was -o: for
+scripts. An OUT that is one of the copies is refused. Where OUT or FILE is a device, a pipe or -, it is written to, not replaced; - is standard
+output."""
 EPILOG = """exit status: 0 OUT is what was recorded, as far as any check can tell (with --check: no copy is damaged); 1 a fault, reported on
-standard error, and no OUT was made; 2 the command line was not understood; 3 OUT was made and something is open or missing in it
-(with --check: a copy is damaged)"""
+standard error, and no OUT was made, or the line says that it was; 2 the command line was not understood; 3 OUT was made and something is
+open or missing in it (with --check: a copy is damaged)"""
+END_OF_OPTIONS = "--"
 
 
 @dataclasses.dataclass(frozen=True)
 class Options:
-    """What is asked for. `out` is nothing where copies are only checked."""
+    """What is asked for. `out` is nothing where copies are only checked; `is_named` is whether it was named by -o. `maps` has the file of
+    unread places of some copies, by their numbers."""
 
     out: typing.Optional[str]
+    is_named: bool
     copies: tuple[str, ...]
     force: bool
     keep: typing.Optional[str]
@@ -27,6 +32,7 @@ class Options:
     report: typing.Optional[str]
     json: typing.Optional[str]
     digest: typing.Optional[str]
+    maps: typing.Mapping[int, str]
     digests: bool
     jobs: int
     quiet: bool
@@ -34,6 +40,10 @@ class Options:
     def made(self) -> list[str]:
         """The files that are made, in the order in which they are named here."""
         return [path for path in (self.out, self.report, self.json) if path is not None]
+
+    def read(self) -> list[str]:
+        """The files that are read beside the copies."""
+        return [*([self.digest] if self.digest is not None else []), *self.maps.values()]
 
 
 def count(word: str) -> int:
@@ -51,13 +61,15 @@ def parser() -> argparse.ArgumentParser:
     """The parser, whose messages name the word that is wrong."""
     made = argparse.ArgumentParser("mend-reel", usage=USAGE, description=DESCRIPTION, epilog=EPILOG, allow_abbrev=False)
     add = made.add_argument
-    add("paths", nargs="*", metavar="COPY", help="OUT, and then the copies; with --check the copies alone")
+    add("paths", nargs="*", metavar="COPY", help="the copies; without -o and --check the first one is OUT")
+    add("-o", "--out", metavar="OUT", help="the file to make")
     add("--check", action="store_true", help="report what is damaged in one or more copies, and write no OUT")
-    add("--force", action="store_true", help="overwrite OUT if it exists")
+    add("--force", action="store_true", help="overwrite files that exist; a recording of the same video only as the OUT of -o")
     add("--report", metavar="FILE", help="write a page in HTML: the verdict, a timeline, a table of what is damaged")
     add("--json", metavar="FILE", help="write the same for machines")
     add("--digest", metavar="FILE", help="compare OUT with the digest that md5sum, sha1sum, sha256sum or FFmpeg's framemd5 wrote")
     add("--digests", action="store_true", help="take the SHA-256 of OUT and of each copy into the reports")
+    add("--map", metavar="COPY=FILE", action="append", default=[], help="what GNU ddrescue's mapfile FILE calls unread is no version of COPY")
     add("--keep", metavar="DIR", help="keep in DIR the list of what lies where, and the holding file and report of each damaged frame")
     add("--pictures", metavar="DIR", help="write to DIR an image of what can be shown of each frame that is not restored")
     add("--jobs", metavar="N", type=count, default=1, help="work on N copies at a time")
@@ -69,16 +81,40 @@ def parser() -> argparse.ArgumentParser:
 def read(words: typing.Sequence[str]) -> Options:
     """Reads the command line. It ends the program with status 2 where it is not understood."""
     made = parser()
-    read_words = made.parse_intermixed_args(words)
-    out, copies = (None, read_words.paths) if read_words.check else (read_words.paths[:1], read_words.paths[1:])
-    if not read_words.check and not out:
-        made.error("the following arguments are required: OUT, COPY")
-    if not copies:
-        made.error("the following arguments are required: COPY")
-    if read_words.check and read_words.digest and len(copies) > 1:
+    end = words.index(END_OF_OPTIONS) if END_OF_OPTIONS in words else len(words)
+    asked = made.parse_intermixed_args(words[:end])
+    paths, is_named = [*asked.paths, *words[end + 1 :]], asked.out is not None
+    if asked.check:
+        refuse_with_check(asked, made)
+    elif not is_named and paths:
+        asked.out = paths.pop(0)
+    if not paths:
+        made.error(f"the following arguments are required: {'COPY' if asked.check or asked.out is not None else 'OUT, COPY'}")
+    if asked.check and asked.digest is not None and len(paths) > 1:
         made.error("argument --digest: with --check there must be one copy")
-    for name in ("force", "keep", "pictures"):
-        if read_words.check and getattr(read_words, name):
-            made.error(f"argument --{name}: not allowed with argument --check")
-    return Options(out[0] if out else None, tuple(copies), read_words.force, read_words.keep, read_words.pictures, read_words.report, read_words.json,
-                   read_words.digest, read_words.digests, read_words.jobs, read_words.quiet)
+    if "" in (asked.out, asked.report, asked.json, asked.digest, asked.keep, asked.pictures, *paths):
+        made.error("a name is empty")
+    return Options(asked.out, is_named, tuple(paths), asked.force, asked.keep, asked.pictures, asked.report, asked.json, asked.digest,
+                   maps_of(asked.map, paths, made), asked.digests, asked.jobs, asked.quiet)
+
+
+def refuse_with_check(asked: argparse.Namespace, made: argparse.ArgumentParser) -> None:
+    """Ends the program where an option is given that says something of OUT, and there is none."""
+    for option, given in (("-o", asked.out), ("--keep", asked.keep), ("--pictures", asked.pictures), ("--map", asked.map)):
+        if given:
+            made.error(f"argument {option}: not allowed with argument --check")
+
+
+def maps_of(words: typing.Sequence[str], copies: typing.Sequence[str], made: argparse.ArgumentParser) -> dict[int, str]:
+    """The paths of maps by the numbers of their copies. A copy and a path may have equals signs, so the longest name of a copy is meant."""
+    maps: dict[int, str] = {}
+    for word in words:
+        named = [number for number, copy in enumerate(copies) if word.startswith(copy + "=")]
+        number = max(named, key=lambda number: len(copies[number]), default=-1)
+        path = word[len(copies[number]) + 1 :]
+        if not named or not path:
+            made.error(f"argument --map: {word} is not the name of a copy, =, and its map")
+        if number in maps:
+            made.error(f"argument --map: {copies[number]} has two maps")
+        maps[number] = path
+    return maps

@@ -1,12 +1,16 @@
-"""The files that are made: each under another name beside its own until all is done, and removed where the work fails."""
+"""The files that are made: each as a part beside its name until it is done, so that what is there stays as it is. What names a device, a pipe
+or an open file is written to at the end, and not replaced."""
 from __future__ import annotations
 
 import contextlib
+import dataclasses
 import glob
 import os
 import pathlib
+import re
 import shutil
 import signal
+import stat
 import tempfile
 import typing
 
@@ -16,6 +20,10 @@ INTERRUPTS = (signal.SIGINT, signal.SIGTERM, signal.SIGHUP)
 PART = ".part"
 # A name has at most 255 bytes on most file systems; the rest is for what is added to it.
 LONGEST_FRONT = 200
+STANDARD_OUTPUT = "-"
+OPEN_FILES = {"/dev/stdin": 0, "/dev/stdout": 1, "/dev/stderr": 2}
+NUMBERED_FILE = re.compile(r"(?:/dev/fd|/proc/(?:self|thread-self)/fd)/([0-9]{1,9})")
+MOST_LINKS, PIECE = 40, 1 << 20
 
 
 @contextlib.contextmanager
@@ -26,6 +34,55 @@ def uninterrupted() -> typing.Iterator[None]:
         yield
     finally:
         signal.pthread_sigmask(signal.SIG_SETMASK, before)
+
+
+# ---- what a name stands for
+
+
+def descriptor_of(path: str) -> typing.Optional[int]:
+    """The number of the open file that a path names: `-` and /dev/stdout are standard output. Links are followed."""
+    if path == STANDARD_OUTPUT:
+        return 1
+    for _ in range(MOST_LINKS):
+        path = os.path.abspath(path)
+        numbered = NUMBERED_FILE.fullmatch(path)
+        if path in OPEN_FILES or numbered:
+            return int(numbered.group(1)) if numbered else OPEN_FILES[path]
+        if not os.path.islink(path):
+            return None
+        path = os.path.join(os.path.dirname(path), os.readlink(path))
+    return None
+
+
+def state_of(path: str) -> typing.Optional[os.stat_result]:
+    """What the system says of the file that a path names, if it is there."""
+    descriptor = descriptor_of(path)
+    with contextlib.suppress(OSError):
+        return os.stat(path) if descriptor is None else os.fstat(descriptor)
+    return None
+
+
+def is_written_to(path: str) -> bool:
+    """Whether a path names a device, a pipe or an open file, which no other file may replace."""
+    state = state_of(path)
+    return descriptor_of(path) is not None or state is not None and not stat.S_ISREG(state.st_mode) and not stat.S_ISDIR(state.st_mode)
+
+
+def holds_data(path: str) -> bool:
+    """Whether something lies at a path that would be overwritten: a file, a link, a disk."""
+    if not is_written_to(path):
+        return os.path.lexists(path)
+    state = state_of(path)
+    return descriptor_of(path) is None and state is not None and stat.S_ISBLK(state.st_mode)
+
+
+def is_same(path: str, other: str) -> bool:
+    """Whether two paths name one file, by whatever names."""
+    one, two = state_of(path), state_of(other)
+    return one is not None and two is not None and os.path.samestat(one, two)
+
+
+# ---- parts
 
 
 def front_of(path: str) -> str:
@@ -39,33 +96,67 @@ def leftovers(path: str) -> list[str]:
     return sorted(glob.glob(os.path.join(glob.escape(folder), glob.escape(front_of(path)) + "????????" + PART)))
 
 
-def check_room(path: str, size: int) -> None:
+def check_room(part: str, path: str, size: int) -> None:
     """Refuses to make a file that the disk has no room for."""
-    folder = os.path.dirname(path) or "."
     with contextlib.suppress(OSError):
-        room = shutil.disk_usage(folder).free
+        room = shutil.disk_usage(os.path.dirname(part) or ".").free
         if room < size:
             raise Fault(f"cannot write {path}: it needs {size} bytes, and there are {room} bytes free")
 
 
+@dataclasses.dataclass
+class Output:
+    """A file that is made: its name as it was asked for, and the part that it is made as. A file at `replaced` gives way to the part at the
+    end; where that is nothing the part is written to what the name stands for."""
+
+    path: str
+    part: str
+    replaced: typing.Optional[str]
+
+    def settle(self) -> None:
+        """Gives the part its place."""
+        try:
+            if self.replaced is not None:
+                os.replace(self.part, self.replaced)
+            else:
+                self.write_on()
+                os.unlink(self.part)
+        except OSError as error:
+            raise Fault(f"cannot write {self.path}: {error.strerror}") from None
+
+    def write_on(self) -> None:
+        """Writes the part to the device, the pipe or the open file."""
+        descriptor = descriptor_of(self.path)
+        target = os.open(self.path, os.O_WRONLY) if descriptor is None else os.dup(descriptor)
+        with open(self.part, "rb") as made, os.fdopen(target, "wb") as written:
+            shutil.copyfileobj(made, written, PIECE)
+
+
 class Files:
-    """The files that are made."""
+    """The files that are made, and are not at their places yet."""
 
     def __init__(self) -> None:
-        self.parts: list[tuple[str, str]] = []
+        self.outputs: list[Output] = []
         self.folders: list[str] = []
 
-    def make(self, path: str) -> tuple[int, str]:
-        """Makes a file under another name, and returns it open, with that name."""
+    def make(self, path: str, work: str) -> Output:
+        """Makes the part of a file: beside the file that it is to be, or in a folder for working files."""
+        replaced = None if is_written_to(path) else os.path.realpath(path)
         try:
+            if replaced is None and descriptor_of(path) is None and not os.access(path, os.W_OK):
+                raise Fault(f"cannot write {path}: Permission denied")
+            if replaced is None and state_of(path) is None:
+                raise Fault(f"cannot write {path}: it is closed")
             with uninterrupted():
-                file, part = tempfile.mkstemp(prefix=front_of(path), suffix=PART, dir=os.path.dirname(path) or ".")
-                self.parts.append((part, path))
+                folder = work if replaced is None else os.path.dirname(replaced)
+                file, part = tempfile.mkstemp(prefix=front_of(replaced or "output"), suffix=PART, dir=folder)
+                self.outputs.append(Output(path, part, replaced))
             os.umask(umask := os.umask(0o077))
             os.fchmod(file, 0o666 & ~umask)
+            os.close(file)
         except OSError as error:
             raise Fault(f"cannot write {path}: {error.strerror}") from None
-        return file, part
+        return self.outputs[-1]
 
     def make_folder(self, path: str) -> None:
         """Makes a folder, and those that it lies in."""
@@ -76,23 +167,18 @@ class Files:
         except OSError as error:
             raise Fault(f"cannot make {path}: {error.strerror}") from None
 
-    def settle(self) -> None:
-        """Gives each file its own name, the one that was made first at last: if that of another fails, there is no OUT."""
-        while self.parts:
-            part, path = self.parts[-1]
-            try:
-                with uninterrupted():
-                    os.replace(part, path)
-                    self.parts.pop()
-            except OSError as error:
-                raise Fault(f"cannot write {path}: {error.strerror}") from None
-        self.folders = []
+    def settle(self, output: Output) -> None:
+        """Gives a file its place. From then on the folders that were made stay."""
+        with uninterrupted() if output.replaced is not None else contextlib.nullcontext():
+            output.settle()
+            self.outputs.remove(output)
+            self.folders = []
 
     def remove(self) -> None:
-        """Removes what was made and has no name of its own yet."""
-        for part, _ in self.parts:
+        """Removes what was made and has no place of its own yet."""
+        for output in self.outputs:
             with contextlib.suppress(OSError):
-                os.unlink(part)
+                os.unlink(output.part)
         for folder in self.folders:
             with contextlib.suppress(OSError):
                 os.rmdir(folder)

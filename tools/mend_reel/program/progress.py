@@ -38,15 +38,20 @@ class Progress:
         self.show(f"{self.step}: {100 * share:.0f} %{left}")
 
     def show(self, text: str) -> None:
-        if self.stream is None:
-            return
-        self.stream.write(f"\r\033[K{text}" if self.terminal else f"mend-reel: {text}\n")
-        self.stream.flush()
+        self.write(f"\r\033[K{text}" if self.terminal else f"mend-reel: {text}\n")
         self.shown = True
 
     def end(self) -> None:
         """Takes the line away from a terminal."""
-        if self.stream is not None and self.terminal and self.shown:
-            self.stream.write("\r\033[K")
-            self.stream.flush()
+        if self.terminal and self.shown:
+            self.write("\r\033[K")
         self.shown = False
+
+    def write(self, text: str) -> None:
+        """Writes to the stream. If nobody takes it, no more is written."""
+        try:
+            if self.stream is not None:
+                self.stream.write(text)
+                self.stream.flush()
+        except OSError:
+            self.stream, self.quiet = None, True

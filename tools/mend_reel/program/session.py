@@ -17,16 +17,18 @@ from ..judging.frame_checks import Scan
 from ..judging.results import FrameState
 from ..judging.verdict import Evidence, Verdict, judge
 from ..model import Claims, Copy, Fault, Frame, Layout, Outcome, Stretch, open_copy
+from ..reports import printed_lines
 from ..reports.summary import Summary
 from ..reports.writer import Reporter
-from . import mend_list
+from . import mend_list, output_files, work_folder
 from .external_programs import find_ffv1restore
 from .kept_frames import Held, Keeper
 from .mend_run import mend
 from .options import Options
-from .output_files import Files, check_room, leftovers
+from .output_files import Files, Output, check_room, is_written_to
 from .parallel import of_each
 from .progress import Progress
+from .work_folder import WorkFolder
 
 NOWHERE, MATROSKA = "/dev/null", "matroska"
 
@@ -43,40 +45,78 @@ class Made:
     decoded: frozenset[int] = frozenset()
 
 
-def run(options: Options, work: pathlib.Path, files: Files, progress: Progress) -> tuple[list[str], list[Fault], int]:
-    """Makes OUT, or judges each file by itself. Returns the lines to print, the faults of files that can't be judged, and the exit status."""
-    reporter, summaries, faults = Reporter(options, find_ffv1restore(), files), [], []
+@dataclasses.dataclass
+class Outputs:
+    """The files that a call makes, whose parts are there before the work begins; what runs that were killed left of OUT and of working files;
+    and whether OUT is made."""
+
+    files: Files
+    out: typing.Optional[Output] = None
+    report: typing.Optional[Output] = None
+    json: typing.Optional[Output] = None
+    left: typing.Sequence[str] = ()
+    is_out_made: bool = False
+
+    @classmethod
+    def make(cls, options: Options, files: Files, work: WorkFolder) -> Outputs:
+        """Makes the parts of all files that are asked for, and the folders."""
+        left = [f"a run that was killed left {path}; remove it if no other run makes {options.out} now"
+                for path in (output_files.leftovers(options.out) if options.out is not None else [])]
+        left += [f"a run that was killed left {path}; remove it" for path in work_folder.leftovers()]
+        for folder in filter(None, (options.keep, options.pictures)):
+            files.make_folder(folder)
+        parts = [None if path is None else files.make(path, str(work.path)) for path in (options.out, options.report, options.json)]
+        return cls(files, *parts, left)
+
+    def settle_out(self) -> None:
+        """Gives OUT its place."""
+        if self.out is not None:
+            self.files.settle(self.out)
+            self.is_out_made = True
+
+
+@dataclasses.dataclass(frozen=True)
+class Finished:
+    """What there is to say at the end: the lines to print, the exit status, and what could not be judged or written."""
+
+    lines: typing.Sequence[str]
+    status: int
+    faults: typing.Sequence[Fault] = ()
+
+
+def run(options: Options, work: pathlib.Path, outputs: Outputs, progress: Progress) -> Finished:
+    """Makes OUT, or judges each file by itself. OUT has its place before anything else is written."""
+    reporter, summaries, faults = Reporter(options, find_ffv1restore()), [], []
     if options.out is not None:
-        summaries.append(Session(options, work, files, progress).run(reporter))
+        summaries.append(Session(options, work, outputs, progress).run(reporter))
     for number, path in enumerate(options.copies if options.out is None else ()):
         folder = work / str(number)
         folder.mkdir()
         try:
-            summaries.append(Session(dataclasses.replace(options, copies=(path,)), folder, files, progress).run(reporter))
+            summaries.append(Session(dataclasses.replace(options, copies=(path,)), folder, outputs, progress).run(reporter))
         except Fault as fault:
             faults.append(fault)
     if not summaries:
         raise faults[0]
-    lines, status = reporter.report(summaries)
-    return lines, faults, 1 if faults else status
+    faults += reporter.write(summaries, outputs.files, outputs.report, outputs.json)
+    lines = [line for summary in summaries for line in printed_lines.lines(summary)]
+    return Finished(lines, max(summary.verdict.status for summary in summaries), faults)
 
 
 class Session:
     """One OUT, or one file that is checked."""
 
-    def __init__(self, options: Options, work: pathlib.Path, files: Files, progress: Progress) -> None:
-        self.options, self.work, self.files, self.progress = options, work, files, progress
+    def __init__(self, options: Options, work: pathlib.Path, outputs: Outputs, progress: Progress) -> None:
+        self.options, self.work, self.outputs, self.progress = options, work, outputs, progress
         self.program = find_ffv1restore()
         self.judge = Scan(self.program, work)
         self.keeper = Keeper(self.program, work, options.keep, options.pictures)
-        self.notes: list[str] = []
+        self.notes: list[str] = list(outputs.left)
         self.has_damaged_heads = False
         self.reads: list[bool] = []
 
     def run(self, reporter: Reporter) -> Summary:
-        """Does the work, but for giving the files that are made their names."""
-        for path in filter(None, (self.options.keep, self.options.pictures)):
-            self.files.make_folder(path)
+        """Does the work."""
         copies = [open_copy(path) for path in self.options.copies]
         try:
             return self.judged(copies, reporter)
@@ -89,6 +129,7 @@ class Session:
         self.progress.begin("reading the containers")
         for copy, form in zip(copies, of_each(self.options.jobs, self.form, copies)):
             copy.form = form
+        self.refuse_recording(copies)
         arrangement = arrange(copies, self.judge)
         layout, inputs = arrangement.layout, Inputs([copies[number] for number in arrangement.basis], list(arrangement.basis))
         if copy_health.lack_parities(layout, inputs.files):
@@ -103,8 +144,28 @@ class Session:
             layout, made.stretches, made.outcomes, made.out, claims, arrangement.matched, arrangement.left, inputs.numbers, others,
             self.has_damaged_heads, made.decoded, self.compared(made.part or self.options.copies[0]), self.options.out is None))
         self.keep_frames(layout, inputs, made, verdict)
-        self.keeper.hand_over(self.options.copies)
-        return reporter.summary(copies, arrangement, layout, verdict, made.part, self.notes)
+        summary = reporter.summary(copies, arrangement, layout, verdict, made.part, self.notes)
+        self.outputs.settle_out()
+        self.notes += self.keeper.hand_over([*self.options.copies, *self.options.read(), *self.options.made()])
+        return summary
+
+    def refuse_recording(self, copies: typing.Sequence[Copy]) -> None:
+        """Refuses to overwrite a recording of the copies' video where OUT is named by its place alone: it may be a copy that stands there
+        because OUT was forgotten."""
+        path = self.options.out
+        if path is None or self.options.is_named or not os.path.isfile(path) or is_written_to(path):
+            return
+        there = open_copy(path)
+        try:
+            there.form = self.form(there)
+            found = arrange([there, *copies], self.judge)
+        except Fault:
+            return
+        finally:
+            os.close(there.file)
+        left = {left.number for left in found.left}
+        if 0 not in left and len(left) < len(copies):
+            raise Fault(f"{path} is a recording of the same video as the copies (-o {path} overwrites it)")
 
     def compared(self, path: str) -> typing.Optional[Compared]:
         """What a kept digest says of OUT, or of the file that is checked."""
@@ -162,20 +223,16 @@ class Session:
 
     def make(self, layout: Layout, inputs: Inputs) -> Made:
         """Has OUT made, and reads it again."""
-        if self.options.out is None:
+        if self.outputs.out is None or self.options.out is None:
             return Made(*self.mend(layout, inputs, NOWHERE), layout)
-        for left in leftovers(self.options.out):
-            self.notes.append(f"a run that was killed left {left}; remove it if no other run makes {self.options.out} now")
-        check_room(self.options.out, layout.size)
-        file, part = self.files.make(self.options.out)
-        try:
-            link = self.work / "out"
-            link.symlink_to(os.path.abspath(part))
-            mended = self.mend(layout, inputs, str(link))
-            os.fchmod(file, stat.S_IMODE(os.fstat(inputs.files[0].file).st_mode))
-            os.fsync(file)
-        finally:
-            os.close(file)
+        part = self.outputs.out.part
+        check_room(part, self.options.out, layout.size)
+        link = self.work / "out"
+        link.symlink_to(os.path.abspath(part))
+        mended = self.mend(layout, inputs, str(link))
+        with open(part, "rb") as made:
+            os.fchmod(made.fileno(), stat.S_IMODE(os.fstat(inputs.files[0].file).st_mode))
+            os.fsync(made.fileno())
         out = open_copy(part)
         try:
             self.progress.begin("decoding frames with voted or repaired slices")
@@ -185,30 +242,21 @@ class Session:
             os.close(out.file)
 
     def mend(self, layout: Layout, inputs: Inputs, out: str) -> tuple[list[Stretch], list[Outcome]]:
-        """Has the program make OUT, and again where it turns out that another copy is to be followed. Returns the stretches in the order of
-        OUT, and what became of those that are not undamaged."""
-        listed = self.write_list(layout.stretches)
+        """Has the program make OUT. Returns the stretches in the order of OUT, and what became of those that are not undamaged."""
+        listed = mend_list.list_of(layout.stretches)
+        self.choose(dataclasses.replace(layout, stretches=listed), inputs)
+        with open(self.work / "list", "w", encoding="ascii") as text:
+            mend_list.write(listed, text)
         outcomes = self.mend_listed(listed, out, layout.size, inputs)
-        if self.follows_others(layout, listed, outcomes, inputs):
-            listed = self.write_list(listed)
-            outcomes = self.mend_listed(listed, out, layout.size, inputs)
         self.keeper.keep_list(self.work / "list", inputs.files)
         return listed, outcomes
 
-    def follows_others(self, layout: Layout, listed: list[Stretch], outcomes: typing.Sequence[Outcome], inputs: Inputs) -> bool:
-        """Chooses the copies that are followed in stretches whose bytes nothing vouches for, by where the program reports that copies differ.
-        Returns whether they are others than were followed."""
-        doubtful = [listed[outcome.number] for outcome in outcomes if not outcome.state.is_good()]
-        before = [stretch.source for stretch in doubtful]
-        if doubtful:
+    def choose(self, layout: Layout, inputs: Inputs) -> None:
+        """Chooses the copy that is followed in each stretch in which copies differ."""
+        if len(inputs.files) > 1:
+            self.progress.begin("comparing the copies")
             reads = self.reads + [False] * (len(inputs.files) - len(self.reads))
-            preferred_copy.choose(dataclasses.replace(layout, stretches=listed), inputs.files, [0] * len(reads), reads,
-                          lambda frames: self.passing(frames, inputs.files), {outcome.number for outcome in outcomes})
-        return [stretch.source for stretch in doubtful] != before
-
-    def write_list(self, stretches: typing.Sequence[Stretch]) -> list[Stretch]:
-        with open(self.work / "list", "w", encoding="ascii") as text:
-            return mend_list.write(stretches, text)
+            preferred_copy.choose(layout, inputs.files, [0] * len(reads), reads, lambda frames: self.passing(frames, inputs.files))
 
     def mend_listed(self, listed: list[Stretch], out: str, size: int, inputs: Inputs) -> list[Outcome]:
         """Has the program make OUT by the list."""

@@ -12,9 +12,9 @@ from ..judging.verdict import Verdict
 from ..model import Copy, Fault, Layout
 from ..program.external_programs import version_of
 from ..program.options import VERSION, Options
-from ..program.output_files import Files
+from ..program.output_files import Files, Output
 from ..program.parallel import of_each
-from . import json_document, page, printed_lines
+from . import json_document, page
 from .summary import CopySummary, Role, Summary
 
 Writer = typing.Callable[[typing.TextIO, Summary], None]
@@ -23,8 +23,8 @@ Writer = typing.Callable[[typing.TextIO, Summary], None]
 class Reporter:
     """Reports what became of the copies."""
 
-    def __init__(self, options: Options, program: str, files: Files) -> None:
-        self.options, self.files = options, files
+    def __init__(self, options: Options, program: str) -> None:
+        self.options = options
         self.versions = {"mend-reel": VERSION, "ffv1restore": version_of(program), "ffprobe": version_of("ffprobe")}
 
     def summary(self, copies: typing.Sequence[Copy], arrangement: Arrangement, layout: Layout, verdict: Verdict,
@@ -34,14 +34,6 @@ class Reporter:
         date = datetime.datetime.now(datetime.timezone.utc).isoformat(timespec="seconds")
         return Summary(date, self.versions, ["mend-reel", *sys.argv[1:]], self.copy_summaries(copies, arrangement, verdict),
                        self.out_summary(part, form), layout, verdict, arrangement.matched, notes)
-
-    def report(self, summaries: typing.Sequence[Summary]) -> tuple[list[str], int]:
-        """Writes what was asked for. Returns the lines to print, and the exit status."""
-        for path, writer in ((self.options.report, page.write), (self.options.json, json_document.write)):
-            if path is not None:
-                self.write(path, writer, summaries)
-        lines = [line for summary in summaries for line in printed_lines.lines(summary)]
-        return lines, max(summary.verdict.status for summary in summaries)
 
     def out_summary(self, part: typing.Optional[str], form: str) -> typing.Optional[CopySummary]:
         """What is known of OUT, if it was made."""
@@ -61,12 +53,24 @@ class Reporter:
             made.append(CopySummary(copy.path, copy.size, copy.form, role, left.get(number, ""), verified, sum_))
         return made
 
-    def write(self, path: str, writer: Writer, summaries: typing.Sequence[Summary]) -> None:
-        """Writes a report under another name; it has its own when all is done."""
-        file, _ = self.files.make(path)
-        try:
-            with os.fdopen(file, "w", encoding="utf-8") as made:
-                for summary in summaries:
-                    writer(made, summary)
-        except OSError as error:
-            raise Fault(f"cannot write {path}: {error.strerror}") from None
+    def write(self, summaries: typing.Sequence[Summary], files: Files, *outputs: typing.Optional[Output]) -> list[Fault]:
+        """Writes the page and the document, if they are asked for, and returns why one can't be written."""
+        faults = []
+        for output, writer in zip(outputs, (page.write, json_document.write)):
+            try:
+                if output is not None:
+                    write_part(output, writer, summaries)
+                    files.settle(output)
+            except Fault as fault:
+                faults.append(fault)
+        return faults
+
+
+def write_part(output: Output, writer: Writer, summaries: typing.Sequence[Summary]) -> None:
+    """Writes a report as a part."""
+    try:
+        with open(output.part, "w", encoding="utf-8") as made:
+            for summary in summaries:
+                writer(made, summary)
+    except OSError as error:
+        raise Fault(f"cannot write {output.path}: {error.strerror}") from None

@@ -1,0 +1,48 @@
+"""What stands in for ffv1restore in the unit tests: tests/readings.py, its second reading, as a program."""
+from __future__ import annotations
+
+import pathlib
+import sys
+
+if __name__ == "__main__":
+    sys.dont_write_bytecode = True
+    sys.path.insert(0, str(pathlib.Path(__file__).resolve().parent.parent))
+
+import readings
+
+
+def scan(words: list[str]) -> int:
+    printed, status, fault = readings.scanned(pathlib.Path(words[0]).read_bytes(), pathlib.Path(words[1]).read_bytes())
+    return end(printed, status, fault)
+
+
+def mend(words: list[str]) -> int:
+    copies = [(path, pathlib.Path(path).read_bytes()) for path in words[2:]]
+    made, printed, status, fault = readings.mended(pathlib.Path(words[0]).read_bytes(), copies)
+    if made is not None:
+        pathlib.Path(words[1]).write_bytes(made)
+    return end(printed, status, fault)
+
+
+def end(printed: bytes, status: int, fault: str) -> int:
+    sys.stdout.write(printed.decode())
+    if fault:
+        sys.stderr.write(f"ffv1restore: {fault}\n")
+    return status
+
+
+COMMANDS = {"scan": scan, "mend": mend}
+
+
+def make(folder: pathlib.Path, before: str = "") -> str:
+    """Makes the program in a folder: a command in Python, with lines before it that see `words`."""
+    path = folder / "ffv1restore"
+    path.write_text(f"#!{sys.executable}\nimport runpy, sys\nwords = sys.argv[1:]\n{before}\nrunpy.run_path({__file__!r}, run_name='__main__')\n")
+    path.chmod(0o755)
+    return str(path)
+
+
+if __name__ == "__main__":
+    if sys.argv[1] not in COMMANDS:
+        sys.exit(f"ffv1restore: the stand-in has no {sys.argv[1]}")
+    sys.exit(COMMANDS[sys.argv[1]](sys.argv[2:]))
