@@ -132,8 +132,8 @@ class Stretch:
     """A run of bytes of OUT. `start` is its place there, `places` has for each copy where it lies in it, if it does. `parts` are frames
     that lie within an element, by their places in OUT; a stretch of the kind FRAME has its own frame as its only one. `vouched` are
     the copies of which the container itself confirms what they have here (a header that leads to the next element, say). `is_read` is
-    whether some copy has it, and a map says of each other one that it could not be read there. `source` is the copy FROM, and `because`
-    says why."""
+    whether some copy has it, and a map says of each other one that it could not be read there; `is_unread`, whether maps say so of all.
+    `source` is the copy FROM, and `because` says why."""
 
     kind: Kind
     start: int
@@ -143,6 +143,7 @@ class Stretch:
     parts: tuple[Frame, ...] = ()
     vouched: frozenset[int] = frozenset()
     is_read: bool = False
+    is_unread: bool = False
     source: int = 0
     because: Because = Because.ALONE
 
@@ -173,12 +174,14 @@ class Layout:
 
 @dataclasses.dataclass
 class Copy:
-    """A copy: its path, its open file, and its length in bytes. `form` is the container's name: `matroska`, one of FFmpeg's, or empty."""
+    """A copy: its path, its open file, and its length in bytes. `form` is the container's name: `matroska`, one of FFmpeg's, or empty. `unread`
+    is from where to where it could not be read when it was made, by a map."""
 
     path: str
     file: int
     size: int
     form: str = ""
+    unread: typing.Sequence[tuple[int, int]] = ()
 
     def read(self, place: int, size: int) -> bytes:
         """Bytes of the file; fewer where it ends."""

@@ -62,6 +62,7 @@ def choose(layout: Layout, copies: typing.Sequence[Copy], health: typing.Sequenc
     `reads` says whose container can be read, and `judge` is called once, with the frames in which copies differ. Only the stretches of these
     numbers are compared, where it is known that all others are alike in all copies."""
     found = [KnownDamage(verified, Sectors(copy.size)) for verified, copy in zip(health, copies)]
+    mark_unread(copies, found)
     cases = judged(list(differing(layout.stretches, copies, found, unlike)), copies, judge)
     for case in cases:
         narrow(case, by_check(case), Because.CONFIRMED)
@@ -75,6 +76,13 @@ def choose(layout: Layout, copies: typing.Sequence[Copy], health: typing.Sequenc
         narrow(case, case.candidates[:1], Because.FIRST)
         case.stretch.source = case.candidates[0]
     return found
+
+
+def mark_unread(copies: typing.Sequence[Copy], found: typing.Sequence[KnownDamage]) -> None:
+    """Marks the sectors that could not be read."""
+    for copy, known in zip(copies, found):
+        for start, end in copy.unread:
+            known.damaged.mark(start, end)
 
 
 def differing(stretches: typing.Iterable[Stretch], copies: typing.Sequence[Copy], found: typing.Sequence[KnownDamage],

@@ -27,6 +27,7 @@ class Why(enum.Enum):
     DISPUTED = "two different versions pass their checksums; see whether all copies are of one recording. {out} has that of copy {source}"
     DIFFER = "the copies differ, and no checksum says which is right; {out} has that of copy {source}{because}"
     ABSENT = "no copy has these bytes, so {out} lacks them; a further copy may have them"
+    NEVER_READ = "no copy could be read there, as their maps say; a further copy may have {it}"
     UNDIVIDED = "no copy's element headers lead through these bytes, so frames may be hidden there; a further copy may show them"
     HIDDEN = "{out} has the bytes, but its container does not show {it}; a further copy may have what shows {it}"
     UNREAD = "its container can't be read; a further copy may have its headers"

@@ -184,7 +184,9 @@ class Results:
         outcome, having = self.outcomes.get(number), sum(place is not None for place in stretch.places)
         state = (outcome.state if outcome else State.WHOLE if stretch.kind is not Kind.PLAIN
                  else State.AGREED if having > 1 else State.ALONE)
-        return State.READ if state is State.ALONE and stretch.is_read else state
+        if state is State.ALONE and (stretch.is_read or stretch.is_unread):
+            return State.READ if stretch.is_read else State.OPEN
+        return state
 
     def vouch_for_headers(self) -> None:
         """Counts the header of an element whose content passes its CRC-32 as verified: with another size it could not pass. One that is

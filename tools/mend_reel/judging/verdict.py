@@ -175,7 +175,9 @@ def of_stretch(stretch: Stretch, state: State, lost: typing.Sequence[FrameResult
     """Why a stretch is in doubt: the frames that are lost in it, if it is for them, else all of it."""
     having = sum(place is not None for place in stretch.places)
     damaged = Why.ALONE_DAMAGED if having == 1 else Why.DAMAGED
-    if state is State.OPEN:
+    if stretch.is_unread:
+        yield of_bytes(Why.NEVER_READ, stretch)
+    elif state is State.OPEN:
         yield dataclasses.replace(of_frame(Why.DIFFER, lost[0], source), because=stretch.because) if lost else of_bytes(Why.DIFFER, stretch, source)
     elif state is State.DISPUTED:
         yield of_bytes(Why.DISPUTED, stretch, source)

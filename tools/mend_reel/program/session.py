@@ -11,6 +11,7 @@ from ..containers import ffmpeg_files, ffprobe, matroska
 from ..copies import broken_headers, differences, preferred_copy
 from ..copies.arrangement import arrange, describe
 from ..copies.inputs import Inputs, add_other_files
+from ..copies.unread_places import without_unread
 from ..judging import copy_health, decoding, digests
 from ..judging.digests import Compared
 from ..judging.frame_checks import Scan
@@ -20,7 +21,7 @@ from ..model import Claims, Copy, Fault, Frame, Layout, Outcome, Stretch, open_c
 from ..reports import printed_lines
 from ..reports.summary import Summary
 from ..reports.writer import Reporter
-from . import mend_list, output_files, work_folder
+from . import ddrescue_maps, mend_list, output_files, work_folder
 from .external_programs import find_ffv1restore
 from .kept_frames import Held, Keeper
 from .mend_run import mend
@@ -118,6 +119,8 @@ class Session:
     def run(self, reporter: Reporter) -> Summary:
         """Does the work."""
         copies = [open_copy(path) for path in self.options.copies]
+        for number, path in self.options.maps.items():
+            copies[number].unread = ddrescue_maps.unread(path, copies[number])
         try:
             return self.judged(copies, reporter)
         finally:
@@ -189,7 +192,8 @@ class Session:
         claims = self.claims(layout, copies)
         self.progress.begin("comparing the copies")
         for stretch in layout.stretches:
-            stretches += differences.split(stretch, copies)
+            for part in without_unread(stretch, copies):
+                stretches += differences.split(part, copies)
             self.progress.at(stretch.end, layout.size)
         layout.stretches = stretches
         broken = broken_headers.drop_broken(stretches, copies)

@@ -1,0 +1,57 @@
+"""What of copies could not be read."""
+import unittest
+
+from mend_reel.copies.unread_places import spans_in, without_unread
+from mend_reel.model import Content, Copy, Kind, Stretch, What
+
+
+def copy(*unread):
+    return Copy("", 0, 1000, unread=unread)
+
+
+def cut(kind, places, *copies, start=100, size=60):
+    stretch = Stretch(kind, start, size, What(Content.SOUND), places)
+    return [(part.start, part.end, part.places, part.is_read, part.is_unread) for part in without_unread(stretch, copies)]
+
+
+class UnreadTest(unittest.TestCase):
+    def test_spans_between_two_places(self):
+        one = copy((10, 20), (30, 40), (50, 60))
+        self.assertEqual(spans_in(one, 20, 30), [])
+        self.assertEqual(spans_in(one, 19, 31), [(19, 20), (30, 31)])
+        self.assertEqual(spans_in(one, 0, 99), [(10, 20), (30, 40), (50, 60)])
+        self.assertEqual(spans_in(one, 32, 35), [(32, 35)])
+
+    def test_without_maps_nothing_is_cut(self):
+        self.assertEqual(cut(Kind.PLAIN, (100, 100), copy(), copy()), [(100, 160, (100, 100), False, False)])
+
+    def test_what_one_could_not_read_the_other_has(self):
+        self.assertEqual(cut(Kind.PLAIN, (100, 120), copy((110, 130)), copy()), [
+            (100, 110, (100, 120), False, False), (110, 130, (None, 130), True, False), (130, 160, (130, 150), False, False)])
+
+    def test_places_of_a_copy_are_its_own(self):
+        self.assertEqual(cut(Kind.PLAIN, (100, 120), copy(), copy((110, 130))), [
+            (100, 110, (100, None), True, False), (110, 160, (110, 130), False, False)])
+
+    def test_two_that_could_be_read_decide_together(self):
+        self.assertEqual(cut(Kind.PLAIN, (100, 100, 100), copy((0, 500)), copy(), copy()), [(100, 160, (None, 100, 100), False, False)])
+
+    def test_of_three_one_could_be_read(self):
+        self.assertEqual(cut(Kind.PLAIN, (100, 100, 100), copy((0, 500)), copy(), copy((90, 160))), [(100, 160, (None, 100, None), True, False)])
+
+    def test_a_copy_that_is_cut_short_explains_nothing(self):
+        self.assertEqual(cut(Kind.PLAIN, (100, 100, None), copy((0, 500)), copy(), copy()), [(100, 160, (None, 100, None), False, False)])
+
+    def test_what_none_could_read_is_open(self):
+        self.assertEqual(cut(Kind.PLAIN, (100, 100), copy((90, 120)), copy((110, 200))), [
+            (100, 110, (None, 100), True, False), (110, 120, (110, None), False, True), (120, 160, (120, None), True, False)])
+        self.assertEqual(cut(Kind.PLAIN, (100,), copy((90, 300))), [(100, 160, (100,), False, True)])
+
+    def test_a_frame_is_not_cut(self):
+        self.assertEqual(cut(Kind.FRAME, (100, 100), copy((110, 120)), copy()), [(100, 160, (100, 100), False, False)])
+        self.assertEqual(cut(Kind.FRAME, (100, 100), copy((90, 160)), copy()), [(100, 160, (None, 100), True, False)])
+        self.assertEqual(cut(Kind.ELEMENT, (100, 100), copy((90, 160)), copy((0, 999))), [(100, 160, (100, 100), False, False)])
+
+
+if __name__ == "__main__":
+    unittest.main()
