@@ -4,10 +4,11 @@ from __future__ import annotations
 import itertools
 import typing
 import unittest
+from unittest import mock
 
-from mend_reel.containers import matroska
+from mend_reel.containers import aligned_copies, elements, matroska
 from mend_reel.model import Content, Kind, Layout, Stretch
-from . import made
+from . import framed, made
 
 REEL, PLAIN_REEL = made.reel(), made.reel(crc=False)
 
@@ -349,6 +350,47 @@ class Kinds(unittest.TestCase):
         self.assertTrue(self.is_matroska(made.damaged(REEL, (0, bytes(512))), REEL))
         for other in (b"", b"RIFF" + made.noise(1, 4000), bytes(4000), made.noise(2, 4000)):
             self.assertFalse(self.is_matroska(other))
+
+
+
+class BadInput(unittest.TestCase):
+    """Files of heads alone: each would be divided at each of its bytes."""
+
+    def steps(self, content):
+        """How many places of a file are looked at with care, and how many stretches it has."""
+        looked = []
+
+        def counted(walk, place, live):
+            looked.append(place)
+            return edges(walk, place, live)
+
+        edges = elements.Walk._edges
+        with mock.patch.object(elements.Walk, "_edges", counted):
+            found = layout(content)
+        return len(looked), len(found.stretches)
+
+    def test_heads_alone_cost_no_more_than_a_file_of_their_size_may(self):
+        head, size = framed.matroska([(0.0, framed.frame(1))], crc=False), 1 << 19
+        most = (aligned_copies.FEWEST_STEPS + (size + len(head)) // aligned_copies.BYTES_PER_STEP) // elements.CAREFUL_STEPS
+        for heads in ("1f43b675", "1f43b67501ffffffffffffff", "1f43b67501ffffffffffffffe78100" + 9 * "a38481000080", "a3", "a34fff81000080", "ec80"):
+            piece = bytes.fromhex(heads)
+            with self.subTest(heads=heads):
+                looked, stretches = self.steps(head + piece * (size // len(piece)))
+                self.assertLessEqual(looked, most)
+                self.assertLessEqual(stretches, 8 * most)
+
+    def test_what_is_left_is_not_divided(self):
+        content = framed.matroska([(0.0, framed.frame(1))], crc=False) + bytes.fromhex("1f43b67501ffffffffffffff") * 40000
+        found = layout(content)
+        self.assertEqual(sum(stretch.size for stretch in found.stretches), len(content))
+        self.assertEqual(sum(found.gaps[-1]), len(content))
+
+    def test_a_good_file_has_steps_left(self):
+        content = framed.matroska([(0.04 * number, framed.frame(number)) for number in range(40)])
+        with made.opened(content) as copies:
+            reader = matroska.MatroskaReader(copies)
+            reader.layout()
+        self.assertGreater(reader.aligned.steps.left, 0.9 * aligned_copies.FEWEST_STEPS)
 
 
 if __name__ == "__main__":

@@ -8,19 +8,35 @@ from ..model import Copy
 from . import ebml
 
 WINDOW = 1024
+FEWEST_STEPS, BYTES_PER_STEP = 1 << 14, 512
 Numbers = frozenset[int]
 NONE: Numbers = frozenset()
+
+
+class Steps:
+    """How many heads of elements may still be read, so that a file of heads alone takes no longer than one of frames. A good file has far
+    fewer than it may have; what lies after the last head that may be read is not divided."""
+
+    def __init__(self, size: int) -> None:
+        self.left = FEWEST_STEPS + size // BYTES_PER_STEP
+
+    def take(self, count: int = 1) -> bool:
+        """Takes some steps, and reports whether they were left."""
+        self.left -= count
+        return self.left >= 0
 
 
 class AlignedCopies:
     """The copies of one file, read in windows. `numbers` are those that count."""
 
-    def __init__(self, copies: typing.Sequence[Copy], numbers: typing.Optional[typing.Iterable[int]] = None) -> None:
+    def __init__(self, copies: typing.Sequence[Copy], numbers: typing.Optional[typing.Iterable[int]] = None,
+                 steps: typing.Optional[Steps] = None) -> None:
         self.copies = copies
         self.numbers = tuple(range(len(copies)) if numbers is None else numbers)
         self.end = max((copies[number].size for number in self.numbers), default=0)
         self.everyone = frozenset(self.numbers)
         self._least = min((copies[number].size for number in self.numbers), default=0)
+        self.steps = steps or Steps(self.end)
         self._windows: list[tuple[int, bytes]] = [(0, b"")] * len(copies)
 
     def reaching(self, place: int) -> typing.Sequence[int]:

@@ -110,7 +110,7 @@ class Clusters:
         while place < end:
             data = self.aligned.agreed(place, SHORT_HEAD)
             head = ebml.read_head(data, 0, place)
-            if head is None or head.end is None or head.end > end or head.identity not in IN_CLUSTER:
+            if not self.aligned.steps.take() or head is None or head.end is None or head.end > end or head.identity not in IN_CLUSTER:
                 return None
             if head.identity == SIMPLE_BLOCK:
                 block = read_block_head(data[head.content - place :], head.content)

@@ -16,6 +16,8 @@ from .aligned_copies import NONE, AlignedCopies, Budget, Numbers
 
 PIECE = 1 << 16
 MOST_STEPS = 3
+# How many steps it costs to read the heads at a place where copies differ, or nothing known begins.
+CAREFUL_STEPS = 8
 UNDIVIDED = 0
 Cost = tuple[int, int, int]
 
@@ -83,7 +85,7 @@ class Walk:
         children, place, live = [], self.start, False
         while place < self.end:
             child = self._agreed(place, live)
-            if child is None:
+            if child is None or not self.aligned.steps.take():
                 return None
             children.append(child)
             place, live = child.end, self._stays_live(child, live)
@@ -215,6 +217,8 @@ class Walk:
                 continue
             elif place == self.end:
                 break
+            elif not self.aligned.steps.take(CAREFUL_STEPS):
+                return self._up_to(max(done, default=self.start), best)
             else:
                 done.add(place)
                 edges = self._edges(place, live)
@@ -225,11 +229,15 @@ class Walk:
                 if child.end not in best or total < best[child.end][0]:
                     best[child.end] = total, child, self._stays_live(child, live)
                     heapq.heappush(heap, (total, child.end, False))
-        return self._path(best)
+        return self._path(best, self.end)
 
-    def _path(self, best: typing.Mapping[int, tuple[Cost, typing.Optional[Child], bool]]) -> list[Child]:
+    def _up_to(self, place: int, best: typing.Mapping[int, tuple[Cost, typing.Optional[Child], bool]]) -> list[Child]:
+        """Returns the children up to a place, and what comes after it as bytes that are not divided."""
+        return [*self._path(best, place), Child(UNDIVIDED, place, place, self.end)]
+
+    def _path(self, best: typing.Mapping[int, tuple[Cost, typing.Optional[Child], bool]], end: int) -> list[Child]:
         children: list[Child] = []
-        child = best[self.end][1]
+        child = best[end][1]
         while child is not None:
             children.append(child)
             child = best[child.place][1]
@@ -250,7 +258,7 @@ class Walk:
 
     def _signs(self, place: int, stop: int) -> typing.Iterator[int]:
         """Yields the places in a range at which an element seems to begin in some copy."""
-        while place < stop:
+        while place < stop and self.aligned.steps.left > 0:
             size, signs = min(PIECE, stop - place), set()
             for number in self.aligned.numbers:
                 piece = self.aligned.copies[number].read(place, size + self.schema.reach - 1)
@@ -259,6 +267,8 @@ class Walk:
             place += size
 
     def _is_sure(self, place: int) -> bool:
+        if not self.aligned.steps.take(CAREFUL_STEPS):
+            return False
         candidates = [child for child in self._candidates(place, False) if not self.schema.strong or child.identity in self.schema.strong]
         return any(self._leads_on(child, False) or self._confirms(child) or self._passes(child) for child in candidates)
 
@@ -271,5 +281,5 @@ def divide(aligned: AlignedCopies, start: int, end: int, schema: Schema, budget:
 def divides(aligned: AlignedCopies, start: int, end: int, known: Numbers) -> bool:
     """Reports whether elements of known IDs cover a range, in all copies alike or in one."""
     budget, schema = Budget(0), Schema(known)
-    views = [aligned, *(AlignedCopies(aligned.copies, [number]) for number in aligned.numbers)]
+    views = [aligned, *(AlignedCopies(aligned.copies, [number], aligned.steps) for number in aligned.numbers if len(aligned.numbers) > 1)]
     return any(Walk(each, start, end, schema, budget).quick() for each in views)

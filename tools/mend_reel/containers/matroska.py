@@ -6,7 +6,7 @@ import typing
 
 from ..model import Claims, Content, Copy, Layout, Track, What
 from . import clusters, ebml, elements, metadata, slice_footers
-from .aligned_copies import NONE, WINDOW, AlignedCopies, Budget, Numbers
+from .aligned_copies import NONE, WINDOW, AlignedCopies, Budget, Numbers, Steps
 from .stretch_builder import MOST_STRETCH, Stretches
 
 EBML, SEGMENT, CLUSTER = 0x1A45DFA3, 0x18538067, 0x1F43B675
@@ -53,8 +53,8 @@ def is_matroska(copies: typing.Sequence[Copy]) -> bool:
     header = EBML.to_bytes(4, "big")
     if any(copy.read(0, 4) == header and document_type(copy) in DOCUMENT_TYPES for copy in copies):
         return True
-    aligned = AlignedCopies(copies)
-    end = min(aligned.end, FIRST_BYTES)
+    end = min(max((copy.size for copy in copies), default=0), FIRST_BYTES)
+    aligned = AlignedCopies(copies, steps=Steps(end))
     children = elements.divide(aligned, 0, end, TOP, Budget(end), is_cut=True)
     return sum(child.identity in STRONG and bool(child.vouched) for child in children) > 1
 
@@ -132,7 +132,7 @@ class MatroskaReader:
     def _without_head(self, child: elements.Child) -> typing.Optional[elements.Child]:
         """Returns the element that bytes which no copy divides are but for its head, if its children cover all the rest; or what an element
         of an unknown ID is by its children."""
-        if child.identity in TOP.known:
+        if child.identity in TOP.known or not self.aligned.steps.take(elements.CAREFUL_STEPS):
             return None
         heads = [self.aligned.peek(number, child.place, 4) for number in self.aligned.numbers]
         named = [identity for identity in CHILDREN if identity.to_bytes(4, "big") in heads] or list(CHILDREN)
