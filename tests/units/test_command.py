@@ -12,6 +12,7 @@ import time
 import typing
 import unittest
 
+import schema
 from . import stand_in
 from mend_reel.model import Fault
 from mend_reel.program import options
@@ -134,9 +135,16 @@ class ReportsTest(InFolder):
     def test_a_document_goes_to_standard_output(self) -> None:
         for name in ("-", "/dev/stdout"):
             done = self.call("--json", name, "--check", "b.mkv")
-            self.assertEqual((done.returncode, json.loads(done.stdout)["verdict"]["status"]), (0, 0))
+            self.assertEqual((done.returncode, json.loads(done.stdout)["files"][0]["verdict"]["status"]), (0, 0))
             self.assertIn(b"frames: 16", done.stderr)
         self.assertTrue(os.path.islink("/dev/stdout"))
+
+    def test_files_that_are_checked_are_one_document_and_one_page(self) -> None:
+        done = self.call("--check", "--json", "made.json", "--report", "made.html", "a.mkv", "b.mkv")
+        made = json.loads(self.read("made.json"))
+        self.assertEqual((done.returncode, schema.faults(made)), (3, ""))
+        self.assertEqual([each["verdict"]["status"] for each in made["files"]], [3, 0])
+        self.assertEqual(self.read("made.html").count(b"<h1>"), 2)
 
     def test_devices_are_written_to(self) -> None:
         before = os.stat("/dev/null")

@@ -8,10 +8,13 @@ import re
 import unittest
 from unittest import mock
 
+import schema
 from mend_reel.copies.arrangement import Matched
 from mend_reel.judging.digests import Compared
+from mend_reel.judging.reasons import Why
+from mend_reel.judging.results import FrameState
 from mend_reel.judging.verdict import Evidence, judge
-from mend_reel.model import Outcome, SliceReport, State
+from mend_reel.model import Because, Content, Kind, Outcome, SliceReport, State
 from mend_reel.reports import json_document, page, timeline
 from mend_reel.reports.summary import CopySummary, Role, Summary
 from mend_reel.reports.timeline import COLUMNS, Shade, Timeline
@@ -56,22 +59,25 @@ class Strict(html.parser.HTMLParser):
 class MachineTest(unittest.TestCase):
     def read(self, made):
         file = io.StringIO()
-        json_document.write(file, made)
-        return json.loads(file.getvalue())
+        json_document.write(file, [made])
+        whole = json.loads(file.getvalue())
+        self.assertEqual(schema.faults(whole), "")
+        read, = whole.pop("files")
+        return {**whole, **read}
 
     def test_what_is_damaged(self):
         read = self.read(summary(recording(), *DAMAGED, compared=Compared(False, "it is not", True), notes=["a note"]))
-        self.assertEqual((read["format"], read["format_version"], read["date"], read["command"][2]), ("mend-reel", 1, "2026-11-26T12:00:00Z", "a<b>.mkv"))
-        self.assertEqual(read["frames"], {"frames": 6, "damaged": 2, "restored": 1, "woven": 1, "not_restored": 1})
-        self.assertEqual(sum(read["bytes"].values()), recording().size)
+        self.assertEqual((read["format"], read["format_version"], read["date"], read["command"][2]), ("mend-reel", 2, "2026-11-26T12:00:00Z", "a<b>.mkv"))
+        self.assertEqual(read["frame_counts"], {"all": 6, "damaged": 2, "restored": 1, "woven": 1, "not_restored": 1})
+        self.assertEqual(sum(read["sizes"].values()), recording().size)
         self.assertEqual((read["verdict"]["status"], read["verdict"]["reasons"][0]["why"], read["digest"]["is_original"]), (3, "damaged", False))
         first, second, third = read["stretches"]
-        self.assertEqual((first["stretch"], first["state"], first["open"], first["bytes"], first["time"]), (5, "missing", True, [624, 1124], [0.04, 0.04]))
-        self.assertEqual(first["copies"], [{"copy": 1, "bytes": [624, 1124], "alike": True}, {"copy": 2, "bytes": [624, 1124], "alike": False}])
+        self.assertEqual((first["stretch"], first["state"], first["is_open"], first["range"], first["times"]), (5, "missing", True, [624, 1124], [0.04, 0.04]))
+        self.assertEqual(first["places"], [{"copy": 1, "range": [624, 1124], "is_alike": True}, {"copy": 2, "range": [624, 1124], "is_alike": False}])
         self.assertEqual(first["frames"][0]["slices"], [
-            {"bytes": [100, 300], "state": "settled", "combinations": 0, "from": [1, 2]},
-            {"bytes": [40, 100], "state": "missing", "combinations": 0, "from": [1]},
-            {"bytes": [0, 40], "state": "settled", "combinations": 0, "from": [2]}])
+            {"range_in_frame": [100, 300], "state": "settled", "combinations": 0, "given_by": [1, 2]},
+            {"range_in_frame": [40, 100], "state": "missing", "combinations": 0, "given_by": [1]},
+            {"range_in_frame": [0, 40], "state": "settled", "combinations": 0, "given_by": [2]}])
         self.assertEqual((second["combinations"], second["frames"][0]["state"], third["frames"]), (4, "woven", []))
         self.assertEqual(read["notes"][0], "a note")
 
@@ -85,13 +91,51 @@ class MachineTest(unittest.TestCase):
         made.copies[1].path = path
         copies = self.read(made)["copies"]
         self.assertEqual(bytes.fromhex(copies[1]["path_hex"]), os.fsencode(path))
-        self.assertEqual((copies[1]["path"], "path_hex" in copies[0]), ("/films/\ufffd\ufffd.mkv", False))
+        self.assertEqual((copies[1]["path"], copies[0]["path_hex"] is None), ("/films/\ufffd\ufffd.mkv", True))
+
+
+class SchemaTest(unittest.TestCase):
+    def document(self):
+        file = io.StringIO()
+        json_document.write(file, [summary(recording(), *DAMAGED, notes=["a note"]), summary(recording(), out=False)])
+        return json.loads(file.getvalue())
+
+    def test_the_schema_names_the_words_of_the_program_and_no_others(self):
+        defs = json.loads(schema.SCHEMA.read_text())["$defs"]
+
+        def words(name, field):
+            return set(defs[name]["properties"][field]["enum"]) - {None}
+
+        self.assertEqual(set(defs["content"]["enum"]), {content.value for content in Content})
+        self.assertEqual(words("reason", "why"), {why.name.lower() for why in Why})
+        self.assertEqual(words("reason", "because"), {because.name.lower() for because in Because if because.value})
+        self.assertEqual(words("stretch", "state"), {state.value for state in State})
+        self.assertEqual(words("stretch", "checksum"), {kind.value for kind in Kind})
+        self.assertEqual(words("frame", "state"), {state.value for state in FrameState})
+        self.assertEqual(words("copy", "role"), set(json_document.ROLES.values()))
+
+    def test_several_files_are_one_document(self):
+        made = self.document()
+        self.assertEqual((schema.faults(made), len(made["files"]), made["files"][1]["out"]), ("", 2, None))
+
+    def test_the_schema_refuses_other_documents(self):
+        changes = [
+            lambda made: made.pop("date"), lambda made: made.update(more=1), lambda made: made.update(format_version=1),
+            lambda made: made["files"][0].pop("stretches"), lambda made: made["files"][0]["sizes"].update(verified=-1),
+            lambda made: made["files"][0]["stretches"][0].update(state="good"), lambda made: made["files"][0]["stretches"][0].update(range=[1]),
+            lambda made: made["files"][0]["copies"][0].update(copy=0), lambda made: made["files"][0]["copies"][0].update(sha256="ab"),
+            lambda made: made["files"][0]["verdict"].update(status=1), lambda made: made["files"][0]["verdict"]["reasons"][0].update(times=[1, 2, 3]),
+            lambda made: made["files"][0]["stretches"][0]["frames"][0]["slices"][0].pop("given_by"), lambda made: made.update(files=[])]
+        for change in changes:
+            made = self.document()
+            change(made)
+            self.assertNotEqual(schema.faults(made), "")
 
 
 class PageTest(unittest.TestCase):
     def page(self, made):
         file = io.StringIO()
-        page.write(file, made)
+        page.write(file, [made])
         seen = Strict()
         seen.feed(file.getvalue())
         seen.close()
@@ -170,6 +214,14 @@ class PageTest(unittest.TestCase):
         text, words = self.page(summary(recording(), copies=40))
         self.assertIn("28 further copies are not drawn", words)
         self.assertEqual(len(re.findall(r">copy \d+</text>", text)), 12)
+
+    def test_files_that_are_checked_are_one_page(self):
+        file = io.StringIO()
+        page.write(file, [summary(recording(), *DAMAGED, out=False, copies=1), summary(recording(), out=False, copies=1)])
+        seen = Strict()
+        seen.feed(file.getvalue())
+        seen.close()
+        self.assertEqual((seen.open, file.getvalue().count("<h1>"), file.getvalue().count("<!DOCTYPE"), file.getvalue().count("<footer>")), ([], 2, 1, 1))
 
 
 class TimelineTest(unittest.TestCase):

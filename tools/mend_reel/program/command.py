@@ -18,8 +18,8 @@ from .session import Finished, Outputs
 from .work_folder import WorkFolder
 
 
-class Interrupted(Fault):
-    """What ends the work because a signal came."""
+class Interrupted(BaseException):
+    """What ends the work because a signal came. Nothing that gets over a fault gets over this."""
 
 
 def interrupted(*_: typing.Any) -> typing.NoReturn:
@@ -69,7 +69,7 @@ def say(fault: str) -> None:
         print(line, file=sys.stderr or io.StringIO(), flush=True)
 
 
-def made_or_not(fault: Exception, asked: options.Options, outputs: typing.Optional[Outputs]) -> str:
+def made_or_not(fault: BaseException, asked: options.Options, outputs: typing.Optional[Outputs]) -> str:
     """A fault, and whether OUT was made before it where that is to be said."""
     if outputs is not None and outputs.is_out_made:
         return f"{fault}; {asked.out} was made"
@@ -105,7 +105,7 @@ def main() -> int:
         finished = session.run(asked, work.path, outputs, progress)
         progress.end()
         return finish(asked, outputs, finished)
-    except (Fault, OSError) as fault:
+    except (Fault, OSError, Interrupted) as fault:
         progress.end()
         say(made_or_not(fault, asked, outputs))
         return 1

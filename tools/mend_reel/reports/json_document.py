@@ -1,8 +1,8 @@
-"""The report for machines: one document in JSON, written as it goes.
+"""The report for machines: one document in JSON, written as it goes. docs/mend-reel.schema.json says what it has.
 
 A path that is not UTF-8 has the replacement character U+FFFD in place of each byte that is none in `path`, and all its bytes in hexadecimal
-digits in `path_hex`. Copies and stretches count from 1, frames from 0, bytes from 0; a range of bytes ends before its second number. Times
-are in seconds. What is not known is null.
+digits in `path_hex`. Copies and stretches count from 1, frames from 0, bytes from 0. A size counts bytes, and a range ends before its second
+number. Times are in seconds. What is not known is null.
 """
 from __future__ import annotations
 
@@ -15,31 +15,50 @@ from ..judging.results import FrameResult, Results
 from ..model import Outcome, SliceReport, Stretch, Track
 from .summary import CopySummary, Role, Summary
 
-FORMAT, FORMAT_VERSION = "mend-reel", 1
+FORMAT, FORMAT_VERSION = "mend-reel", 2
 Made = dict[str, typing.Any]
-ROLES = {Role.BASIS: "copy", Role.OTHER: "other file", Role.LEFT: "left out"}
+ROLES = {Role.BASIS: "basis", Role.OTHER: "other file", Role.LEFT: "left out"}
 
 
-def write(file: typing.TextIO, summary: Summary) -> None:
-    """Writes the document. The stretches come last, one in a line: those that are not whole in every copy."""
-    head = json.dumps(document(summary), indent=1)
-    file.write(head[: head.rindex("\n}")] + ',\n "stretches": [')
+def write(file: typing.TextIO, summaries: typing.Sequence[Summary]) -> None:
+    """Writes the document: OUT, or each file that was checked."""
+    write_open(file, call_of(summaries[0]), "files")
+    for number, summary in enumerate(summaries):
+        file.write(",\n" if number else "\n")
+        write_file(file, summary)
+    file.write("\n ]\n}\n")
+
+
+def write_open(file: typing.TextIO, made: Made, last: str) -> None:
+    """Writes an object up to the beginning of its last member, a list."""
+    head = json.dumps(made, indent=1)
+    file.write(head[: head.rindex("\n}")] + f',\n "{last}": [')
+
+
+def write_file(file: typing.TextIO, summary: Summary) -> None:
+    """Writes what is known of OUT or of a file. The stretches come last, one in a line: those that are not whole in every copy."""
+    write_open(file, document(summary), "stretches")
     comma = "\n"
     for number in listed(summary.verdict.results):
         file.write(comma + "  " + json.dumps(stretch_of(summary.verdict.results, number)))
         comma = ",\n"
-    file.write("\n ]\n}\n")
+    file.write("\n ]\n}")
+
+
+def call_of(summary: Summary) -> Made:
+    return {"format": FORMAT, "format_version": FORMAT_VERSION, "date": summary.date, "programs": dict(summary.versions),
+            "command": [text_of(word) for word in summary.command]}
 
 
 def document(summary: Summary) -> Made:
-    verdict = summary.verdict
+    verdict, counts = summary.verdict, summary.verdict.counts
     return {
-        "format": FORMAT, "format_version": FORMAT_VERSION, "date": summary.date, "programs": dict(summary.versions),
-        "command": [text_of(word) for word in summary.command],
-        "copies": [{"copy": number, **copy_of(copy)} for number, copy in enumerate(summary.copies, 1)],
-        "out": copy_of(summary.out) if summary.out else None,
-        "streams": [track_of(track) for track in summary.layout.tracks],
-        "bytes": verdict.sums.named(), "frames": {name.replace(" ", "_"): count for name, count in verdict.counts.named().items()},
+        "copies": [{"copy": number, **file_of(copy), **role_of(copy)} for number, copy in enumerate(summary.copies, 1)],
+        "out": file_of(summary.out) if summary.out else None,
+        "tracks": [track_of(track) for track in summary.layout.tracks],
+        "frame_counts": {"all": counts.frames, "damaged": counts.damaged, "restored": counts.restored, "woven": counts.woven,
+                         "not_restored": counts.lost},
+        "sizes": verdict.sums.named(),
         "verdict": {"status": verdict.status, "sentence": text_of(summary.sentence()),
                     "reasons": [reason_of(reason, summary.out_name()) for reason in verdict.reasons]},
         "digest": {"is_original": verdict.compared.is_original, "sentence": text_of(verdict.compared.text)} if verdict.compared else None,
@@ -52,12 +71,15 @@ def text_of(text: str) -> str:
     return os.fsencode(text).decode("utf-8", "replace")
 
 
-def copy_of(copy: CopySummary) -> Made:
-    made: Made = {"path": copy.name()}
-    if made["path"] != copy.path:
-        made["path_hex"] = os.fsencode(copy.path).hex()
-    return {**made, "bytes": copy.size, "container": copy.form or None, "role": ROLES[copy.role], "why": copy.why or None,
-            "verified": copy.verified, "sha256": copy.sha256}
+def file_of(copy: CopySummary) -> Made:
+    """What a copy and OUT are alike in."""
+    is_text = copy.name() == copy.path
+    return {"path": copy.name(), "path_hex": None if is_text else os.fsencode(copy.path).hex(), "size": copy.size, "container": copy.form or None,
+            "sha256": copy.sha256}
+
+
+def role_of(copy: CopySummary) -> Made:
+    return {"role": ROLES[copy.role], "left_out_because": text_of(copy.why) or None, "verified_size": copy.verified}
 
 
 def track_of(track: Track) -> Made:
@@ -66,9 +88,10 @@ def track_of(track: Track) -> Made:
 
 
 def reason_of(reason: Reason, out: str) -> Made:
-    return {"why": reason.why.name.lower(), "content": reason.content.value, "track": reason.track, "frames": reason.frames,
-            "bytes": reason.bytes, "time": times_of(reason.times or (None, None)), "taken_from": counted(reason.source),
-            "copy": counted(reason.copy), "sentence": reason.text(out)}
+    return {"why": reason.why.name.lower(), "because": reason.because.name.lower() if reason.because.value else None,
+            "content": reason.content.value, "track": reason.track, "first_and_last_frame": reason.frames, "range": reason.bytes,
+            "times": times_of(reason.times or (None, None)), "taken_from": counted(reason.source), "copy": counted(reason.copy),
+            "sentence": text_of(reason.text(out))}
 
 
 def counted(copy: typing.Optional[int]) -> typing.Optional[int]:
@@ -97,28 +120,26 @@ def stretch_of(results: Results, number: int) -> Made:
     what = stretch.what
     return {
         "stretch": number + 1, "content": what.content.value, "track": what.track, "checksum": stretch.kind.value, "state": state.value,
-        "open": not state.is_good(), "combinations": outcome.count if outcome else 0, "time": times_of((what.start, what.end)),
-        "bytes": [stretch.start, stretch.end],
-        "taken_from": counted(results.source(stretch)),
-        "copies": places_of(stretch, outcome, results.copy_of_mark), "frames": [frame_of(result, results) for result in results.within(number)],
+        "is_open": not state.is_good(), "combinations": outcome.count if outcome else 0, "times": times_of((what.start, what.end)),
+        "range": [stretch.start, stretch.end], "taken_from": counted(results.source(stretch)),
+        "places": places_of(stretch, outcome, results.copy_of_mark), "frames": [frame_of(result, results) for result in results.within(number)],
     }
 
 
 def places_of(stretch: Stretch, outcome: typing.Optional[Outcome], copy_of_mark: typing.Sequence[int]) -> list[Made]:
     """Where each copy has a stretch, and whether it has what OUT has."""
     marks = outcome.marks if outcome else "-" * len(stretch.places)
-    return [{"copy": copy_of_mark[at] + 1, "bytes": None if place is None else [place, place + stretch.size],
-             "alike": {"1": True, "0": False}.get(mark)} for at, (place, mark) in enumerate(zip(stretch.places, marks))]
+    return [{"copy": copy_of_mark[at] + 1, "range": None if place is None else [place, place + stretch.size],
+             "is_alike": {"1": True, "0": False}.get(mark)} for at, (place, mark) in enumerate(zip(stretch.places, marks))]
 
 
 def frame_of(result: FrameResult, results: Results) -> Made:
     return {"frame": result.order, "track": result.frame.track, "time": round(result.frame.time, 6),
-            "bytes": [result.frame.place, result.frame.end],
-            "state": result.state.value, "damaged_in": [copy + 1 for copy in result.damaged],
+            "range": [result.frame.place, result.frame.end], "state": result.state.value, "damaged_in": [copy + 1 for copy in result.damaged],
             "slices": [slice_of(each, results.copy_of_mark) for each in result.slices]}
 
 
 def slice_of(place: SliceReport, copy_of_mark: typing.Sequence[int]) -> Made:
     """A slice of a frame, by its bytes in the frame, and the copies that gave what OUT has."""
     givers = [copy_of_mark[at] + 1 for at, mark in enumerate(place.marks) if mark == "1"]
-    return {"bytes": [place.start, place.end], "state": place.state, "combinations": place.count, "from": sorted(set(givers))}
+    return {"range_in_frame": [place.start, place.end], "state": place.state, "combinations": place.count, "given_by": sorted(set(givers))}

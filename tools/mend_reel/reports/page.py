@@ -37,13 +37,15 @@ def text(words: typing.Any) -> str:
     return html.escape(text_of(str(words)))
 
 
-def write(file: typing.TextIO, summary: Summary) -> None:
-    """Writes the page."""
+def write(file: typing.TextIO, summaries: typing.Sequence[Summary]) -> None:
+    """Writes the page: OUT, or each file that was checked."""
+    title = text(", ".join(summary.title() for summary in summaries[:4]))
     file.write(f'<!DOCTYPE html>\n<html lang="en"><head><meta charset="utf-8"><meta name="viewport" content="width=device-width">'
-               f"<title>{text(summary.title())}</title><style>{STYLE}</style></head><body><h1>{text(summary.title())}</h1>\n")
-    for part in (verdict, counts, doubts, copies, timeline, frames, others, foot):
-        file.write(part(summary) + "\n")
-    file.write("</body></html>\n")
+               f"<title>{title}</title><style>{STYLE}</style></head><body>")
+    for summary in summaries:
+        file.write(f"<h1>{text(summary.title())}</h1>\n")
+        file.writelines(part(summary) + "\n" for part in (verdict, counts, doubts, copies, timeline, frames, others))
+    file.write(foot(summaries[0]) + "\n</body></html>\n")
 
 
 def verdict(summary: Summary) -> str:

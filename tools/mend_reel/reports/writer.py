@@ -17,7 +17,7 @@ from ..program.parallel import of_each
 from . import json_document, page
 from .summary import CopySummary, Role, Summary
 
-Writer = typing.Callable[[typing.TextIO, Summary], None]
+Writer = typing.Callable[[typing.TextIO, typing.Sequence[Summary]], None]
 
 
 class Reporter:
@@ -70,7 +70,6 @@ def write_part(output: Output, writer: Writer, summaries: typing.Sequence[Summar
     """Writes a report as a part."""
     try:
         with open(output.part, "w", encoding="utf-8") as made:
-            for summary in summaries:
-                writer(made, summary)
+            writer(made, summaries)
     except OSError as error:
         raise Fault(f"cannot write {output.path}: {error.strerror}") from None
