@@ -13,6 +13,9 @@ REEL = matroska(FRAMES)
 OTHER = matroska([(time, frame(100 + number, 200, 150 + number)) for number, (time, _) in enumerate(FRAMES * 2)],
                  seed=5000)
 REWRAPPED = matroska(FRAMES, crc=False, seed=50)
+# The same with other places.
+CONTENT = REWRAPPED[len(made.ebml_header()) + 6 :]
+MOVED = made.ebml_header() + made.element(made.SEGMENT, made.element(made.VOID, bytes(90)), CONTENT)
 
 
 def place_of(number, reel=REEL):
@@ -48,8 +51,11 @@ class GroupTest(unittest.TestCase):
         middle = len(REEL) // 2
         self.assertEqual(self.group(REEL, REEL[:middle] + REEL[middle + 100 :]), [[0], [1]])
 
-    def test_a_file_that_begins_alike_and_ends_otherwise_is_another_file(self):
-        self.assertEqual(self.group(REEL, REEL[: len(REEL) // 2] + made.noise(3, 600)), [[0], [1]])
+    def test_a_cut_copy_with_other_bytes_at_its_end(self):
+        self.assertEqual(self.group(REEL, REEL[: len(REEL) // 2] + made.noise(3, 600)), [[0, 1]])
+
+    def test_a_copy_with_bytes_after_its_end(self):
+        self.assertEqual(self.group(REEL, REEL + bytes(900), REEL + made.noise(4, 300)), [[0, 1, 2]])
 
     def test_other_files_of_one_length(self):
         other = made.noise(77, len(REEL))
@@ -93,22 +99,40 @@ class ArrangeTest(unittest.TestCase):
             arrangement = arrange(copies, never)
         self.assertEqual((arrangement.basis, arrangement.matched, len(arrangement.layout.frames)), ([0, 1], [], 10))
 
-    def test_an_undamaged_copy_is_the_basis(self):
+    def test_the_file_with_most_verified_bytes_is_the_basis_though_it_is_damaged(self):
         for contents in ([spoilt(REEL, 2), REWRAPPED], [REWRAPPED, spoilt(REEL, 2)]):
             arrangement = self.arrange(*contents)
-            self.assertEqual(arrangement.basis, [contents.index(REWRAPPED)])
+            self.assertEqual(arrangement.basis, [contents.index(spoilt(REEL, 2))])
             self.assertEqual(len(arrangement.matched[0].places), 10)
-            self.assertTrue(arrangement.health[contents.index(REWRAPPED)].is_undamaged)
+        self.assertEqual(self.arrange(spoilt(REEL, 2), spoilt(REEL, 5), REWRAPPED).basis, [0, 1])
 
-    def test_an_undamaged_copy_comes_before_several_damaged_ones(self):
-        self.assertEqual(self.arrange(spoilt(REEL, 2), spoilt(REEL, 5), REWRAPPED).basis, [2])
+    def test_an_undamaged_copy_is_the_basis_where_as_much_is_verified(self):
+        spoilt_ = made.damaged(MOVED, MOVED.index(FRAMES[2][1]) + 30)
+        self.assertEqual((self.arrange(spoilt_, REWRAPPED).basis, self.arrange(REWRAPPED, spoilt_).basis), ([1], [0]))
+
+    def test_a_file_with_frames_that_were_damaged_before_it_was_written_is_not_the_basis(self):
+        rotten = matroska([*FRAMES[:2], (0.08, made.damaged(FRAMES[2][1], 20)), *FRAMES[3:]], seed=90)
+        for contents in ([rotten, MOVED], [MOVED, rotten]):
+            self.assertEqual(self.arrange(*contents).basis, [contents.index(MOVED)])
+        self.assertEqual(self.arrange(rotten, made.damaged(MOVED, MOVED.index(FRAMES[2][1]) + 30)).rotten, {2})
+
+    def test_attachments_count_where_as_much_is_verified(self):
+        more = made.ebml_header() + made.element(made.SEGMENT, CONTENT, made.element(0x1941A469, made.element(0x61A7, b"file")))
+        for contents in ([more, MOVED], [MOVED, more]):
+            arrangement = self.arrange(*contents)
+            self.assertEqual(arrangement.basis, [contents.index(more)])
+            self.assertRegex(arrangement.notes([])[0], "^OUT is the file of copy [12]; what serves of copy [12] is brought into it$")
 
     def test_the_most_verified_bytes_decide_among_undamaged_copies(self):
         self.assertEqual(self.arrange(REWRAPPED, REEL).basis, [1])
 
     def test_the_first_of_equals(self):
-        other = matroska(FRAMES, False, 70) + b"more"
-        self.assertEqual((self.arrange(REWRAPPED, other).basis, self.arrange(other, REWRAPPED).basis), ([0], [0]))
+        self.assertEqual((self.arrange(REWRAPPED, MOVED).basis, self.arrange(MOVED, REWRAPPED).basis), ([0], [0]))
+
+    def test_a_file_beside_one_that_is_ruined(self):
+        ruined = made.damaged(OTHER, *(OTHER.index(frame(100 + number, 200, 150 + number)) + at for number in range(20) for at in (30, 330)))
+        arrangement = self.arrange(ruined, matroska(FRAMES[:1], False))
+        self.assertEqual((arrangement.basis, [(each.number, each.why) for each in arrangement.left]), ([1], [(0, Leaving.RUINED)]))
 
     def test_a_cut_file_is_not_the_basis_where_the_rest_can_be_mended(self):
         front = matroska(FRAMES[:9])
@@ -118,8 +142,8 @@ class ArrangeTest(unittest.TestCase):
 
     def test_a_file_that_lost_bytes_is_distinguished_from_one_written_anew(self):
         cut = place_of(4) + 50
-        self.assertTrue(self.arrange(spoilt(REEL, 7), REEL[:cut] + REEL[cut + 90 :]).matched[0].is_shifted)
-        self.assertFalse(self.arrange(spoilt(REEL, 7), REWRAPPED).matched[0].is_shifted)
+        self.assertTrue(self.arrange(spoilt(REEL, 7), REEL[:cut] + REEL[cut + 90 :]).matched[0].alignment)
+        self.assertIsNone(self.arrange(spoilt(REEL, 7), REWRAPPED).matched[0].alignment)
 
     def test_two_other_recordings_are_refused(self):
         with self.assertRaisesRegex(Fault, "^other recordings: .*copy.0 and .*copy.1 have no slice in common"):

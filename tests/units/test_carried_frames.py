@@ -4,7 +4,7 @@ import tempfile
 import unittest
 
 from mend_reel.copies.arrangement import Matched
-from mend_reel.copies.carried_frames import between, lift, longest_chain, rising
+from mend_reel.copies.carried_frames import carry, longest_chain, rising
 from mend_reel.model import Content, Fault, Frame, Kind, Layout, Stretch, What
 from . import made
 from .framed import frame, plain_file
@@ -16,8 +16,8 @@ class LiftTest(unittest.TestCase):
         self.addCleanup(folder.cleanup)
         self.path = os.path.join(folder.name, "lifted")
         parts = Frame(1, 0.0, 110, 20), Frame(1, 0.04, 140, 30), Frame(1, 0.08, 310, 40)
-        clusters = [Stretch(Kind.ELEMENT, start, size, What(Content.CLUSTER), (None, start, start + 5), own, source=source)
-                    for start, size, own, source in ((100, 90, parts[:2], 2), (200, 50, (), 1), (300, 60, parts[2:], 0))]
+        clusters = [Stretch(Kind.ELEMENT, start, size, What(Content.CLUSTER), (None, start + 5, start), own)
+                    for start, size, own in ((100, 90, parts[:2]), (200, 50, ()), (300, 60, parts[2:]))]
         head = Stretch(Kind.PLAIN, 0, 100, What(Content.HEADER), (0, 0, 0))
         self.layout = Layout(360, [], list(parts), [head, *clusters])
         self.contents = [made.noise(seed, 400) for seed in (1, 2, 3)]
@@ -25,19 +25,19 @@ class LiftTest(unittest.TestCase):
     def lift(self, places, needed):
         other = made.noise(9, 400)
         with made.opened(*self.contents, other) as copies:
-            found = lift(self.layout, copies[:3], copies[3], Matched(3, places), needed, self.path)
+            found = carry(self.layout, copies[:3], copies[3], Matched(3, places), needed, self.path)
         with open(self.path, "rb") as file:
             return found, file.read(), other
 
     def test_frames_of_the_other_file_over_the_source(self):
         found, content, other = self.lift({0: 7, 1: 50}, [1])
-        source = self.contents[2][105:195]
+        source = self.contents[1][105:195]
         self.assertEqual(found, {1: 0})
         self.assertEqual(content, source[:10] + other[7:27] + source[30:40] + other[50:80] + source[70:])
 
     def test_a_frame_that_the_other_file_lacks_is_the_source_s(self):
         _, content, other = self.lift({1: 50}, [1])
-        source = self.contents[2][105:195]
+        source = self.contents[1][105:195]
         self.assertEqual(content, source[:40] + other[50:80] + source[70:])
 
     def test_stretches_follow_each_other_and_those_without_frames_are_left_out(self):
@@ -46,40 +46,19 @@ class LiftTest(unittest.TestCase):
         self.assertEqual(content[100:140], other[200:240])
         self.assertEqual(self.lift({0: 7}, [3])[0], {})
 
-    def test_a_source_without_a_place_gives_way_to_another(self):
+    def test_the_first_copy_that_has_the_element_is_its_source(self):
         _, content, _ = self.lift({2: 200}, [3])
-        self.assertEqual((content[:10], content[50:]), (self.contents[1][300:310], self.contents[1][350:360]))
+        self.assertEqual((content[:10], content[50:]), (self.contents[1][305:315], self.contents[1][355:365]))
 
     def test_a_copy_that_became_shorter(self):
-        self.contents[2] = self.contents[2][:150]
-        with self.assertRaisesRegex(Fault, "copy.2: it became shorter"):
+        self.contents[1] = self.contents[1][:150]
+        with self.assertRaisesRegex(Fault, "copy.1: it became shorter"):
             self.lift({0: 7}, [1])
 
     def test_no_room_to_write(self):
         self.path = "/no folder/lifted"
         with self.assertRaisesRegex(Fault, "cannot write /no folder/lifted"):
             self.lift({0: 7}, [1])
-
-
-class BetweenTest(unittest.TestCase):
-    def setUp(self):
-        _, self.layout = plain_file([frame(number, 30) for number in range(5)])
-        self.plain = [number for number, stretch in enumerate(self.layout.stretches) if stretch.kind is Kind.PLAIN]
-
-    def between(self, shifts, size, is_shifted=True):
-        places = {number: self.layout.frames[number].place + shift for number, shift in shifts.items()}
-        found = between(self.layout, Matched(1, places, is_shifted=is_shifted), size)
-        return {self.plain.index(number): place - self.layout.stretches[number].start for number, place in found.items()}
-
-    def test_a_file_that_lost_bytes_in_its_middle(self):
-        self.assertEqual(self.between({0: 0, 1: 0, 3: -20, 4: -20}, self.layout.size - 20), {0: 0, 1: 0, 4: -20, 5: -20})
-
-    def test_a_file_that_lost_its_begin_or_its_end(self):
-        self.assertEqual(self.between({number: -20 for number in range(5)}, self.layout.size - 20), {number: -20 for number in range(1, 6)})
-        self.assertEqual(self.between({number: 0 for number in range(5)}, self.layout.size - 20), {number: 0 for number in range(5)})
-
-    def test_a_file_of_another_header_was_written_anew(self):
-        self.assertEqual(self.between({0: 0, 1: 0}, self.layout.size, False), {})
 
 
 class RisingTest(unittest.TestCase):

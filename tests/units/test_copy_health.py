@@ -22,23 +22,29 @@ class HealthTest(unittest.TestCase):
 
     def test_an_undamaged_copy(self):
         found, layout = self.health(REEL)
-        elements = sum(stretch.size for stretch in layout.stretches if stretch.kind is Kind.ELEMENT)
-        self.assertEqual(found, copy_health.CopyHealth(5, 5, elements, True))
+        elements = frozenset(at for at, stretch in enumerate(layout.stretches) if stretch.kind is Kind.ELEMENT)
+        self.assertEqual(found, copy_health.CopyHealth(frozenset(range(5)), elements, True))
 
     def test_a_gap_is_damage(self):
         self.assertFalse(self.health(REEL, gaps=[(len(REEL), 9)])[0].is_undamaged)
 
     def test_a_damaged_frame(self):
         found, layout = self.health(made.damaged(REEL, REEL.index(FRAMES[2][1]) + 20))
-        cluster = next(stretch for stretch in layout.stretches if stretch.parts and stretch.parts[0] == layout.frames[2])
-        whole = self.health(REEL)[0].verified
-        self.assertEqual(found, copy_health.CopyHealth(5, 4, whole - cluster.size, False))
+        cluster = next(at for at, stretch in enumerate(layout.stretches) if stretch.parts and stretch.parts[0] == layout.frames[2])
+        self.assertEqual(found, copy_health.CopyHealth(frozenset({0, 1, 3, 4}), self.health(REEL)[0].passing - {cluster}, False))
 
     def test_damage_beside_a_frame(self):
         found, layout = self.health(made.damaged(REEL, REEL.index(FRAMES[2][1]) + len(FRAMES[2][1]) + 30))
-        self.assertEqual((found.intact, found.is_undamaged), (5, False))
-        cluster = next(stretch for stretch in layout.stretches if stretch.parts and stretch.parts[0] == layout.frames[2])
-        self.assertEqual(self.health(REEL)[0].verified - found.verified, cluster.size - layout.frames[2].size)
+        self.assertEqual((found.intact, found.is_undamaged), (frozenset(range(5)), False))
+        cluster = next(at for at, stretch in enumerate(layout.stretches) if stretch.parts and stretch.parts[0] == layout.frames[2])
+        self.assertEqual(self.health(REEL)[0].passing - found.passing, {cluster})
+
+    def test_frames_that_were_damaged_before_the_file_was_written(self):
+        content = matroska([*FRAMES[:2], (0.08, made.damaged(FRAMES[2][1], 20)), *FRAMES[3:]])
+        found, layout = self.health(content)
+        self.assertEqual(copy_health.rotten(layout, [found]), {2})
+        damaged = self.health(made.damaged(REEL, REEL.index(FRAMES[2][1]) + 20))[0]
+        self.assertEqual((copy_health.rotten(layout, [damaged]), copy_health.rotten(layout, [damaged, found])), (set(), {2}))
 
     def test_a_copy_that_is_cut_short(self):
         with made.opened(REEL, REEL[:-10]) as copies:

@@ -1,12 +1,13 @@
 """The copy FROM of each stretch."""
 from __future__ import annotations
 
+import dataclasses
 import typing
 import unittest
 import zlib
 
 from mend_reel.copies import preferred_copy
-from mend_reel.model import Content, Kind, Layout, Stretch, What
+from mend_reel.model import Content, Kind, Stretch, What
 from . import made
 
 NOISE = made.noise(1, 4096)
@@ -26,9 +27,12 @@ class Case(unittest.TestCase):
                judge: preferred_copy.Judge = nothing) -> typing.List[int]:
         """The source of each stretch; what was found of the copies is kept."""
         with made.opened(*contents) as copies:
-            layout = Layout(len(contents[0]), [], [], list(stretches))
-            self.found = preferred_copy.choose(layout, copies, health or [0] * len(copies), reads or [True] * len(copies), judge)
-            return [stretch.source for stretch in layout.stretches]
+            self.found = [preferred_copy.KnownDamage(each, preferred_copy.Sectors(copy.size), verified)
+                          for copy, each, verified in zip(copies, reads or [True] * len(copies), health or [0] * len(copies))]
+            cases = dict(preferred_copy.differing(stretches, copies, self.found, None))
+            preferred_copy.judged(list(cases.values()), copies, judge)
+            preferred_copy.decide(list(cases.values()), copies, self.found)
+            return [cases[at].candidates[0] if at in cases else stretch.source for at, stretch in enumerate(stretches)]
 
 
 class Rules(Case):
@@ -108,11 +112,43 @@ class Rules(Case):
         self.assertEqual(self.choose([wrong, NOISE], plain(100, 101, 2), plain(1024, 1536, 2)), [1, 1])
 
     def test_only_copies_that_have_it(self) -> None:
-        stretch = plain(100, 200, 3)
-        stretch.places = (None, 100, None)
-        self.assertEqual(self.choose([NOISE] * 3, stretch, health=[9, 0, 9]), [1])
-        stretch.places = (None, 100, 100)
+        stretch = dataclasses.replace(plain(100, 200, 3), places=(None, 100, 100))
         self.assertEqual(self.choose([NOISE, made.damaged(NOISE, 150), NOISE], stretch, health=[9, 0, 1]), [2])
+
+    def test_a_copy_in_which_nothing_is_wrong_comes_before_rules_about_zeros(self) -> None:
+        """A good copy has zeros of its own, where a damaged one has bytes of another place."""
+        file = ELEMENT + bytes(2048)
+        spilt = made.damaged(file, 1000, (len(ELEMENT) + 600, NOISE[:600]))
+        element, rest = plain(0, len(ELEMENT), 2, kind=Kind.ELEMENT), plain(len(ELEMENT) + 600, len(ELEMENT) + 1200, 2)
+        self.assertEqual((self.choose([spilt, file], element, rest), self.choose([file, spilt], element, rest)), ([1, 1], [0, 0]))
+
+    def test_a_copy_that_can_not_be_read_is_not_without_damage(self) -> None:
+        filled = made.damaged(bytes(600) + NOISE, (0, b"\xff" * 512))
+        for contents, reads, source in (([filled, bytes(600) + NOISE], [False, True], 1), ([bytes(600) + NOISE, filled], [True, False], 0)):
+            self.assertEqual(self.choose(contents, plain(0, 512, 2), reads=reads), [source])
+
+    def test_a_sector_that_was_filled(self) -> None:
+        filled = made.damaged(NOISE, (1024, b"\xee" * 512))
+        self.assertEqual((self.choose([filled, NOISE], plain(1024, 1536, 2)), self.choose([NOISE, filled], plain(1024, 1536, 2))), ([1], [0]))
+
+    def test_a_last_sector_that_is_shorter(self) -> None:
+        content = NOISE[:2000]
+        lost = content[:1536] + bytes(464)
+        self.assertEqual(self.choose([lost, content], plain(1536, 2000, 2)), [1])
+        self.assertEqual(self.choose([content[:1600] + bytes(400), content], plain(1600, 2000, 2)), [0])
+
+
+class Lost(unittest.TestCase):
+    def places(self, *contents: bytes) -> typing.Sequence[typing.Optional[int]]:
+        with made.opened(*contents) as copies:
+            return preferred_copy.without_lost(plain(1024, 1536, len(contents)), copies).places
+
+    def test_where_two_others_agree_a_lost_sector_is_no_version(self) -> None:
+        zero, other = made.damaged(NOISE, (1024, bytes(512))), made.damaged(NOISE, 1100)
+        self.assertEqual(self.places(NOISE, zero, NOISE), (1024, None, 1024))
+        self.assertEqual(self.places(zero, NOISE, made.damaged(NOISE, (1024, b"\xff" * 512)), NOISE), (None, 1024, None, 1024))
+        for contents in ([zero, NOISE], [zero, NOISE, other], [zero, zero, NOISE], [NOISE, NOISE, other]):
+            self.assertEqual(self.places(*contents), (1024,) * len(contents))
 
 
 class Sectors(unittest.TestCase):
@@ -129,7 +165,10 @@ class Sectors(unittest.TestCase):
         shifted = bytes(300) + made.damaged(ELEMENT, 600, 900)
         stretch = Stretch(Kind.ELEMENT, 0, len(ELEMENT), What(Content.TAGS), (0, 300))
         with made.opened(ELEMENT, shifted) as copies:
-            found = preferred_copy.choose(Layout(len(ELEMENT), [], [], [stretch]), copies, [0, 0], [True, True], nothing)
+            found = [preferred_copy.KnownDamage(True, preferred_copy.Sectors(copy.size)) for copy in copies]
+            cases = [case for _, case in preferred_copy.differing([stretch], copies, found, None)]
+            preferred_copy.judged(cases, copies, nothing)
+            preferred_copy.decide(cases, copies, found)
         self.assertEqual([found[1].damaged.touch(at, at + 1) for at in (511, 512, 1023, 1024, 1535, 1536)],
                          [False, True, True, True, True, False])
         self.assertEqual(found[1].damaged.count(), 2)

@@ -258,8 +258,7 @@ class TimelineTest(unittest.TestCase):
 
     def test_a_copy_that_is_cut_short_ends_where_it_ends(self):
         layout = plain()
-        for stretch in layout.stretches[10:]:
-            stretch.places = (stretch.start, None)
+        layout.stretches[10:] = [dataclasses.replace(stretch, places=(stretch.start, None)) for stretch in layout.stretches[10:]]
         drawn = Timeline(summary(layout))
         for kind in drawn.kinds:
             one, other, out = drawn.rows[0, kind].shares(), drawn.rows[1, kind].shares(), drawn.rows[None, kind].shades()

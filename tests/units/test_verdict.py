@@ -174,14 +174,13 @@ class FateTest(unittest.TestCase):
 
     def test_several_marks_of_one_copy(self):
         layout = recording()
-        for stretch in layout.stretches:
-            stretch.places += (None,)
+        layout.stretches = [dataclasses.replace(stretch, places=(*stretch.places, None)) for stretch in layout.stretches]
         results = self.results(layout, Outcome(element(2), State.WHOLE, 0, "1-0", {0: (settled("1-0"),)}), copy_of_mark=(0, 3, 3))
         self.assertEqual(results.frames[2].damaged, (3,))
 
     def test_sums(self):
         layout = recording()
-        layout.stretches[0].places = (0, None)
+        layout.stretches[0] = dataclasses.replace(layout.stretches[0], places=(0, None))
         results = self.results(layout, Outcome(1, State.OPEN, 0, "10"), Outcome(3, State.AGREED, 0, "11-"))
         self.assertEqual(results.sums().named(), {"verified": 6 * 500, "agreed": 5 * 12, "alone": 100, "open": 12, "read": 0})
 
@@ -225,8 +224,7 @@ class VerdictTest(unittest.TestCase):
                          "each part of a slice, by which all slices pass. That can be by chance; a further copy may restore it")
 
     def of_one_copy(self, layout, *outcomes, **more):
-        for stretch in layout.stretches:
-            stretch.places = stretch.places[:1]
+        layout.stretches[:] = [dataclasses.replace(stretch, places=stretch.places[:1]) for stretch in layout.stretches]
         return verdict(layout, *outcomes, **more)
 
     def test_one_copy(self):
@@ -243,8 +241,8 @@ class VerdictTest(unittest.TestCase):
 
     def test_what_one_copy_alone_has_is_one_reason_up_to_what_is_vouched_for(self):
         layout = plain()
-        for stretch in layout.stretches:
-            stretch.places = (stretch.start, stretch.start if 800 < stretch.start < 1300 else None)
+        layout.stretches = [dataclasses.replace(stretch, places=(stretch.start, stretch.start if 800 < stretch.start < 1300 else None))
+                            for stretch in layout.stretches]
         found = verdict(layout)
         sound = [(reason.bytes, reason.count, reason.times, reason.copy) for reason in found.reasons if reason.content is Content.SOUND]
         self.assertEqual(sound, [((440, 540), 100, (0.0, 0.0), 0), ((1320, 2740), 400, (0.08, 0.2), 0)])
@@ -252,8 +250,7 @@ class VerdictTest(unittest.TestCase):
 
     def test_what_maps_say_could_not_be_read_in_the_others_is_read(self):
         layout = plain()
-        for stretch in layout.stretches[3:6]:
-            stretch.places, stretch.is_read = (stretch.start, None), True
+        layout.stretches[3:6] = [dataclasses.replace(each, places=(each.start, None), is_read=True) for each in layout.stretches[3:6]]
         found = verdict(layout)
         self.assertEqual((found.status, found.sums.read, found.sums.alone), (0, 140, 0))
 
@@ -279,7 +276,7 @@ class VerdictTest(unittest.TestCase):
 
     def test_copies_that_differ(self):
         layout = plain()
-        layout.stretches[3].source = 1
+        layout.stretches[3] = dataclasses.replace(layout.stretches[3], source=1)
         found = verdict(layout, Outcome(3, State.OPEN, 0, "01"), copy_of_mark=(4, 6))
         self.assertEqual([reason.text() for reason in found.reasons], ["sound of track 2 at 0:00:00.000 (bytes 440 to 540): the copies differ, and "
                                                                        "no checksum says which is right; OUT has that of copy 7"])

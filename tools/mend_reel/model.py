@@ -12,6 +12,9 @@ import stat
 import typing
 
 
+MATROSKA = "matroska"
+
+
 class Fault(Exception):
     """What ends the work, in one line: status 1."""
 
@@ -114,26 +117,33 @@ class Claims:
     index: typing.Mapping[int, typing.Sequence[float]] = dataclasses.field(default_factory=dict)
     ends: typing.Mapping[int, float] = dataclasses.field(default_factory=dict)
 
+    def of_tracks(self, numbers: typing.Mapping[int, int]) -> Claims:
+        """What another file claims of OUT: how long it plays, and how many frames those of its tracks have that have numbers in OUT. Its times
+        may begin elsewhere."""
+        return Claims(self.duration, {numbers[track]: count for track, count in self.counts.items() if track in numbers})
+
 
 class Because(enum.Enum):
     """Why a stretch in which copies differ is taken from one of them, in words that follow its number."""
 
     ALONE = ""
     CONFIRMED = ", which the container confirms"
-    NOT_LOST = ", as a sector is lost there in the others"
-    UNDAMAGED = ", as the others are known to be damaged there"
+    SOUND = ", in which nothing is known to be wrong"
+    NOT_LOST = ", in which no sector seems to be lost there"
+    UNDAMAGED = ", which is not known to be damaged there"
+    SHOWS = ", whose container shows most frames"
     MOST = ", as most of the copies that can be read have that"
     HEALTHIEST = ", as more of that copy is verified"
     FIRST = ", the first"
 
 
-@dataclasses.dataclass
+@dataclasses.dataclass(frozen=True)
 class Stretch:
     """A run of bytes of OUT. `start` is its place there, `places` has for each copy where it lies in it, if it does. `parts` are frames
     that lie within an element, by their places in OUT; a stretch of the kind FRAME has its own frame as its only one. `vouched` are
     the copies of which the container itself confirms what they have here (a header that leads to the next element, say). `is_read` is
     whether some copy has it, and a map says of each other one that it could not be read there; `is_unread`, whether maps say so of all.
-    `source` is the copy FROM, and `because` says why."""
+    `is_alike` is whether all copies that have it are known to have it alike. `source` is the copy FROM, and `because` says why."""
 
     kind: Kind
     start: int
@@ -144,6 +154,7 @@ class Stretch:
     vouched: frozenset[int] = frozenset()
     is_read: bool = False
     is_unread: bool = False
+    is_alike: bool = False
     source: int = 0
     because: Because = Because.ALONE
 
@@ -156,7 +167,7 @@ class Stretch:
 class Layout:
     """What lies where in a file: its stretches, which follow each other and cover it, and the frames of all FFV1 tracks in the order of
     their places. `gaps` are places and sizes of what no copy could divide. `rises` is whether the frames of a track have to lie in the
-    order of their times."""
+    order of their times. `end` is where the file ends by its own account, where it says so."""
 
     size: int
     tracks: list[Track]
@@ -165,6 +176,7 @@ class Layout:
     claims: Claims = Claims()
     gaps: list[tuple[int, int]] = dataclasses.field(default_factory=list)
     rises: bool = False
+    end: typing.Optional[int] = None
 
     def contents(self) -> collections.Counter[Content]:
         """What a file has: how many tracks of each kind, and whether attachments, chapters and tags."""

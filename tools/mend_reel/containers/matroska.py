@@ -5,7 +5,7 @@ import dataclasses
 import typing
 
 from ..model import Claims, Content, Copy, Layout, Track, What
-from . import clusters, ebml, elements, metadata, slice_footers
+from . import clusters, ebml, elements, metadata, slice_footers, structure
 from .aligned_copies import NONE, WINDOW, AlignedCopies, Budget, Numbers, Steps
 from .stretch_builder import MOST_STRETCH, Stretches
 
@@ -13,6 +13,7 @@ EBML, SEGMENT, CLUSTER = 0x1A45DFA3, 0x18538067, 0x1F43B675
 CONTENTS = {EBML: Content.HEADER, 0x114D9B74: Content.SEEK_HEAD, metadata.INFORMATION: Content.INFORMATION, metadata.TRACKS: Content.TRACKS,
             metadata.CUES: Content.INDEX, CLUSTER: Content.CLUSTER, 0x1941A469: Content.ATTACHMENTS, 0x1043A770: Content.CHAPTERS,
             metadata.TAGS: Content.TAGS, clusters.VOID: Content.PADDING}
+MASTERS = frozenset(CONTENTS.values()) - {Content.CLUSTER, Content.PADDING}
 STRONG = frozenset(CONTENTS) - {clusters.VOID} | {SEGMENT}
 SIGNS = [identity.to_bytes(4, "big") for identity in sorted(STRONG)]
 MOST_METADATA = 1 << 24
@@ -103,7 +104,8 @@ class MatroskaReader:
         strong = [child for child in self.top if child.identity in STRONG]
         if segment and claimed_end is not None and any(child.place < claimed_end < child.end for child in strong):
             self.gaps.insert(0, (segment.place, segment.content - segment.place))
-        return Layout(size, list(self.metadata.tracks), self.stretches.frames, self.stretches.made, self.metadata.claims, self.gaps, rises=True)
+        return Layout(size, list(self.metadata.tracks), self.stretches.frames, self.stretches.made, self.metadata.claims, self.gaps, rises=True,
+                      end=claimed_end)
 
     # ---- the file as a whole
 
@@ -250,6 +252,15 @@ class MatroskaReader:
 def layout(copies: typing.Sequence[Copy]) -> Layout:
     """Returns what lies where in a file, from copies of it: they have the same bytes at the same places but for damage, and may end early."""
     return MatroskaReader(copies).layout()
+
+
+def flaws(copy: Copy, layout: Layout) -> typing.Iterator[structure.Found]:
+    """Yields where the elements of a file, which a layout describes, lead nowhere within top-level ones, and what lies after its end."""
+    for stretch in layout.stretches:
+        if stretch.what.content in MASTERS and stretch.size <= MOST_METADATA and not structure.divides(copy.read(stretch.start, stretch.size)):
+            yield structure.Found(structure.Flaw.BROKEN, stretch.start, stretch.end)
+    if layout.end is not None and layout.end < copy.size:
+        yield structure.Found(structure.Flaw.AFTER_END, layout.end, copy.size)
 
 
 def claims(copies: typing.Sequence[Copy], layout: Layout) -> typing.Iterator[Claims]:

@@ -29,9 +29,8 @@ class Stretches:
         last = self.made[-1] if self.made else None
         if (joins and last and last.kind is Kind.PLAIN and last.end == start and last.vouched == vouched and last.size + end - start <= MOST_PLAIN
                 and (last.what.content, last.what.track) == (what.content, what.track)):
-            last.size += end - start
-            last.what = dataclasses.replace(last.what, end=what.end)
-            last.places = self._places(last.start, last.end)
+            self.made[-1] = dataclasses.replace(last, size=end - last.start, what=dataclasses.replace(last.what, end=what.end),
+                                                places=self._places(last.start, end))
             return
         for place in range(start, end, MOST_PLAIN):
             stop = min(place + MOST_PLAIN, end)

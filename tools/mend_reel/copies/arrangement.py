@@ -9,14 +9,14 @@ import typing
 
 from ..containers import ebml, ffmpeg_files
 from ..containers.frame_times import lasts
-from ..judging.copy_health import CopyHealth, health
-from ..judging.frame_checks import Judge, is_uniform
+from ..judging.copy_health import CopyHealth, health, lack_parities, rotten
+from ..judging.frame_checks import Judge
 from ..model import Copy, Fault, Frame, Layout
 from . import displaced_frames
+from .alignment import Alignment, align
 from .frame_pairing import Pairing, Recording, pair, share
 
-SAMPLE, SECTOR, MOST_SAMPLES = 4096, 512, 128
-END, MOST_ENDS, HEADER = 64, 1 << 16, 4096
+HEADER = 4096
 
 
 class Leaving(enum.Enum):
@@ -27,6 +27,7 @@ class Leaving(enum.Enum):
     UNREAD = "its container can't be read, and no frame of the others was found in it"
     NO_VIDEO = "it has no FFV1 video, and no frame of the others was found in it"
     OTHER = "it shares no slice with the others, so it is of another recording"
+    RUINED = "no frame of it passes, and it shares no slice with the others"
 
 
 @dataclasses.dataclass(frozen=True)
@@ -45,26 +46,36 @@ class Left:
 class Matched:
     """A copy that is another file: where it has frames of OUT, by their numbers in the layout, and its frames that OUT has no place for, at
     times of OUT: `unplaced` where OUT has no frame, `contrary` passing ones where OUT has another. `lasts` is how long it says that it
-    lasts, if it is cut short itself. `is_shifted` is whether it is OUT's file with bytes lost or added: its header gives the same size."""
+    lasts, if it is cut short itself. `tracks` are OUT's numbers of its FFV1 tracks. Where it is OUT's file with bytes lost or added,
+    `alignment` says where its bytes lie."""
 
     number: int
     places: dict[int, int]
     unplaced: list[Frame] = dataclasses.field(default_factory=list)
     contrary: list[Frame] = dataclasses.field(default_factory=list)
     lasts: typing.Optional[float] = None
-    is_shifted: bool = False
+    tracks: dict[int, int] = dataclasses.field(default_factory=dict)
+    alignment: typing.Optional[Alignment] = None
 
 
 @dataclasses.dataclass
 class Arrangement:
     """How copies serve, by their numbers: `basis` are those of OUT's file, whose layout it is; the others are other files, or left out.
-    `health` is known where several files were compared."""
+    `rotten` are the numbers of the frames that were damaged before OUT's file was written."""
 
     basis: list[int]
     layout: Layout
     matched: list[Matched] = dataclasses.field(default_factory=list)
     left: list[Left] = dataclasses.field(default_factory=list)
-    health: dict[int, CopyHealth] = dataclasses.field(default_factory=dict)
+    rotten: set[int] = dataclasses.field(default_factory=set)
+
+    def notes(self, copies: typing.Sequence[Copy]) -> list[str]:
+        """Whose file OUT is, where there are others."""
+        if not self.matched:
+            return []
+        own, others = (", ".join(str(number + 1) for number in numbers) for numbers in (self.basis, [each.number for each in self.matched]))
+        return [f"OUT is the file of {'copies' if len(self.basis) > 1 else 'copy'} {own}; what serves of "
+                f"{'copies' if len(self.matched) > 1 else 'copy'} {others} is brought into it"]
 
 
 # ---- copies of one file
@@ -89,19 +100,29 @@ def group(copies: typing.Sequence[Copy]) -> tuple[list[list[int]], list[Left]]:
 
 
 def is_same_file(one: Copy, other: Copy) -> bool:
-    """Whether two copies are of one file: a quarter of the bytes alike that are not lost in either; and where one is shorter, it is the
-    other cut short, so its end is alike too. Two that are read as different containers are not."""
-    if one.form and other.form and one.form != other.form:
+    """Whether two copies are of one file: most of their bytes lie at the same places. Two that are read as different containers are not; nor
+    is a shorter one whose header gives its own length, and not that of the longer one."""
+    if not may_be_same(one, other):
         return False
-    length = min(one.size, other.size)
-    step = max(length // MOST_SAMPLES, 1)
-    samples = [alike(one, other, place, min(SAMPLE, length - place)) for place in range(0, length, max(step, SAMPLE))]
-    if not is_quarter(samples):
+    short, long = sorted((one, other), key=lambda copy: copy.size)
+    if short.size < long.size and claimed_size(short) == short.size and claimed_size(long) not in (None, short.size):
         return False
-    if one.size == other.size:
-        return True
-    short = one if one.size == length else other
-    return claimed_size(short) != length and is_quarter([last_alike(one, other, length)])
+    alignment = align(one, other)
+    return alignment.is_same_file() and not alignment.is_shifted()
+
+
+def may_be_same(one: Copy, other: Copy) -> bool:
+    return not one.form or not other.form or one.form == other.form
+
+
+def aligned(basis: typing.Sequence[Copy], other: Copy) -> typing.Optional[Alignment]:
+    """Where the bytes of a file lie in a copy of it that lost or gained bytes, or None where it is none: its header gives the same length."""
+    sizes = {claimed_size(copy) for copy in basis}
+    if claimed_size(other) not in sizes | {None}:
+        return None
+    found = [align(copy, other) for copy in basis if may_be_same(copy, other)]
+    best = max(found, key=lambda each: each.alike, default=None)
+    return best if best and best.is_same_file() else None
 
 
 def claimed_size(copy: Copy) -> typing.Optional[int]:
@@ -129,34 +150,6 @@ def atoms_end(data: bytes) -> typing.Optional[int]:
     return place
 
 
-def last_alike(one: Copy, other: Copy, length: int) -> tuple[int, int]:
-    """How many bytes of the last sector of a length are alike, before what either copy lost of its end."""
-    end = length
-    for _ in range(MOST_ENDS):
-        start = max(end - END, 0)
-        if end <= 0 or not any(is_uniform(copy.read(start, end - start)) for copy in (one, other)):
-            break
-        end = start
-    return alike(one, other, max(end - SECTOR, 0), min(SECTOR, end))
-
-
-def is_quarter(samples: typing.Sequence[tuple[int, int]]) -> bool:
-    same, compared = sum(same for same, _ in samples), sum(compared for _, compared in samples)
-    return compared > 0 and 4 * same >= compared
-
-
-def alike(one: Copy, other: Copy, place: int, size: int) -> tuple[int, int]:
-    """How many bytes of a range are alike, of how many that were compared. A sector of one value is lost, or says nothing."""
-    first, second = one.read(place, size), other.read(place, size)
-    same = compared = 0
-    for at in range(0, min(len(first), len(second)), SECTOR):
-        here, there = first[at : at + SECTOR], second[at : at + SECTOR]
-        if not is_uniform(here) and not is_uniform(there):
-            compared += len(here)
-            same += len(here) if here == there else sum(map(int.__eq__, here, there))
-    return same, compared
-
-
 # ---- which file OUT is made of
 
 
@@ -169,26 +162,44 @@ def describe(copies: typing.Sequence[Copy], judge: Judge, records: bool = True) 
 
 @dataclasses.dataclass
 class File:
-    """The copies of one file by their numbers, and what lies where in it."""
+    """The copies of one file by their numbers, what lies where in it, what passes in each copy, and where other files have its frames."""
 
     numbers: list[int]
     recording: Recording
-    health: dict[int, CopyHealth] = dataclasses.field(default_factory=dict)
+    healths: dict[int, CopyHealth] = dataclasses.field(default_factory=dict)
+    pairings: list[tuple[File, Pairing]] = dataclasses.field(default_factory=list)
 
-    def intact(self, places: typing.Mapping[int, int], frames: typing.Sequence[Frame], judge: Judge) -> set[int]:
-        """The numbers of those frames that pass at these places in some copy of the file."""
+    @property
+    def layout(self) -> Layout:
+        return self.recording.layout
+
+    def rotten(self) -> set[int]:
+        return set() if lack_parities(self.layout, self.recording.copies) else rotten(self.layout, list(self.healths.values()))
+
+    def has_some(self) -> bool:
+        """Whether some frame of it passes, or an element with one."""
+        return any(each.intact or any(self.layout.stretches[at].parts for at in each.passing) for each in self.healths.values())
+
+    def given(self, judge: Judge) -> set[int]:
+        """The numbers of its frames that pass in another file."""
         found: set[int] = set()
-        for copy in self.recording.copies:
-            judged = judge(copy, [(place, frames[number].size) for number, place in places.items()])
-            found.update(number for number, each in zip(places, judged) if each.is_intact())
+        for other, pairing in self.pairings:
+            for copy in other.recording.copies:
+                judged = judge(copy, [(place, self.layout.frames[number].size) for number, place in pairing.places.items()])
+                found.update(number for number, each in zip(pairing.places, judged) if each.is_intact())
         return found
 
-    def best(self) -> tuple[int, bool, int, int, int, int]:
-        """What speaks for a file: how many tracks it has, that a copy is undamaged, how many copies there are, the best one's passing
-        frames and verified bytes, and that it came first."""
-        copies = len(self.numbers)
-        return max((len(self.recording.layout.tracks), health.is_undamaged, copies, health.intact, health.verified, -number)
-                   for number, health in self.health.items())
+    def rank(self, judge: Judge) -> tuple[int, int, int, bool, int]:
+        """What speaks for a file: that it has no frame that was damaged before it was written, and that another file has; how many of its
+        bytes pass a check in some copy of any file; how many kinds of content it has; an undamaged copy; and that it came first."""
+        given, rotten_ = self.given(judge), self.rotten()
+        intact = given.union(*(each.intact for each in self.healths.values())) - rotten_
+        passing = set().union(*(each.passing for each in self.healths.values()))
+        inside = {frame.place for at in passing for frame in self.layout.stretches[at].parts}
+        verified = sum(self.layout.stretches[at].size for at in passing)
+        verified += sum(frame.size for at, frame in enumerate(self.layout.frames) if at in intact and frame.place not in inside)
+        return (-len(rotten_ & given), verified, sum(self.layout.contents().values()),
+                any(each.is_undamaged for each in self.healths.values()), -self.numbers[0])
 
 
 def arrange(copies: typing.Sequence[Copy], judge: Judge,
@@ -199,76 +210,71 @@ def arrange(copies: typing.Sequence[Copy], judge: Judge,
     for each in numbers:
         own = [copies[number] for number in each]
         files.append(File(each, Recording(own, describe_file(own, judge))))
-    if not any(file.recording.layout.frames for file in files):
+    if not any(file.layout.frames for file in files):
         names = ", ".join(copy.path for copy in copies if copy.size)
         found = [f"no FFV1 video was found in {names}"] if names else []
         raise Fault("; ".join([*found, *(f"{copy.path} is empty" for copy in copies if not copy.size)]))
     if len(files) == 1:
-        return Arrangement(files[0].numbers, files[0].recording.layout, left=left)
-    basis, pairings = choose(files, copies, judge)
-    return assemble(basis, [file for file in files if file is not basis], pairings, left, judge)
+        return Arrangement(files[0].numbers, files[0].layout, left=left)
+    basis = choose(files, copies, judge)
+    return assemble(basis, [file for file in files if file is not basis], left, judge)
 
 
-def choose(files: typing.Sequence[File], copies: typing.Sequence[Copy],
-           judge: Judge) -> tuple[File, list[typing.Optional[Pairing]]]:
-    """The file that OUT is made of, and where the others have its frames: the file of which most frames pass in some copy of any
-    file, then the one that has most tracks, then an undamaged copy, most copies, the best copy. A file that shares nothing with any other
-    serves only if it has several copies, or alone has frames."""
-    shown = [file for file in files if file.recording.layout.frames]
+def choose(files: typing.Sequence[File], copies: typing.Sequence[Copy], judge: Judge) -> File:
+    """The file that OUT is made of: the one for which most speaks. A file that shares nothing with any other serves only if it has several
+    copies, or alone has something that passes."""
+    shown = [file for file in files if file.layout.frames]
     for file in shown:
-        file.health = {number: health(copies[number], at, file.recording.layout, judge) for at, number in enumerate(file.numbers)}
-    candidates = []
+        file.healths = {number: health(copies[number], at, file.layout, judge) for at, number in enumerate(file.numbers)}
     for file in shown:
-        others = [other for other in files if other is not file]
-        pairings = [relate(file, other) for other in others]
-        if any(pairings) or len(file.numbers) > 1 or len(shown) == 1:
-            candidates.append((count_intact(file, others, pairings, judge), file.best(), file, pairings))
+        file.pairings = [(other, pairing) for other in files if other is not file for pairing in [relate(file, other)] if pairing]
+    some = [file for file in shown if file.has_some()]
+    candidates = [file for file in shown if file.pairings or len(file.numbers) > 1 or len(shown) == 1 or some == [file]]
     if not candidates:
         names = " and ".join(copies[file.numbers[0]].path for file in shown)
         raise Fault(f"other recordings: {names} have no slice in common")
-    _, _, basis, pairings = max(candidates, key=lambda candidate: candidate[:2])
-    return basis, pairings
+    return max(candidates, key=lambda file: file.rank(judge))
 
 
 def relate(basis: File, other: File) -> typing.Optional[Pairing]:
-    """Where another file has the frames of the basis, or None if it shares none with it."""
+    """Where another file has the frames of the basis, or None if it shares none with it. Of the basis' file with bytes lost or added all
+    bytes have a place."""
+    copy = max(other.recording.copies, key=lambda each: each.size)
+    alignment = aligned(basis.recording.copies, copy)
+    if alignment:
+        placed = ((number, alignment.place(frame.place, frame.end)) for number, frame in enumerate(basis.layout.frames))
+        return Pairing({number: place for number, place in placed if place is not None},
+                       tracks={track.number: track.number for track in basis.layout.tracks}, alignment=alignment)
     pairing = pair(basis.recording, other.recording)
     pairing.places = displaced_frames.complete(basis.recording, other.recording.copies, pairing.places)
     return pairing if share(basis.recording, other.recording, pairing) else None
 
 
-def count_intact(file: File, others: typing.Sequence[File], pairings: typing.Sequence[typing.Optional[Pairing]], judge: Judge) -> int:
-    """How many frames of a file pass in some copy of it, or of another file."""
-    frames = file.recording.layout.frames
-    found = file.intact({number: frame.place for number, frame in enumerate(frames)}, frames, judge)
-    for other, pairing in zip(others, pairings):
-        if pairing:
-            found |= other.intact(pairing.places, frames, judge)
-    return len(found)
-
-
-def assemble(basis: File, others: typing.Sequence[File], pairings: typing.Sequence[typing.Optional[Pairing]], left: list[Left],
-             judge: Judge) -> Arrangement:
-    made = Arrangement(basis.numbers, basis.recording.layout, left=left, health=dict(basis.health))
-    frames = basis.recording.layout.frames
-    sizes = {claimed_size(copy) for copy in basis.recording.copies} - {None}
-    for file, pairing in zip(others, pairings):
-        made.health.update(file.health)
+def assemble(basis: File, others: typing.Sequence[File], left: list[Left], judge: Judge) -> Arrangement:
+    made = Arrangement(basis.numbers, basis.layout, left=left, rotten=basis.rotten())
+    pairings = {id(file): pairing for file, pairing in basis.pairings}
+    for file in others:
+        pairing = pairings.get(id(file))
         if pairing is None:
             made.left += [Left(number, why_left(file)) for number in file.numbers]
-            continue
-        ranges = [(frame.place, frame.size) for frame in pairing.contrary]
-        for number, copy in zip(file.numbers, file.recording.copies):
-            places = {each: place for each, place in pairing.places.items() if place + frames[each].size <= copy.size}
-            contrary = [frame for frame, judged in zip(pairing.contrary, judge(copy, ranges)) if judged.is_intact()]
-            made.matched.append(Matched(number, places, [frame for frame in pairing.unplaced if frame.end <= copy.size], contrary,
-                                        lasts(file.recording.layout), claimed_size(copy) in sizes))
+        else:
+            made.matched += [matched(number, copy, file.layout, pairing, basis.layout.frames, judge)
+                             for number, copy in zip(file.numbers, file.recording.copies)]
     made.left.sort(key=lambda each: each.number)
     made.matched.sort(key=lambda each: each.number)
     return made
 
 
+def matched(number: int, copy: Copy, layout: Layout, pairing: Pairing, frames: typing.Sequence[Frame], judge: Judge) -> Matched:
+    """How a copy of another file serves."""
+    places = {each: place for each, place in pairing.places.items() if place + frames[each].size <= copy.size}
+    judged = judge(copy, [(frame.place, frame.size) for frame in pairing.contrary])
+    contrary = [frame for frame, each in zip(pairing.contrary, judged) if each.is_intact()]
+    unplaced = [frame for frame in pairing.unplaced if frame.end <= copy.size]
+    return Matched(number, places, unplaced, contrary, None if pairing.alignment else lasts(layout), pairing.tracks, pairing.alignment)
+
+
 def why_left(file: File) -> Leaving:
-    if file.recording.layout.frames:
-        return Leaving.OTHER
-    return Leaving.NO_VIDEO if file.recording.layout.tracks else Leaving.UNREAD
+    if file.layout.frames:
+        return Leaving.OTHER if file.has_some() else Leaving.RUINED
+    return Leaving.NO_VIDEO if file.layout.tracks else Leaving.UNREAD

@@ -10,7 +10,7 @@ from .arrangement import Matched
 PIECE = 1 << 20
 
 
-def lift(layout: Layout, copies: typing.Sequence[Copy], other: Copy, matched: Matched, needed: typing.Iterable[int],
+def carry(layout: Layout, copies: typing.Sequence[Copy], other: Copy, matched: Matched, needed: typing.Iterable[int],
          path: str) -> dict[int, int]:
     """Writes a file that has, one after the other, each of the stretches `needed` as its source copy has it, with those frames over it that
     the other file has. Returns the place of each stretch in that file. Stretches without a frame of the other file are left out."""
@@ -35,8 +35,8 @@ def lift(layout: Layout, copies: typing.Sequence[Copy], other: Copy, matched: Ma
 
 
 def find_source(stretch: Stretch, copies: typing.Sequence[Copy]) -> typing.Optional[tuple[Copy, int]]:
-    """The copy that a stretch is taken from, or the first other one that has it, and its place there."""
-    for number in (stretch.source, *range(len(copies))):
+    """The first copy that has a stretch, and its place there."""
+    for number in range(len(copies)):
         place = stretch.places[number]
         if place is not None:
             return copies[number], place
@@ -95,20 +95,3 @@ def longest_chain(ranges: typing.Sequence[tuple[int, int]]) -> list[int]:
         chain.append(number_or_none)
         number_or_none = before[number_or_none]
     return chain[::-1]
-
-
-def between(layout: Layout, matched: Matched, size: int) -> dict[int, int]:
-    """The places of plain stretches in another file of some size, which is OUT's file with bytes lost or added: of those between two frames
-    (or a frame and the file's begin or end) that lie as far from their places in OUT."""
-    if not matched.is_shifted:
-        return {}
-    placed = sorted((layout.frames[number].place, layout.frames[number].end, place) for number, place in matched.places.items())
-    starts = [*(start for start, _, _ in placed), layout.size]
-    shifts = [0, *(place - start for start, _, place in placed), size - layout.size]
-    ends = [end for _, end, _ in placed]
-    found = {}
-    for number, stretch in enumerate(layout.stretches):
-        before, after = bisect.bisect_right(ends, stretch.start), bisect.bisect_left(starts, stretch.end) + 1
-        if stretch.kind is Kind.PLAIN and after < len(shifts) and shifts[before] == shifts[after]:
-            found[number] = stretch.start + shifts[before]
-    return found

@@ -1,6 +1,7 @@
 """Where the copies of a stretch differ: which have equal bytes, and plain stretches split so that what all agree on stands apart."""
 from __future__ import annotations
 
+import bisect
 import dataclasses
 import itertools
 import re
@@ -65,7 +66,7 @@ def split(stretch: Stretch, copies: typing.Sequence[Copy]) -> list[Stretch]:
     """Returns the parts of a plain stretch: it is split where copies begin or end to differ."""
     having = [number for number, place in enumerate(stretch.places) if place is not None]
     if stretch.kind is not Kind.PLAIN or len(having) < 2:
-        return [stretch]
+        return [dataclasses.replace(stretch, is_alike=True) if stretch.kind is Kind.PLAIN else stretch]
     agreed: Label = (0,) * len(having)
     runs: list[Run] = []
     for offset in range(0, stretch.size, PIECE):
@@ -79,7 +80,7 @@ def split(stretch: Stretch, copies: typing.Sequence[Copy]) -> list[Stretch]:
     runs = _joined(runs, agreed)
     if len(runs) > MOST_RUNS:
         runs = _coarser(runs, agreed, (stretch.places[having[0]] or 0) % SECTOR)
-    return _parts(stretch, runs) if len(runs) > 1 else [stretch]
+    return _parts(stretch, runs, agreed)
 
 
 def _runs(pieces: typing.Sequence[bytes], size: int) -> typing.Iterator[Run]:
@@ -163,11 +164,22 @@ def _coarser(runs: typing.Sequence[Run], agreed: Label, phase: int) -> list[Run]
     return coarser
 
 
-def _parts(stretch: Stretch, runs: typing.Sequence[Run]) -> list[Stretch]:
-    """Returns the parts of a stretch between the ends of runs."""
+def cut(stretches: typing.Iterable[Stretch], bounds: typing.AbstractSet[int]) -> list[Stretch]:
+    """Returns the stretches, plain ones cut at these places of OUT."""
+    ordered, made = sorted(bounds), []
+    for stretch in stretches:
+        inner = ordered[bisect.bisect_right(ordered, stretch.start) : bisect.bisect_left(ordered, stretch.end)]
+        runs = [Run(place - stretch.start, ()) for place in (*inner, stretch.end)]
+        made += _parts(stretch, runs, None) if inner and stretch.kind is Kind.PLAIN else [stretch]
+    return made
+
+
+def _parts(stretch: Stretch, runs: typing.Sequence[Run], agreed: typing.Optional[Label]) -> list[Stretch]:
+    """Returns the parts of a stretch between the ends of runs. In those of the label `agreed` the copies are alike."""
     parts, start = [], 0
     for run in runs:
         places = tuple(None if place is None else place + start for place in stretch.places)
-        parts.append(dataclasses.replace(stretch, start=stretch.start + start, size=run.end - start, places=places))
+        parts.append(dataclasses.replace(stretch, start=stretch.start + start, size=run.end - start, places=places,
+                                         is_alike=run.label == agreed))
         start = run.end
     return parts

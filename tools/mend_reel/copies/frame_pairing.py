@@ -8,6 +8,7 @@ import typing
 
 from ..judging.frame_checks import is_uniform, share_slice
 from ..model import Copy, Frame, Layout
+from .alignment import Alignment
 
 TAIL = 32
 MOST_READ = 4
@@ -51,11 +52,14 @@ class Recording:
 @dataclasses.dataclass
 class Pairing:
     """Where frames lie in another file, by their numbers. `unplaced` are frames of that file at times at which the first has none,
-    `contrary` those at the time of a frame of another size; their times are those of the first file."""
+    `contrary` those at the time of a frame of another size; their times are those of the first file. `tracks` are the first file's numbers
+    of its FFV1 tracks. Where it is the first file with bytes lost or added, `alignment` says where all bytes lie."""
 
     places: dict[int, int] = dataclasses.field(default_factory=dict)
     unplaced: list[Frame] = dataclasses.field(default_factory=list)
     contrary: list[Frame] = dataclasses.field(default_factory=list)
+    tracks: dict[int, int] = dataclasses.field(default_factory=dict)
+    alignment: typing.Optional[Alignment] = None
 
 
 def pair(ours: Recording, theirs: Recording) -> Pairing:
@@ -65,6 +69,7 @@ def pair(ours: Recording, theirs: Recording) -> Pairing:
     pairing = Pairing({number: theirs.layout.frames[other].place for other, number in alike.items()})
     for track, own in pair_tracks(ours.layout.frames, theirs.layout.frames, alike).items():
         numbers = [number for number, frame in enumerate(theirs.layout.frames) if frame.track == track]
+        pairing.tracks.update({} if own is None else {track: own})
         TrackPairing(ours.layout.frames, theirs.layout.frames, numbers, own, alike).add_to(pairing)
     return pairing
 

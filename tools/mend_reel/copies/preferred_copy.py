@@ -2,17 +2,21 @@
 from __future__ import annotations
 
 import dataclasses
+import re
 import typing
 
 from ..containers import ebml
-from ..model import Because, Copy, Kind, Layout, Stretch
+from ..model import Because, Content, Copy, Kind, Layout, Stretch
 from . import differences
 
 SECTOR = 512
-ZEROS = bytes(SECTOR)
+# A sector that was lost has one value all over: zero, or what the program that read it filled it with.
+FILLING = re.compile(rb"(.)\1{%d,}" % (SECTOR - 1), re.DOTALL)
 PIECE = 1 << 16
 # Copies that differ in fewer bytes than this around a stretch do not show a lost sector: one of silence with a wrong byte looks the same.
 FEWEST_LOST = 16
+# What is no part of how a file hangs together.
+PLAYED = frozenset({Content.SOUND, Content.VIDEO, Content.SUBTITLES, Content.FRAME, Content.CLUSTER})
 Numbers = frozenset[int]
 Candidates = list[int]
 # Returns for each of some frames the copies that have it with all its slices passing.
@@ -39,43 +43,63 @@ class Sectors:
 
 @dataclasses.dataclass
 class KnownDamage:
-    """What is known of a copy: how many bytes of elements and frames pass their checksums, or are as in all copies that have them, and
-    the sectors in which bytes are wrong."""
+    """What is known of a copy: whether its container can be read to its end, how many bytes of elements and frames pass their checksums, or
+    are as in all copies that have them, and the sectors in which bytes are wrong."""
 
-    verified: int
+    reads: bool
     damaged: Sectors
+    verified: int = 0
 
 
 @dataclasses.dataclass
 class Case:
-    """A stretch in which copies differ: those with equal bytes, those that pass a check, and those that may serve."""
+    """A stretch in which copies differ: those with equal bytes, those that pass a check, those that may serve, and the rule that decided."""
 
     stretch: Stretch
     groups: differences.Partition
     passing: Numbers
     candidates: Candidates
+    because: Because = Because.ALONE
 
 
-def choose(layout: Layout, copies: typing.Sequence[Copy], health: typing.Sequence[int], reads: typing.Sequence[bool], judge: Judge,
-           unlike: typing.Optional[typing.Container[int]] = None) -> list[KnownDamage]:
-    """Sets the source of every stretch, and returns what was found of each copy. `health` are bytes of each that are verified so far,
-    `reads` says whose container can be read, and `judge` is called once, with the frames in which copies differ. Only the stretches of these
-    numbers are compared, where it is known that all others are alike in all copies."""
-    found = [KnownDamage(verified, Sectors(copy.size)) for verified, copy in zip(health, copies)]
+def choose(layout: Layout, copies: typing.Sequence[Copy], reads: typing.Sequence[bool], judge: Judge,
+           unlike: typing.Optional[typing.Container[int]] = None) -> dict[int, Stretch]:
+    """Returns the stretches in which copies differ, with their sources, by their numbers. `reads` says whose container can be read, and
+    `judge` is called once, with the frames in which copies differ. Only the stretches of the numbers `unlike` are compared, where it is
+    known that all others are alike in all copies."""
+    found = [KnownDamage(can_be_read, Sectors(copy.size)) for copy, can_be_read in zip(copies, reads)]
     mark_unread(copies, found)
-    cases = judged(list(differing(layout.stretches, copies, found, unlike)), copies, judge)
+    cases = dict(differing(layout.stretches, copies, found, unlike))
+    judged(list(cases.values()), copies, judge)
+    decide(list(cases.values()), copies, found)
+    return {at: dataclasses.replace(case.stretch, source=case.candidates[0], because=case.because) for at, case in cases.items()}
+
+
+def decide(cases: typing.Sequence[Case], copies: typing.Sequence[Copy], found: typing.Sequence[KnownDamage]) -> None:
+    """Leaves one candidate of each case, by the rules in their order, and notes what is known of each copy."""
     for case in cases:
         narrow(case, by_check(case), Because.CONFIRMED)
         note(case, copies, found)
-        narrow(case, without_zeros(case, copies, found), Because.NOT_LOST)
-    ranks = [(-health.verified, health.damaged.count()) for health in found]
+    sound = [number for number, each in enumerate(found) if each.reads and not each.damaged.count()]
+    for case in cases:
+        kept = without_lost_sectors(case, copies)
+        narrow(case, [number for number in case.candidates if kept and number in sound], Because.SOUND)
+        mark_lost(case, kept, found)
+        narrow(case, kept, Because.NOT_LOST)
+    ranks = [(-damage.verified, damage.damaged.count()) for damage in found]
     for case in cases:
         narrow(case, undamaged(case, found), Because.UNDAMAGED)
-        narrow(case, by_vote(case, reads), Because.MOST)
+        narrow(case, by_vote(case, found), Because.MOST)
+        narrow(case, [number for number in case.candidates if number in sound], Because.SOUND)
         narrow(case, healthiest(case, ranks), Because.HEALTHIEST)
         narrow(case, case.candidates[:1], Because.FIRST)
-        case.stretch.source = case.candidates[0]
-    return found
+
+
+def follow(stretch: Stretch, number: int) -> Stretch:
+    """Returns a stretch that is taken from a copy whose container shows most frames, if it is of how the file hangs together."""
+    if stretch.kind is not Kind.PLAIN or stretch.what.content in PLAYED or stretch.places[number] is None:
+        return stretch
+    return dataclasses.replace(stretch, source=number, because=Because.SHOWS)
 
 
 def mark_unread(copies: typing.Sequence[Copy], found: typing.Sequence[KnownDamage]) -> None:
@@ -86,28 +110,25 @@ def mark_unread(copies: typing.Sequence[Copy], found: typing.Sequence[KnownDamag
 
 
 def differing(stretches: typing.Iterable[Stretch], copies: typing.Sequence[Copy], found: typing.Sequence[KnownDamage],
-              unlike: typing.Optional[typing.Container[int]]) -> typing.Iterator[Case]:
-    """Yields the stretches in which copies differ. Of the others the first copy that has them serves."""
+              unlike: typing.Optional[typing.Container[int]]) -> typing.Iterator[tuple[int, Case]]:
+    """Yields the stretches in which copies differ. Of the others each copy that has them is verified, but for plain ones."""
     for at, stretch in enumerate(stretches):
         having = [number for number, place in enumerate(stretch.places) if place is not None]
         groups = differences.partition(stretch, copies) if unlike is None or at in unlike else (tuple(having),)
         if len(groups) > 1:
-            yield Case(stretch, groups, stretch.vouched.intersection(having), having)
-        elif having:
-            stretch.source = having[0]
-            for number in having if stretch.kind is not Kind.PLAIN else ():
-                found[number].verified += stretch.size
+            yield at, Case(stretch, groups, stretch.vouched.intersection(having), having)
+        for number in having if len(groups) == 1 and stretch.kind is not Kind.PLAIN else ():
+            found[number].verified += stretch.size
 
 
-def judged(cases: list[Case], copies: typing.Sequence[Copy], judge: Judge) -> list[Case]:
-    """Returns the cases with what passes: elements by their CRC-32s, frames as they are judged."""
+def judged(cases: typing.Sequence[Case], copies: typing.Sequence[Copy], judge: Judge) -> None:
+    """Sees what passes: elements by their CRC-32s, frames as they are judged."""
     frames = [case for case in cases if case.stretch.kind is Kind.FRAME]
     for case, passing in zip(frames, judge([case.stretch for case in frames]) if frames else ()):
         case.passing = frozenset(passing).intersection(case.candidates)
     for case in cases:
         if case.stretch.kind is Kind.ELEMENT:
             case.passing = frozenset(number for group in case.groups if passes(case.stretch, copies, group[0]) for number in group)
-    return cases
 
 
 def passes(stretch: Stretch, copies: typing.Sequence[Copy], number: int) -> bool:
@@ -116,10 +137,10 @@ def passes(stretch: Stretch, copies: typing.Sequence[Copy], number: int) -> bool
 
 
 def narrow(case: Case, serving: Candidates, rule: Because) -> None:
-    """Keeps the candidates that a rule names, if it names some. The rule after which all that are left have equal bytes decides."""
-    case.candidates = sorted(serving) or case.candidates
-    if case.stretch.because is Because.ALONE and any(set(case.candidates).issubset(group) for group in case.groups):
-        case.stretch.because = rule
+    """Keeps those candidates that a rule names, if it names some. The rule after which all that are left have equal bytes decides."""
+    case.candidates = sorted(set(serving).intersection(case.candidates)) or case.candidates
+    if case.because is Because.ALONE and any(set(case.candidates).issubset(group) for group in case.groups):
+        case.because = rule
 
 
 # ---- the rules, in their order
@@ -130,17 +151,22 @@ def by_check(case: Case) -> Candidates:
     return [number for number in case.candidates if number in case.passing]
 
 
-def without_zeros(case: Case, copies: typing.Sequence[Copy], found: typing.Sequence[KnownDamage]) -> Candidates:
-    """Others have lost sectors there, which are zero now."""
+def without_lost_sectors(case: Case, copies: typing.Sequence[Copy]) -> Candidates:
+    """Others have lost sectors there, which are filled with one value now. A copy in which nothing is known to be wrong comes before this."""
     stretch = case.stretch
-    zero = [number for number in case.candidates if has_lost_sector(stretch, copies, number)]
-    others = [number for number in case.candidates if number not in zero]
-    if not zero or not others or not any(differ_widely(stretch, copies, zero[0], other) for other in others):
+    lost = [number for number in case.candidates if has_lost_sector(stretch, copies, number, case.candidates)]
+    others = [number for number in case.candidates if number not in lost]
+    if not lost or not others or not any(differ_widely(stretch, copies, lost[0], other) for other in others):
         return []
-    for number in zero if stretch.kind is Kind.PLAIN else ():
-        place = stretch.places[number] or 0
-        found[number].damaged.mark(place, place + stretch.size)
     return others
+
+
+def mark_lost(case: Case, kept: Candidates, found: typing.Sequence[KnownDamage]) -> None:
+    """Marks the sectors of the candidates that are left and have lost some."""
+    for number in case.candidates if kept and case.stretch.kind is Kind.PLAIN else ():
+        if number not in kept:
+            place = case.stretch.places[number] or 0
+            found[number].damaged.mark(place, place + case.stretch.size)
 
 
 def undamaged(case: Case, found: typing.Sequence[KnownDamage]) -> Candidates:
@@ -150,9 +176,9 @@ def undamaged(case: Case, found: typing.Sequence[KnownDamage]) -> Candidates:
     return [number for number, place in places if not found[number].damaged.touch(place, place + size)]
 
 
-def by_vote(case: Case, reads: typing.Sequence[bool]) -> Candidates:
+def by_vote(case: Case, found: typing.Sequence[KnownDamage]) -> Candidates:
     """More than half of the copies whose container can be read have the same there."""
-    voters = [number for number in case.candidates if reads[number]]
+    voters = [number for number in case.candidates if found[number].reads]
     for group in case.groups:
         if 2 * sum(number in group for number in voters) > len(voters):
             return [number for number in voters if number in group]
@@ -201,16 +227,45 @@ def mark_piece(stretch: Stretch, offset: int, ours: bytes, theirs: bytes, wrong:
             found[number].damaged.mark(place + at, place + at + 1)
 
 
+def without_lost(stretch: Stretch, copies: typing.Sequence[Copy]) -> Stretch:
+    """Returns a plain stretch without the versions of copies that have lost a sector there, where two others at least agree."""
+    having = [number for number, place in enumerate(stretch.places) if place is not None]
+    if stretch.kind is not Kind.PLAIN or stretch.is_alike or len(having) < 3:
+        return stretch
+    lost = [number for number in having if has_lost_sector(stretch, copies, number, having)]
+    agreed = [group for group in differences.partition(stretch, copies) if not set(group).issubset(lost)]
+    if not lost or len(agreed) != 1 or len(agreed[0]) < 2 or not set(agreed[0]).isdisjoint(lost):
+        return stretch
+    return dataclasses.replace(stretch, places=tuple(place if number in agreed[0] else None for number, place in enumerate(stretch.places)))
+
+
 def around(stretch: Stretch, number: int) -> tuple[int, int]:
     """Returns the range of a copy in which a lost sector would lie that has bytes of a stretch."""
     place = stretch.places[number] or 0
     return max(place - SECTOR + 1, 0), place + stretch.size + SECTOR - 1
 
 
-def has_lost_sector(stretch: Stretch, copies: typing.Sequence[Copy], number: int) -> bool:
-    """Reports whether a copy has a run of zero bytes of a sector's length in a stretch, or across an end of it."""
+def has_lost_sector(stretch: Stretch, copies: typing.Sequence[Copy], number: int, others: typing.Iterable[int]) -> bool:
+    """Reports whether a copy has a run of one value of a sector's length in a stretch, or across an end of it, where another copy has more
+    values; or zeros in a last sector that is shorter."""
     start, end = around(stretch, number)
-    return any(ZEROS in copies[number].read(place, min(PIECE + SECTOR - 1, end - place)) for place in range(start, end, PIECE))
+    for place in range(start, end, PIECE):
+        piece = copies[number].read(place, min(PIECE + SECTOR - 1, end - place))
+        runs = [match.span() for match in FILLING.finditer(piece)]
+        tail = (place + len(piece)) % SECTOR
+        if place + len(piece) == copies[number].size and tail and not any(piece[-tail:]):
+            runs.append((len(piece) - tail, len(piece)))
+        for first, last in runs:
+            if any(has_data(stretch, copies, number, other, place + first, place + last) for other in others if other != number):
+                return True
+    return False
+
+
+def has_data(stretch: Stretch, copies: typing.Sequence[Copy], number: int, other: int, start: int, end: int) -> bool:
+    """Reports whether another copy has several values where one copy has a range of one value, next to a stretch."""
+    shift = (stretch.places[other] or 0) - (stretch.places[number] or 0)
+    piece = copies[other].read(max(start + shift, 0), end - start)
+    return piece.count(piece[:1]) < len(piece)
 
 
 def differ_widely(stretch: Stretch, copies: typing.Sequence[Copy], one: int, other: int) -> bool:

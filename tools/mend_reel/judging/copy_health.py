@@ -1,4 +1,4 @@
-"""How much of a copy its checksums verify, and whether the slices of a recording have parities at all."""
+"""What of a copy passes its checks, and whether the slices of a recording have parities at all."""
 from __future__ import annotations
 
 import dataclasses
@@ -13,31 +13,35 @@ MOST_SAMPLES = 16
 
 @dataclasses.dataclass(frozen=True)
 class CopyHealth:
-    """Of a copy: how many frames its file has, how many of them pass in it, how many of its bytes pass a checksum, and whether all
-    that has one passes."""
+    """Of a copy: the numbers of the frames that pass in it, those of the stretches of elements that do, and whether it lacks nothing, and
+    all that has a check passes."""
 
-    frames: int = 0
-    intact: int = 0
-    verified: int = 0
+    intact: frozenset[int] = frozenset()
+    passing: frozenset[int] = frozenset()
     is_undamaged: bool = False
 
 
 def health(copy: Copy, number: int, layout: Layout, judge: Judge) -> CopyHealth:
     """The health of a copy of the file that a layout describes, of which it is the copy `number`."""
     judged = judge(copy, [(frame.place, frame.size) for frame in layout.frames])
-    intact = {frame.place: frame.size for frame, each in zip(layout.frames, judged) if each.is_intact()}
-    verified, passing = 0, True
-    for stretch in layout.stretches:
-        place = stretch.places[number]
-        if place is None:
-            passing = False
-        elif stretch.kind is Kind.ELEMENT and ebml.passes(copy, place, place + stretch.size):
-            verified += stretch.size
-        else:
-            passing = passing and stretch.kind is not Kind.ELEMENT
-            verified += sum(intact.get(frame.place, 0) for frame in stretch.parts)
-    is_whole = passing and not layout.gaps and len(intact) == len(layout.frames)
-    return CopyHealth(len(layout.frames), len(intact), verified, is_whole)
+    intact = frozenset(at for at, each in enumerate(judged) if each.is_intact())
+    elements = [at for at, stretch in enumerate(layout.stretches) if stretch.kind is Kind.ELEMENT]
+    passing = frozenset(at for at in elements if has_passing(layout, at, number, copy))
+    lacks = any(stretch.places[number] is None for stretch in layout.stretches)
+    return CopyHealth(intact, passing, not lacks and not layout.gaps and len(intact) == len(layout.frames) and len(passing) == len(elements))
+
+
+def has_passing(layout: Layout, at: int, number: int, copy: Copy) -> bool:
+    stretch = layout.stretches[at]
+    place = stretch.places[number]
+    return place is not None and ebml.passes(copy, place, place + stretch.size)
+
+
+def rotten(layout: Layout, healths: typing.Sequence[CopyHealth]) -> set[int]:
+    """The numbers of the frames that fail in elements that pass: they were damaged before the file was written."""
+    numbers = {frame.place: at for at, frame in enumerate(layout.frames)}
+    return {numbers[frame.place] for each in healths for at in each.passing for frame in layout.stretches[at].parts} - {
+        at for each in healths for at in each.intact}
 
 
 # ---- recordings without parities

@@ -38,21 +38,23 @@ class Scan:
 
     def __init__(self, program: str, work: pathlib.Path) -> None:
         self.program, self.work = program, work
-        self.known: dict[tuple[int, int, int], Judged] = {}
+        self.known: dict[tuple[str, int, int], Judged] = {}
+        self.names: dict[str, int] = {}
 
     def __call__(self, copy: Copy, ranges: typing.Sequence[Range]) -> list[Judged]:
         """The judgement of each range. A range that the copy does not have has no slices."""
         fits = {(place, size) for place, size in ranges if 0 < size <= MOST_BYTES and 0 <= place and place + size <= copy.size}
-        left = sorted(each for each in fits if (copy.file, *each) not in self.known)
+        left = sorted(each for each in fits if (copy.path, *each) not in self.known)
         while left:
             now, left = part_overlaps(left)
             for each, judged in zip(now, self.scan(copy, now)):
-                self.known[(copy.file, *each)] = judged
-        return [self.known.get((copy.file, *each), Judged()) for each in ranges]
+                self.known[(copy.path, *each)] = judged
+        return [self.known.get((copy.path, *each), Judged()) for each in ranges]
 
     def scan(self, copy: Copy, ranges: typing.Sequence[Range]) -> list[Judged]:
         """Has the program judge ranges that rise and do not overlap. It reads the copy by a link, as it takes only names that are text."""
-        path, link = self.work / f"ranges.{copy.file}", self.work / f"scanned.{copy.file}"
+        name = self.names.setdefault(copy.path, len(self.names))
+        path, link = self.work / f"ranges.{name}", self.work / f"scanned.{name}"
         path.write_text("".join(f"{place} {size}\n" for place, size in ranges), encoding="ascii")
         if not link.is_symlink():
             link.symlink_to(os.path.abspath(copy.path))

@@ -40,13 +40,20 @@ class Why(enum.Enum):
     UNPLACED = "copy {copy} has {it}, and {out} has no place for {it}; see whether a copy of another length is the whole recording"
     LACKS = "copy {copy} has {it}, and {out} lacks {it}; see whether that copy's file is the whole recording"
     ALONE = "copy {copy} alone has {it}, {amount}, and no checksum covers {it}; a further copy may confirm {it}"
+    BROKEN = "the parts of the file lead nowhere there; a further copy may have them right"
+    CUT = "the file says that it goes on there; a further copy may have the end"
+    AFTER_END = "this lies after the end of the file by its own account"
+    MISCOUNTED = "the file counts {count} frames or blocks there, and {has} are in it; a further copy may have the others"
+    NO_TABLE = "what says where the frames lie is lost or was never written; a further copy may have it"
+    ROTTEN = ("parts of {it} fail their own checks, though the checksum around {it} passes: {it} was damaged before this file was written; "
+              "a copy of an earlier file may have {it}")
     UNCHECKED = "no frame has a checksum, so no damage in them can be found; a further copy may confirm them"
     CONTRARY = "copy {copy} has other intact frames at these times; see whether it is of the same recording"
 
 
 # What lies there is not known.
-OF_BYTES = frozenset({Why.ABSENT, Why.UNDIVIDED})
-OF_FILE = frozenset({Why.SHORT, Why.SHORTER, Why.COUNT, Why.UNCHECKED})
+OF_BYTES = frozenset({Why.ABSENT, Why.UNDIVIDED, Why.BROKEN, Why.CUT, Why.AFTER_END, Why.MISCOUNTED})
+OF_FILE = frozenset({Why.SHORT, Why.SHORTER, Why.COUNT, Why.UNCHECKED, Why.NO_TABLE})
 OF_FRAMES = frozenset({Why.HOLE, Why.INDEX, Why.ORDER, Why.UNPLACED, Why.CONTRARY})
 
 
@@ -143,7 +150,7 @@ def goes_on(before: Reason, after: Reason) -> bool:
         return False
     if before.frames and after.frames:
         return after.frames[0] == before.frames[1] + 1
-    if before.frames or after.frames or before.why in OF_FILE or before.why is Why.ALONE:
+    if before.frames or after.frames or before.why in OF_FILE or before.why in (Why.ALONE, Why.MISCOUNTED):
         return False
     if before.bytes and after.bytes:
         return after.bytes[0] <= before.bytes[1] + NEIGHBOUR

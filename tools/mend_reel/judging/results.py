@@ -88,11 +88,12 @@ def copies_of(marks: str, mark: str, copy_of_mark: typing.Sequence[int]) -> set[
 
 class Results:
     """What became of the frames of a recording. `copy_of_mark` has the copy that each mark of an outcome is of; `decoded` the places of
-    frames with guessed slices that decode."""
+    frames with guessed slices that decode, and `rotten` the numbers of frames that fail their parities in elements that pass."""
 
     def __init__(self, layout: Layout, stretches: typing.Sequence[Stretch], outcomes: typing.Iterable[Outcome],
-                 copy_of_mark: typing.Sequence[int], decoded: typing.AbstractSet[int] = frozenset()) -> None:
-        self.layout, self.stretches, self.copy_of_mark, self.decoded = layout, stretches, copy_of_mark, decoded
+                 copy_of_mark: typing.Sequence[int], decoded: typing.AbstractSet[int] = frozenset(),
+                 rotten: typing.AbstractSet[int] = frozenset()) -> None:
+        self.layout, self.stretches, self.copy_of_mark, self.decoded, self.rotten = layout, stretches, copy_of_mark, decoded, rotten
         self.places = [frame.place for frame in layout.frames]
         self.orders = count_in_tracks(layout.frames)
         self.outcomes = {outcome.number: outcome for outcome in outcomes}
@@ -101,6 +102,7 @@ class Results:
         self.frames: dict[int, FrameResult] = {}
         for number, outcome in self.outcomes.items():
             self.add(number, stretches[number], outcome)
+        self.add_rotten()
 
     def source(self, stretch: Stretch) -> int:
         """The copy that a stretch is taken from where nothing vouches for its bytes."""
@@ -123,6 +125,14 @@ class Results:
                 result = dataclasses.replace(worse, damaged=tuple(sorted({*result.damaged, *known.damaged})))
             if result:
                 self.frames[at] = result
+
+    def add_rotten(self) -> None:
+        """Adds the frames that were damaged before the file was written: all copies of it have them so."""
+        starts = [stretch.start for stretch in self.stretches]
+        for at in self.rotten:
+            frame, number = self.layout.frames[at], bisect.bisect_right(starts, self.places[at]) - 1
+            damaged = {self.copy_of_mark[mark] for mark, place in enumerate(self.stretches[number].places) if place is not None}
+            self.frames[at] = FrameResult(at, self.orders[at], frame, number, FrameState.LOST, tuple(sorted(damaged)))
 
     def judge(self, number: int, outcome: Outcome, part: typing.Optional[int], at: int) -> typing.Optional[FrameResult]:
         """What became of a frame; `part` is its number in its stretch, where the program lists its slices."""

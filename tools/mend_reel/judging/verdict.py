@@ -5,6 +5,7 @@ import collections
 import dataclasses
 import typing
 
+from ..containers.structure import Flaw, Found
 from ..copies.arrangement import Left, Matched
 from ..model import Because, Claims, Content, Kind, Layout, Outcome, State, Stretch
 from .completeness import Seen, find_lacks
@@ -14,6 +15,7 @@ from .results import GUESSED, Counts, FrameResult, FrameState, Results, Sums, is
 
 # What remains of a cluster when the frames in it that are not restored are named.
 OF_CLUSTERS = (Content.CLUSTER, Content.UNKNOWN)
+OF_FLAWS = {Flaw.BROKEN: Why.BROKEN, Flaw.CUT: Why.CUT, Flaw.AFTER_END: Why.AFTER_END, Flaw.COUNT: Why.MISCOUNTED, Flaw.NO_TABLE: Why.NO_TABLE}
 PLAYED = (Content.SOUND, Content.VIDEO, Content.SUBTITLES)
 
 
@@ -23,7 +25,8 @@ class Evidence:
     what lies where in OUT as it was read again (None where nothing can be read); what the containers of copies claim of the recording;
     copies that are other files; copies that are left out; which copy each mark of an outcome is of; what the other files have, by copy;
     whether damaged element headers of copies were left out; the places of frames with guessed slices that decode; what a kept digest
-    says; and whether one file is checked, and no OUT is made."""
+    says; whether one file is checked, and no OUT is made; where the parts of OUT, or of that file, do not hang together; and the numbers of
+    frames that fail their parities in elements that pass."""
 
     layout: Layout
     stretches: typing.Sequence[Stretch]
@@ -38,6 +41,8 @@ class Evidence:
     decoded: typing.AbstractSet[int] = frozenset()
     compared: typing.Optional[Compared] = None
     is_check: bool = False
+    flaws: typing.Sequence[Found] = ()
+    rotten: typing.AbstractSet[int] = frozenset()
 
 
 @dataclasses.dataclass
@@ -89,8 +94,9 @@ class Verdict:
 def judge(evidence: Evidence) -> Verdict:
     """The verdict on OUT."""
     copy_of_mark = evidence.copy_of_mark or range(max((len(stretch.places) for stretch in evidence.stretches), default=0))
-    results = Results(evidence.layout, evidence.stretches, evidence.outcomes, copy_of_mark, evidence.decoded)
-    found = [*of_gaps(evidence.layout), *of_stretches(results), *(of_unchecked(results) if evidence.is_check else of_one_copy(results))]
+    results = Results(evidence.layout, evidence.stretches, evidence.outcomes, copy_of_mark, evidence.decoded, evidence.rotten)
+    found = [*of_gaps(evidence.layout), *of_stretches(results), *of_rotten(results, evidence.rotten), *(of_unchecked(results) if evidence.is_check else of_one_copy(results))]
+    found += of_flaws(evidence, found)
     found.sort(key=lambda reason: reason.bytes or (0, 0))
     found += find_lacks(Seen(evidence.layout, evidence.out, results, evidence.claims, evidence.matched))
     found += of_other_contents(evidence)
@@ -162,12 +168,27 @@ def of_gaps(layout: Layout) -> typing.Iterator[Reason]:
         yield Reason(why, Content.UNKNOWN, bytes=(place, place + size))
 
 
+def of_flaws(evidence: Evidence, found: typing.Iterable[Reason]) -> list[Reason]:
+    """Where the parts of a file do not hang together, but for what is in doubt already."""
+    known, made = [reason.bytes for reason in found if reason.bytes and reason.why is not Why.ALONE], []
+    for flaw, start, end, has, count in evidence.flaws:
+        if not any(known_start <= start and end <= known_end for known_start, known_end in known):
+            made.append(Reason(OF_FLAWS[flaw], Content.UNKNOWN, bytes=(start, end), has=has, count=count))
+    return made
+
+
+def of_rotten(results: Results, rotten: typing.Iterable[int]) -> typing.Iterator[Reason]:
+    """The frames that were damaged before the file was written."""
+    for at in rotten:
+        yield of_frame(Why.ROTTEN, results.frames[at], 0)
+
+
 def of_stretches(results: Results) -> typing.Iterator[Reason]:
     """The stretches of OUT that are not whole, woven, agreed or read; what is alone stands apart."""
     for number, stretch in enumerate(results.stretches):
         state = results.state(number)
         if state is not State.ALONE and not results.is_vouched(number):
-            lost = [result for result in results.within(number) if result.state is FrameState.LOST]
+            lost = [result for result in results.within(number) if result.state is FrameState.LOST and result.number not in results.rotten]
             yield from of_stretch(stretch, state, lost, results.source(stretch))
 
 

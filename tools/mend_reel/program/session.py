@@ -7,17 +7,17 @@ import pathlib
 import stat
 import typing
 
-from ..containers import ffmpeg_files, ffprobe, matroska
-from ..copies import broken_headers, differences, preferred_copy
-from ..copies.arrangement import arrange, describe
-from ..copies.inputs import Inputs, add_other_files
-from ..copies.unread_places import without_unread
+from ..containers import ffprobe, matroska, structure
+from ..copies.arrangement import Arrangement, arrange, describe
+from ..copies.comparison import Comparison, best_shown, compare
+from ..copies.inputs import Inputs, gather
+from ..copies.preferred_copy import follow
 from ..judging import copy_health, decoding, digests
 from ..judging.digests import Compared
 from ..judging.frame_checks import Scan
 from ..judging.results import FrameState
 from ..judging.verdict import Evidence, Verdict, judge
-from ..model import Claims, Copy, Fault, Frame, Layout, Outcome, Stretch, open_copy
+from ..model import MATROSKA, Copy, Fault, Frame, Layout, Outcome, State, Stretch, open_copy
 from ..reports import printed_lines
 from ..reports.summary import Summary
 from ..reports.writer import Reporter
@@ -31,17 +31,20 @@ from .parallel import of_each
 from .progress import Progress
 from .work_folder import WorkFolder
 
-NOWHERE, MATROSKA = "/dev/null", "matroska"
+NOWHERE = "/dev/null"
+PIECE = 1 << 20
 
 
 @dataclasses.dataclass
 class Made:
     """What was made: the stretches in the order of OUT, what became of those that are not undamaged, by their numbers there, what lies where
-    in OUT when it is read again, its path while it is made, and the places of frames with guessed slices that decode."""
+    in OUT when it is read again, where its parts do not hang together, its path while it is made, and the places of frames with guessed
+    slices that decode."""
 
     stretches: list[Stretch]
     outcomes: list[Outcome]
     out: Layout
+    flaws: list[structure.Found]
     part: typing.Optional[str] = None
     decoded: frozenset[int] = frozenset()
 
@@ -104,6 +107,15 @@ def run(options: Options, work: pathlib.Path, outputs: Outputs, progress: Progre
     return Finished(lines, max(summary.verdict.status for summary in summaries), faults)
 
 
+def patch(source: pathlib.Path, out: str, stretches: typing.Iterable[Stretch]) -> None:
+    """Writes stretches, which lie in a file one after the other, to their places in OUT."""
+    with open(source, "rb") as file, open(out, "r+b") as made:
+        for stretch in stretches:
+            made.seek(stretch.start)
+            for place in range(0, stretch.size, PIECE):
+                made.write(file.read(min(PIECE, stretch.size - place)))
+
+
 class Session:
     """One OUT, or one file that is checked."""
 
@@ -113,8 +125,6 @@ class Session:
         self.judge = Scan(self.program, work)
         self.keeper = Keeper(self.program, work, options.keep, options.pictures)
         self.notes: list[str] = list(outputs.left)
-        self.has_damaged_heads = False
-        self.reads: list[bool] = []
 
     def run(self, reporter: Reporter) -> Summary:
         """Does the work."""
@@ -134,18 +144,21 @@ class Session:
             copy.form = form
         self.refuse_recording(copies)
         arrangement = arrange(copies, self.judge)
-        layout, inputs = arrangement.layout, Inputs([copies[number] for number in arrangement.basis], list(arrangement.basis))
-        if copy_health.lack_parities(layout, inputs.files):
+        layout = arrangement.layout
+        if copy_health.lack_parities(layout, [copies[number] for number in arrangement.basis]):
             layout = copy_health.without_parts(layout)
             self.notes.append(copy_health.NO_PARITIES)
-        claims = self.compare(layout, inputs)
-        add_other_files(inputs, layout, copies, arrangement.matched, self.work)
+        inputs, layout = gather(arrangement, layout, copies, self.work)
+        self.progress.begin("comparing the copies")
+        comparison = compare(layout, inputs, self.progress.at)
         others = {matched.number: describe([copies[matched.number]], self.judge, False) for matched in arrangement.matched}
-        claims += [other.claims for other in others.values()]
-        made = self.make(layout, inputs)
+        claims = [*comparison.claims, *(others[matched.number].claims.of_tracks(matched.tracks) for matched in arrangement.matched)]
+        made = self.make(comparison)
+        self.notes += [*arrangement.notes(copies), *comparison.notes]
         verdict = judge(Evidence(
             layout, made.stretches, made.outcomes, made.out, claims, arrangement.matched, arrangement.left, inputs.numbers, others,
-            self.has_damaged_heads, made.decoded, self.compared(made.part or self.options.copies[0]), self.options.out is None))
+            bool(comparison.notes), made.decoded, self.compared(made.part or self.options.copies[0]), self.options.out is None, made.flaws,
+            self.rotten(arrangement, layout, inputs)))
         self.keep_frames(layout, inputs, made, verdict)
         summary = reporter.summary(copies, arrangement, layout, verdict, made.part, self.notes)
         self.outputs.settle_out()
@@ -183,90 +196,84 @@ class Session:
             return MATROSKA
         return ffprobe.contain(copy).form if ffprobe.can_ask() else ""
 
-    # ---- the list
-
-    def compare(self, layout: Layout, inputs: Inputs) -> list[Claims]:
-        """Splits plain stretches where copies begin and end to differ, and takes away broken element headers. Returns what each copy claims
-        of the recording."""
-        copies, stretches = list(inputs.files), []
-        claims = self.claims(layout, copies)
-        self.progress.begin("comparing the copies")
-        for stretch in layout.stretches:
-            for part in without_unread(stretch, copies):
-                stretches += differences.split(part, copies)
-            self.progress.at(stretch.end, layout.size)
-        layout.stretches = stretches
-        broken = broken_headers.drop_broken(stretches, copies)
-        is_divided = not layout.gaps
-        self.reads = [is_divided and not broken[number] if copy.form == MATROSKA else bool(copy.form) and ffmpeg_files.reads(copy)
-                      for number, copy in enumerate(copies)]
-        for number, count in sorted(broken.items()):
-            places = f"{count} places" if count > 1 else "one place"
-            self.has_damaged_heads = True
-            self.notes.append(f"copy {inputs.numbers[number] + 1} has damaged element headers in {places}, where those of another copy lead on")
-        return claims
-
-    @staticmethod
-    def claims(layout: Layout, copies: typing.Sequence[Copy]) -> list[Claims]:
-        """What the copies of one file claim of the recording: those of a Matroska file in the same elements."""
-        if any(copy.form == MATROSKA for copy in copies):
-            return [layout.claims, *matroska.claims(copies, layout)]
-        return [ffprobe.contain(copy).claims for copy in copies]
-
-    def passing(self, frames: typing.Sequence[Stretch], copies: typing.Sequence[Copy]) -> list[frozenset[int]]:
-        """For each of some frames the copies in which it passes."""
-        def intact(number: int) -> set[int]:
-            having = [(at, place) for at, frame in enumerate(frames) if (place := frame.places[number]) is not None]
-            judged = self.judge(copies[number], [(place, frames[at].size) for at, place in having])
-            return {at for (at, _), each in zip(having, judged) if each.is_intact()}
-
-        found = of_each(self.options.jobs, intact, range(len(copies)))
-        return [frozenset(number for number, own in enumerate(found) if at in own) for at in range(len(frames))]
+    def rotten(self, arrangement: Arrangement, layout: Layout, inputs: Inputs) -> set[int]:
+        """The numbers of the frames that were damaged before the file was written: looked for with --check, and where other files are among
+        the copies."""
+        if self.options.out is not None:
+            return arrangement.rotten
+        return copy_health.rotten(layout, [copy_health.health(inputs.files[0], 0, layout, self.judge)])
 
     # ---- OUT
 
-    def make(self, layout: Layout, inputs: Inputs) -> Made:
+    def make(self, comparison: Comparison) -> Made:
         """Has OUT made, and reads it again."""
+        inputs, layout = comparison.inputs, comparison.layout
         if self.outputs.out is None or self.options.out is None:
-            return Made(*self.mend(layout, inputs, NOWHERE), layout)
-        part = self.outputs.out.part
+            return Made(*self.mend(comparison, NOWHERE), layout, self.flaws(inputs.files[0], inputs.files[0].form, layout))
+        part, form = self.outputs.out.part, next((copy.form for copy in inputs.files[: inputs.own] if copy.form), "")
         check_room(part, self.options.out, layout.size)
         link = self.work / "out"
         link.symlink_to(os.path.abspath(part))
-        mended = self.mend(layout, inputs, str(link))
+        mended = self.followed(comparison, *self.mend(comparison, str(link)), str(link))
         with open(part, "rb") as made:
             os.fchmod(made.fileno(), stat.S_IMODE(os.fstat(inputs.files[0].file).st_mode))
             os.fsync(made.fileno())
         out = open_copy(part)
         try:
-            self.progress.begin("decoding frames with voted or repaired slices")
+            self.progress.begin("reading OUT again")
             decoded = decoding.decoded(layout, *mended, decoding.FfmpegDecoder(os.path.abspath(part)))
-            return Made(*mended, describe([out], self.judge, False), part, decoded)
+            read = describe([out], self.judge, False)
+            return Made(*mended, read, self.flaws(out, form, read), part, decoded)
         finally:
             os.close(out.file)
 
-    def mend(self, layout: Layout, inputs: Inputs, out: str) -> tuple[list[Stretch], list[Outcome]]:
+    @staticmethod
+    def flaws(copy: Copy, form: str, layout: Layout) -> list[structure.Found]:
+        """Where the parts of a file do not hang together."""
+        return list(matroska.flaws(copy, layout) if form == MATROSKA else structure.read(copy).flaws)
+
+    def mend(self, comparison: Comparison, out: str) -> tuple[list[Stretch], list[Outcome]]:
         """Has the program make OUT. Returns the stretches in the order of OUT, and what became of those that are not undamaged."""
-        listed = mend_list.list_of(layout.stretches)
-        self.choose(dataclasses.replace(layout, stretches=listed), inputs)
-        with open(self.work / "list", "w", encoding="ascii") as text:
-            mend_list.write(listed, text)
-        outcomes = self.mend_listed(listed, out, layout.size, inputs)
-        self.keeper.keep_list(self.work / "list", inputs.files)
+        listed = self.write_list("list", comparison.layout.stretches)
+        outcomes = self.mend_listed("list", listed, out, comparison)
+        return self.mend_anew(comparison, listed, outcomes, comparison.sources(listed, outcomes, self.judge), out)
+
+    def followed(self, comparison: Comparison, listed: list[Stretch], outcomes: list[Outcome], out: str) -> tuple[list[Stretch], list[Outcome]]:
+        """OUT as it is, or with the container of the copy that shows more right frames than OUT does, where copies differ in it."""
+        ways = {outcome.number: listed[outcome.number] for outcome in outcomes if outcome.state is State.OPEN}
+        if not any(follow(stretch, stretch.source) is not stretch for stretch in ways.values()):
+            return listed, outcomes
+        best = best_shown(os.path.realpath(out), comparison.inputs.files[: comparison.inputs.own], self.judge)
+        if best is None:
+            return listed, outcomes
+        return self.mend_anew(comparison, listed, outcomes, {number: follow(stretch, best) for number, stretch in ways.items()}, out)
+
+    def mend_anew(self, comparison: Comparison, listed: list[Stretch], outcomes: list[Outcome], chosen: typing.Mapping[int, Stretch],
+                  out: str) -> tuple[list[Stretch], list[Outcome]]:
+        """OUT with those stretches of which another copy is followed than before made anew: nothing else is read a second time."""
+        changed = {number: stretch for number, stretch in chosen.items() if stretch.source != listed[number].source}
+        listed = [chosen.get(number, stretch) for number, stretch in enumerate(listed)]
+        if changed:
+            again = self.work / "again"
+            few = self.mend_listed("few", self.write_list("few", list(changed.values())), str(again), comparison)
+            patch(again, out, list(changed.values()))
+            anew = [dataclasses.replace(outcome, number=list(changed)[outcome.number]) for outcome in few]
+            outcomes = sorted([*(outcome for outcome in outcomes if outcome.number not in changed), *anew], key=lambda outcome: outcome.number)
+            self.write_list("list", listed)
+        self.keeper.keep_list(self.work / "list", comparison.inputs.files)
         return listed, outcomes
 
-    def choose(self, layout: Layout, inputs: Inputs) -> None:
-        """Chooses the copy that is followed in each stretch in which copies differ."""
-        if len(inputs.files) > 1:
-            self.progress.begin("comparing the copies")
-            reads = self.reads + [False] * (len(inputs.files) - len(self.reads))
-            preferred_copy.choose(layout, inputs.files, [0] * len(reads), reads, lambda frames: self.passing(frames, inputs.files))
+    def write_list(self, name: str, stretches: typing.Sequence[Stretch]) -> list[Stretch]:
+        listed = mend_list.list_of(stretches)
+        with open(self.work / name, "w", encoding="ascii") as text:
+            mend_list.write(listed, text)
+        return listed
 
-    def mend_listed(self, listed: list[Stretch], out: str, size: int, inputs: Inputs) -> list[Outcome]:
-        """Has the program make OUT by the list."""
+    def mend_listed(self, name: str, listed: typing.Sequence[Stretch], out: str, comparison: Comparison) -> list[Outcome]:
+        """Has the program make a file by a list."""
         self.progress.begin("mending")
-        return mend(self.program, listed, self.work / "list", out, self.options.out or out, inputs.files, self.work,
-                    lambda done: self.progress.at(done, size))
+        return mend(self.program, listed, self.work / name, out, self.options.out or out, comparison.inputs.files, self.work,
+                    lambda done: self.progress.at(done, comparison.layout.size))
 
     # ---- what is kept
 

@@ -1,0 +1,98 @@
+"""The stretches of OUT as the copies have them: split where they differ, without versions that are known to be wrong; and whose bytes OUT has
+where nothing vouches for any."""
+from __future__ import annotations
+
+import dataclasses
+import os
+import typing
+
+from ..containers import ffmpeg_files, ffprobe, matroska
+from ..judging.frame_checks import Judge
+from ..model import MATROSKA, Claims, Copy, Layout, Outcome, Stretch, open_copy
+from . import broken_headers, differences, preferred_copy
+from .inputs import Inputs
+from .unread_places import without_unread
+
+
+@dataclasses.dataclass
+class Comparison:
+    """The layout with its stretches as they are listed, what each copy of OUT's file claims, whose container can be read, and what is to be
+    said of damaged element headers."""
+
+    layout: Layout
+    inputs: Inputs
+    claims: list[Claims]
+    reads: list[bool]
+    notes: list[str]
+
+    def sources(self, listed: typing.Sequence[Stretch], outcomes: typing.Sequence[Outcome], judge: Judge) -> dict[int, Stretch]:
+        """The stretches of a list for whose bytes nothing vouches and which are to be taken from another copy than they were, by their numbers:
+        the program reported where copies differ."""
+        doubtful = {outcome.number for outcome in outcomes if not outcome.state.is_good()}
+        unlike = {outcome.number for outcome in outcomes}
+        if not doubtful:
+            return {}
+        copies = self.inputs.files
+        chosen = preferred_copy.choose(dataclasses.replace(self.layout, stretches=list(listed)), copies, self.reads,
+                                       lambda frames: passing(frames, copies, judge), unlike)
+        return {number: stretch for number, stretch in chosen.items() if number in doubtful}
+
+
+def compare(layout: Layout, inputs: Inputs, report: typing.Callable[[float, float], None]) -> Comparison:
+    """Compares the copies. `report` is called with how many bytes of how many are done."""
+    own, stretches = inputs.files[: inputs.own], []
+    claims = claims_of(layout, own)
+    for stretch in layout.stretches:
+        for part in without_unread(stretch, inputs.files):
+            stretches += differences.split(part, inputs.files)
+        report(stretch.end, layout.size)
+    stretches, broken = broken_headers.drop_broken(stretches, inputs.files)
+    stretches = [preferred_copy.without_lost(stretch, inputs.files) for stretch in stretches]
+    reads = [number < inputs.own and can_be_read(copy, layout, broken[number]) for number, copy in enumerate(inputs.files)]
+    notes = [f"copy {inputs.numbers[number] + 1} has damaged element headers in {f'{count} places' if count > 1 else 'one place'}, where those of "
+             "another copy lead on" for number, count in sorted(broken.items())]
+    return Comparison(dataclasses.replace(layout, stretches=stretches), inputs, claims, reads, notes)
+
+
+def claims_of(layout: Layout, copies: typing.Sequence[Copy]) -> list[Claims]:
+    """What the copies of one file claim of the recording: those of a Matroska file in the same elements."""
+    if any(copy.form == MATROSKA for copy in copies):
+        return [layout.claims, *matroska.claims(copies, layout)]
+    return [ffprobe.contain(copy).claims for copy in copies]
+
+
+def can_be_read(copy: Copy, layout: Layout, broken: int) -> bool:
+    """Whether a copy's container leads through it, and it is not cut."""
+    if copy.size < layout.size:
+        return False
+    return not layout.gaps and not broken if copy.form == MATROSKA else bool(copy.form) and ffmpeg_files.reads(copy)
+
+
+def passing(frames: typing.Sequence[Stretch], copies: typing.Sequence[Copy], judge: Judge) -> list[frozenset[int]]:
+    """For each of some frames the copies in which it passes."""
+    found: list[set[int]] = [set() for _ in frames]
+    for number, copy in enumerate(copies):
+        having = [(at, place) for at, frame in enumerate(frames) if (place := frame.places[number]) is not None]
+        judged = judge(copy, [(place, frames[at].size) for at, place in having])
+        for at in (at for (at, _), each in zip(having, judged) if each.is_intact()):
+            found[at].add(number)
+    return list(map(frozenset, found))
+
+
+def best_shown(out: str, copies: typing.Sequence[Copy], judge: Judge) -> typing.Optional[int]:
+    """The number of the copy whose container shows more right frames than that of OUT does, if one is there: most of them. Frames that both
+    show are as right in OUT."""
+    if not ffprobe.can_ask():
+        return None
+    made = open_copy(out)
+    try:
+        shown = {(frame.place, frame.size) for frame in ffmpeg_files.frames(made)}
+    finally:
+        os.close(made.file)
+    margins = []
+    for copy in copies:
+        own = {(frame.place, frame.size) for frame in ffmpeg_files.frames(copy)}
+        more = sum(each.is_intact() for each in judge(copy, sorted(own - shown)))
+        margins.append(more - len(shown - own))
+    best = max(range(len(copies)), key=margins.__getitem__)
+    return best if margins[best] > 0 else None
