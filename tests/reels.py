@@ -1,6 +1,7 @@
-"""Recordings that FFmpeg makes, and damaged copies of them."""
+"""Recordings that FFmpeg, mkvmerge and GStreamer make, and damaged copies of them."""
 import dataclasses
 import pathlib
+import shutil
 import subprocess
 
 import makings
@@ -41,13 +42,20 @@ class Reel:
 
 @dataclasses.dataclass
 class Damaged:
-    """A copy, whether its bytes stand where those of the recording do, and what it was before it was damaged."""
+    """A copy, whether its bytes stand where those of the recording do, what it was before it was damaged, whether it has all tracks, and the
+    map that ddrescue wrote of it."""
 
     path: pathlib.Path
     content: bytes
     is_same_file: bool
     about: str
     recorded: bytes
+    has_all: bool = True
+    map: pathlib.Path = None
+
+    def words(self):
+        """What names it and its map in a call."""
+        return [self.path, *(["--map", f"{self.path}={self.map}"] if self.map else [])]
 
 
 def packets(path, stream="0:v:0"):
@@ -65,9 +73,31 @@ def packets(path, stream="0:v:0"):
     return found
 
 
+METADATA = """;FFMETADATA1
+title=a reel
+comment=found in a box
+[CHAPTER]
+TIMEBASE=1/1000
+START=0
+END=100
+title=the first part
+"""
+# How often each program makes a recording, where it is installed. FFmpeg does what the others can't.
+MAKERS = ["ffmpeg"] * 6 + ["mkvmerge", "gst-launch-1.0"]
+
+
 def make(numbers, folder):
-    """A recording: a test picture, with noise or not, most with sound, some with a second track of FFV1."""
-    ending = numbers.choice(["mkv", "mkv", *ENDINGS])
+    """A recording: a test picture, with noise or not, most with sound, some with a second track of FFV1, or with an attachment, tags and
+    chapters."""
+    maker = numbers.choice(MAKERS)
+    if maker == "gst-launch-1.0" and shutil.which(maker):
+        return made_by_gstreamer(numbers, folder)
+    ending = "mkv" if maker == "mkvmerge" else numbers.choice(["mkv", "mkv", *ENDINGS])
+    reel = made_by_ffmpeg(numbers, folder, ending)
+    return made_by_mkvmerge(folder, reel) if maker == "mkvmerge" and shutil.which(maker) else reel
+
+
+def made_by_ffmpeg(numbers, folder, ending):
     pixels, coder, group = numbers.choice(FORMATS), numbers.choice([0, 1, 2]), numbers.choice([1, 3, 12])
     if pixels in IN_PROFILE:
         coder, group = 0, 1
@@ -80,13 +110,63 @@ def make(numbers, folder):
     second = ending == "mkv" and numbers.random() < 0.2
     if second:
         words, maps = [*words, "-f", "lavfi", "-i", f"testsrc=s=64x48:r={rate}"], [*maps, "-map", str(1 + bool(sound))]
+    extras = ending == "mkv" and numbers.random() < 0.3
+    if extras:
+        words, maps = [*words, *extra_inputs(numbers, folder)], [*maps, *extra_words(folder, words.count("-i"))]
     checked = ending == "mkv" and numbers.random() < 0.8
     more = ["-write_crc32", int(checked), "-cluster_time_limit", numbers.choice([80, 160, 5000])] if ending == "mkv" else []
     path = folder / f"reel.{ending}"
     ffmpeg(*words, *maps, "-t", frames / 24, "-pix_fmt", pixels, "-c:v", "ffv1", "-level", 3, "-strict", -2, "-coder", coder, "-context",
            numbers.randrange(2), "-g", group, "-slices", numbers.choice([4, 6, 9, 12]), "-slicecrc", 1, "-c:a", sound or "copy", *more, path)
     found = packets(path) + (packets(path, "0:v:1") if second else [])
-    return Reel(path, path.read_bytes(), sorted(found), checked, f"{ending} {pixels} coder {coder} sound {sound} crc {checked} second {second}")
+    about = f"{ending} {pixels} coder {coder} sound {sound} crc {checked} second {second} extras {extras}"
+    return Reel(path, path.read_bytes(), sorted(found), checked, about)
+
+
+def extra_inputs(numbers, folder):
+    """Writes tags and chapters, and a file to attach. Returns the words that name the former."""
+    (folder / "metadata").write_text(METADATA)
+    (folder / "notes.bin").write_bytes(numbers.randbytes(700))
+    return ["-i", folder / "metadata"]
+
+
+def extra_words(folder, number):
+    """The words by which the input of a number gives tags and chapters, and a file is attached."""
+    return ["-map_metadata", number, "-map_chapters", number, "-attach", folder / "notes.bin", "-metadata:s:t", "mimetype=application/octet-stream"]
+
+
+def made_by_mkvmerge(folder, reel):
+    """A recording as mkvmerge writes it again: without CRC-32 elements, with lacing, tags and an index of its own."""
+    path = folder / "source.mkv"
+    reel.path.rename(path)
+    has_second = b"second True" in reel.about.encode()
+    mkvmerge(reel.path, path)
+    path.unlink()
+    found = packets(reel.path) + (packets(reel.path, "0:v:1") if has_second else [])
+    return Reel(reel.path, reel.path.read_bytes(), sorted(found), False, f"mkvmerge {reel.about}")
+
+
+def mkvmerge(path, source):
+    done = run("mkvmerge", "-q", "--deterministic", "reel", "-o", path, source)
+    if done.returncode > 1:
+        raise RuntimeError(f"mkvmerge {source}: {done.stdout.decode(errors='replace')}")
+
+
+def made_by_gstreamer(numbers, folder):
+    """A Matroska file as GStreamer writes it, with the slices' parities and no CRC-32 elements."""
+    path, frames = folder / "reel.mkv", numbers.randint(3, 8)
+    width, height = numbers.choice([(64, 48), (96, 80), (128, 96)])
+    pixels, sound = numbers.choice(["I420", "Y42B", "Y444"]), numbers.random() < 0.7
+    picture = f"video/x-raw,format={pixels},width={width},height={height},framerate=25/1"
+    words = ["videotestsrc", f"num-buffers={frames}", f"pattern={numbers.choice(['smpte', 'snow', 'ball'])}", "!", picture, "!", "avenc_ffv1",
+             f"slices={numbers.choice([4, 9])}", "slicecrc=1", f"coder={numbers.randrange(2)}", "!", "matroskamux", "name=m", "!", "filesink",
+             f"location={path}"]
+    if sound:
+        words += ["audiotestsrc", f"num-buffers={frames}", "samplesperbuffer=320", "!", "audio/x-raw,rate=8000,channels=1,format=S16LE", "!", "m."]
+    done = run("gst-launch-1.0", "-q", *words)
+    if done.returncode:
+        raise RuntimeError(f"gst-launch-1.0: {done.stderr.decode(errors='replace')}")
+    return Reel(path, path.read_bytes(), sorted(packets(path)), False, f"gstreamer {pixels} sound {sound}")
 
 
 def rot_frames(numbers, content, frames):
@@ -138,35 +218,91 @@ def rot(numbers, content, frames):
 
 
 def other_file(numbers, folder, reel, name):
-    """The same in another container, or the frames alone; some damaged."""
-    path = folder / f"{name}.{numbers.choice([ending for ending in ENDINGS if '.' + ending != reel.suffix])}"
-    silent = path.suffix in (".avi", ".mov") or numbers.random() < 0.3
-    ffmpeg("-i", reel.path, "-map", "0:v:0" if silent else "0", "-c", "copy", path)
+    """The same written again: in another container, or in the same one, all of it or the frames alone; some damaged, before that or after."""
+    path, before = folder / f"{name}.{numbers.choice(ENDINGS)}", numbers.random() < 0.4
+    silent = path.suffix in (".avi", ".mov") and path.suffix != reel.suffix or numbers.random() < 0.3
+    write_again(numbers, path, reel.path, silent)
     recorded = path.read_bytes()
-    content = bytearray(recorded)
-    if numbers.random() < 0.7:
-        rot_frames(numbers, content, packets(path))
-    path.write_bytes(content)
-    return Damaged(path, bytes(content), False, f"{path.name} written again{' without sound' if silent else ''}", recorded)
+    about = f"{path.name} written again{' without sound' if silent else ''}"
+    if numbers.random() < 0.3:
+        return Damaged(path, recorded, False, about, recorded, not silent)
+    content = bytearray(reel.content if before else recorded)
+    rot_frames(numbers, content, reel.frames if before else packets(path))
+    if before:
+        rotten = folder / f"rotten{reel.suffix}"
+        rotten.write_bytes(content)
+        write_again(numbers, path, rotten, silent)
+        rotten.unlink()
+    else:
+        path.write_bytes(content)
+    return Damaged(path, path.read_bytes(), False, f"{about}, rotten {'before' if before else 'after'} that", recorded, not silent)
+
+
+def write_again(numbers, path, source, silent):
+    """Writes a file again, the same bytes each time: by mkvmerge, if the ending is its own and it is installed, or by FFmpeg."""
+    if path.suffix == ".mkv" and not silent and path.stem in "bd" and shutil.which("mkvmerge"):
+        mkvmerge(path, source)
+    else:
+        ffmpeg("-i", source, "-map", "0:v:0" if silent else "0", "-map", "-0:t?", "-c", "copy", "-fflags", "+bitexact", path)
+
+
+def pad(numbers, content):
+    """What follows the end of a file that was copied in blocks."""
+    size = numbers.choice([1, 512, 4096, 5000])
+    content += numbers.choice([bytes(size), b"\xff" * size, numbers.randbytes(size)])
+
+
+def with_map(numbers, folder, path):
+    """Has ddrescue copy a file of which some sectors can't be read. Returns the map that it writes."""
+    content = path.read_bytes()
+    bad = sorted({numbers.randrange(-(-len(content) // 512)) for _ in range(numbers.randint(1, 3))})
+    source, wanted, written = folder / "readable", folder / "bad.map", folder / f"{path.name}.map"
+    path.rename(source)
+    wanted.write_text("0x0 + 1\n" + "".join(f"{start} {end - start} {status}\n" for start, end, status in blocks(bad, len(content))))
+    done = run("ddrescue", "-q", "-b", "512", "-H", wanted, source, path, written)
+    source.unlink()
+    wanted.unlink()
+    if done.returncode or not written.exists():
+        raise RuntimeError(f"ddrescue: {done.stderr.decode(errors='replace')}")
+    with path.open("r+b") as copy:
+        copy.truncate(len(content))
+    return written
+
+
+def blocks(bad, size):
+    """The blocks of a map in which some sectors are bad."""
+    place = 0
+    for sector in bad:
+        if place < 512 * sector:
+            yield place, 512 * sector, "+"
+        place = 512 * sector + 512
+        yield 512 * sector, place, "-"
+    yield place, max(size, place) + (1 << 20), "+"
 
 
 def copy_of(numbers, folder, reel, name, is_first):
-    """A copy of a recording: rotten, cut, with bytes lost in its middle, of another container, or undamaged."""
+    """A copy of a recording: rotten, cut, padded, with bytes lost in its middle, with sectors that could not be read, written again, or
+    undamaged."""
     kind = numbers.random()
-    if kind < 0.15 and not is_first:
+    if kind < 0.2 and not is_first:
         return other_file(numbers, folder, reel, name)
     path, content, about, is_same = folder / f"{name}{reel.suffix}", bytearray(reel.content), "undamaged", True
-    if kind < 0.9:
+    if kind < 0.88:
         about = rot(numbers, content, reel.frames)
-    if 0.15 <= kind < 0.25:
+    if 0.2 <= kind < 0.3:
         del content[int(len(content) * numbers.uniform(0.3, 0.95)) :]
         about += " cut"
-    elif 0.25 <= kind < 0.32 and not is_first:
+    elif 0.3 <= kind < 0.4 and not is_first:
         place = numbers.randrange(len(content) // 4, len(content) * 3 // 4)
         del content[place : place + numbers.choice([1, 512, 4096])]
         about, is_same = about + " bytes lost in the middle", False
+    elif 0.4 <= kind < 0.48:
+        pad(numbers, content)
+        about += " padded"
     path.write_bytes(content)
-    return Damaged(path, bytes(content), is_same, f"{path.name} {about}", reel.content)
+    written = with_map(numbers, folder, path) if 0.48 <= kind < 0.6 and shutil.which("ddrescue") else None
+    about += " with a map" if written else ""
+    return Damaged(path, path.read_bytes(), is_same, f"{path.name} {about}", reel.content, True, written)
 
 
 def damaged(numbers, folder, reel):
