@@ -52,6 +52,13 @@ class DigestTest(unittest.TestCase):
             self.assertTrue(found.is_original, line)
             self.assertIn("/films/out.mkv is the original", found.text)
 
+    def test_how_far_the_work_is_is_reported(self):
+        told = []
+        path = self.folder / "long"
+        path.write_bytes(bytes(digests.PIECE + 7))
+        digests.digest(str(path), "md5", lambda *each: told.append(each))
+        self.assertEqual(told, [(digests.PIECE, digests.PIECE + 7), (digests.PIECE + 7, digests.PIECE + 7)])
+
     def test_another_file(self):
         found = self.compare(f"{OTHER}  out.mkv")
         self.assertFalse(found.is_original)

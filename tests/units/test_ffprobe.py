@@ -2,8 +2,8 @@
 import unittest
 import zlib
 
-from mend_reel.containers.ffprobe import Packet, locate, read_lines
-from mend_reel.model import Content
+from mend_reel.containers.ffprobe import Packet, locate, read_lines, watched
+from mend_reel.model import Content, Copy
 from . import made
 
 LINES = """packet|stream_index=0|pts_time=0.000000|dts_time=0.000000|size=6044|pos=36|flags=K_|data_hash=CRC32:dc0ce8f3
@@ -38,6 +38,12 @@ class ReadTest(unittest.TestCase):
         avi = self.read("avi").claims
         self.assertEqual((avi.duration, avi.counts, avi.ends), (2.5, {}, {0: 2.5}))
         self.assertIsNone(self.read("nut").claims.duration)
+
+    def test_who_watches_the_copy_is_told_how_far_it_is(self):
+        seen = []
+        lines = [f"packet|stream_index=0|pos={10 * number}|size=5\n" for number in range(130)]
+        self.assertEqual(list(watched(Copy("a", 0, 1300, watch=seen.append), iter(lines))), lines)
+        self.assertEqual(seen, [0, 640, 1280])
 
     def test_lines_that_say_nothing(self):
         container = read_lines(["", "packet", "stream|index=x", "packet|pos=1|size=9999999999999|stream_index=0|pts_time=0|data_hash=CRC32:zz"])

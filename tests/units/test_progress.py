@@ -1,8 +1,10 @@
 """What is reported while the work is done."""
 import io
+import tempfile
 import unittest
 from unittest import mock
 
+from mend_reel.model import Copy
 from mend_reel.program.progress import Progress, clock
 
 
@@ -31,6 +33,22 @@ class ProgressTest(unittest.TestCase):
 
     def test_quiet_shows_nothing(self):
         self.assertEqual(self.shown(Terminal(), True, [(100.0, 0), (200.0, 50)]), "")
+
+    def test_where_another_file_is_read_the_time_left_counts_anew(self):
+        shown = self.shown(Terminal(), False, [(100.0, 0), (190.0, 180), (200.0, 0), (210.0, 50)])
+        self.assertEqual(shown.split("\r\033[K")[1:4], ["reading: 90 %, 0:00:10 left", "reading: 0 %", "reading: 25 %, 0:00:30 left"])
+
+    def test_copies_report_how_far_they_are_read(self):
+        stream = Terminal()
+        progress = Progress(False, stream)
+        with tempfile.TemporaryFile() as file:
+            file.write(bytes(1000))
+            file.flush()
+            copy = Copy("a", file.fileno(), 1000)
+            progress.watch([copy])
+            progress.begin("reading the copies")
+            self.assertEqual(copy.read(250, 10), bytes(10))
+        self.assertRegex(stream.getvalue(), r"reading the copies: 25 %, 0:00:00 left$")
 
     def test_nothing_done_has_no_time_left(self):
         self.assertEqual(self.shown(Terminal(), False, [(100.0, 0), (110.0, 0)]), "\r\033[Kreading: 0 %\r\033[K")

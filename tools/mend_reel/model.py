@@ -184,19 +184,25 @@ class Layout:
         return collections.Counter([*(track.content for track in self.tracks), *(found & BESIDE_TRACKS)])
 
 
+def unwatched(place: int) -> None:
+    """Takes no notice of where a copy is read."""
+
+
 @dataclasses.dataclass
 class Copy:
     """A copy: its path, its open file, and its length in bytes. `form` is the container's name: `matroska`, one of FFmpeg's, or empty. `unread`
-    is from where to where it could not be read when it was made, by a map."""
+    is from where to where it could not be read when it was made, by a map. `watch` is called with each place that is read."""
 
     path: str
     file: int
     size: int
     form: str = ""
     unread: typing.Sequence[tuple[int, int]] = ()
+    watch: typing.Callable[[int], None] = unwatched
 
     def read(self, place: int, size: int) -> bytes:
         """Bytes of the file; fewer where it ends."""
+        self.watch(place)
         try:
             return os.pread(self.file, size, place)
         except OSError as error:

@@ -19,6 +19,8 @@ from . import slice_footers
 
 # How far after the place that ffprobe reports a packet's bytes are looked for, and after how many misses they no longer are.
 FARTHEST, MOST_MISSES = 64, 16
+# Who watches a copy is told how far ffprobe is once in so many lines.
+LINES_BETWEEN = 64
 MOST_REMEMBERED = 64
 ENTRIES = ("packet=stream_index,pts_time,dts_time,size,pos,flags"
            "{more}:stream=index,codec_type,codec_name,width,height,avg_frame_rate,nb_frames,duration,start_time:format=format_name,duration")
@@ -156,9 +158,17 @@ def ask_for(copy: Copy, more: typing.Sequence[str], entries: str) -> Container:
         with subprocess.Popen(words, stdin=subprocess.DEVNULL, stdout=subprocess.PIPE, stderr=subprocess.DEVNULL, encoding="utf-8",
                               errors="replace") as process:
             assert process.stdout
-            return read_lines(process.stdout)
+            return read_lines(watched(copy, process.stdout))
     except OSError as error:
         raise Fault(f"cannot run ffprobe: {error.strerror}") from None
+
+
+def watched(copy: Copy, lines: typing.Iterable[str]) -> typing.Iterator[str]:
+    """The lines that ffprobe prints. Whoever watches the copy is told how far it is."""
+    for number, line in enumerate(lines):
+        if number % LINES_BETWEEN == 0:
+            copy.watch(whole(fields(line)[1].get("pos")) or 0)
+        yield line
 
 
 def with_records(copy: Copy, tracks: typing.Sequence[Track]) -> list[Track]:

@@ -19,6 +19,13 @@ MOST_LINE, MOST_LINES = 1 << 16, 1 << 20
 MOST_STREAMS = 64
 
 
+Report = typing.Callable[[int, int], None]
+
+
+def unreported(done: int, whole: int) -> None:
+    """Reports to nobody."""
+
+
 @dataclasses.dataclass(frozen=True)
 class Compared:
     """What a kept digest says of a file: whether it is the original, in a sentence; whether the digest is of the whole file; and the frames
@@ -39,15 +46,15 @@ class Entry:
     digest: str
 
 
-def compare(digest_file: str, path: str, named: str, copies: typing.Sequence[str]) -> Compared:
+def compare(digest_file: str, path: str, named: str, copies: typing.Sequence[str], report: Report = unreported) -> Compared:
     """What a digest file says of the file at a path, which is named so (OUT has another name while it is made). A line is meant if it has
-    that name, or that of a copy, or is the only one."""
+    that name, or that of a copy, or is the only one. `report` is called with how much of the work is done, and of how much."""
     if is_of_frames(digest_file):
         from . import frame_digests
 
-        return frame_digests.compare(digest_file, path, named)
+        return frame_digests.compare(digest_file, path, named, report)
     entry = choose(list(entries(digest_file)), named, copies, digest_file)
-    made, algorithm = digest(path, entry.algorithm), entry.algorithm.upper()
+    made, algorithm = digest(path, entry.algorithm, report), entry.algorithm.upper()
     if made == entry.digest:
         return Compared(True, f"{named} is the original: its {algorithm} is that of {digest_file}", True)
     return Compared(False, f"{named} is not the original: its {algorithm} is {made}, and {digest_file} has {entry.digest}", True)
@@ -61,12 +68,14 @@ def sha256(copy: Copy) -> str:
     return made.hexdigest()
 
 
-def digest(path: str, algorithm: str) -> str:
+def digest(path: str, algorithm: str, report: Report = unreported) -> str:
     made = hashlib.new(algorithm)
     try:
         with open(path, "rb", buffering=0) as file:
+            size = os.fstat(file.fileno()).st_size
             while piece := file.read(PIECE):
                 made.update(piece)
+                report(file.tell(), size)
     except OSError as error:
         raise Fault(f"cannot read {path}: {error.strerror}") from None
     return made.hexdigest()

@@ -4,11 +4,12 @@ from __future__ import annotations
 import dataclasses
 import os
 import pathlib
+import tempfile
 import typing
 import zlib
 
 from ..model import Copy, Fault
-from ..program.external_programs import last_line, run
+from ..program.external_programs import last_line, started
 
 Range = tuple[int, int]
 MOST_BYTES = 1 << 30
@@ -58,10 +59,16 @@ class Scan:
         path.write_text("".join(f"{place} {size}\n" for place, size in ranges), encoding="ascii")
         if not link.is_symlink():
             link.symlink_to(os.path.abspath(copy.path))
-        done = run(self.program, "scan", path, link)
-        lines = done.stdout.decode("ascii", "replace").splitlines()
-        if done.returncode not in (0, 3) or len(lines) != len(ranges):
-            raise Fault(f"cannot judge the frames of {copy.path}: {last_line(done.stderr, done.returncode)}")
+        lines: list[str] = []
+        with tempfile.TemporaryFile(dir=self.work) as faults:
+            with started([self.program, "scan", path, link], faults) as child:
+                for line, (place, _) in zip(child.stdout or (), ranges):
+                    lines.append(line.decode("ascii", "replace"))
+                    copy.watch(place)
+            faults.seek(0)
+            status, said = child.returncode, faults.read()
+        if status not in (0, 3) or len(lines) != len(ranges):
+            raise Fault(f"cannot judge the frames of {copy.path}: {last_line(said, status)}")
         try:
             return [read_line(line) for line in lines]
         except (ValueError, IndexError):

@@ -8,7 +8,7 @@ import subprocess
 import typing
 
 from ..model import Fault
-from .digests import MOST_STREAMS, Compared, lines
+from .digests import MOST_STREAMS, Compared, Report, lines, unreported
 
 HEADER = re.compile(r"#(\w+)(?: ([0-9]{1,9}))?: ?(.*)")
 WORD = re.compile(r"[A-Za-z0-9_/.-]{1,32}")
@@ -86,13 +86,20 @@ def command(path: str, wanted: FrameDigests) -> list[str]:
     return [*words, "-f", "framehash", "-hash", wanted.hash, "-format_version", str(wanted.version), "-"]
 
 
-def make(path: str, wanted: FrameDigests) -> FrameDigests:
+def make(path: str, wanted: FrameDigests, report: Report) -> FrameDigests:
     """The digests of a file's frames, as FFmpeg makes them."""
+    count = sum(map(len, wanted.frames.values()))
+
+    def lines_of(file: typing.Iterable[bytes]) -> typing.Iterator[str]:
+        for number, line in enumerate(file, 1):
+            report(min(number, count), count)
+            yield os.fsdecode(line).rstrip("\r\n")
+
     try:
         with subprocess.Popen(command(path, wanted), stdin=subprocess.DEVNULL, stdout=subprocess.PIPE,
                               stderr=subprocess.DEVNULL) as process:
             assert process.stdout
-            made = read(os.fsdecode(line).rstrip("\r\n") for line in process.stdout)
+            made = read(lines_of(process.stdout))
     except OSError as error:
         raise Fault(f"cannot run ffmpeg: {error.strerror}") from None
     return made
@@ -111,12 +118,12 @@ def differences(wanted: FrameDigests, made: FrameDigests) -> dict[int, list[int]
     return found
 
 
-def compare(digest_file: str, path: str, named: str) -> Compared:
+def compare(digest_file: str, path: str, named: str, report: Report = unreported) -> Compared:
     """Whether a file is the original by the digests of its frames."""
     wanted = read(lines(digest_file))
     if not any(wanted.frames.values()):
         raise Fault(f"{digest_file} has the digest of no frame")
-    found = differences(wanted, make(path, wanted))
+    found = differences(wanted, make(path, wanted, report))
     count = sum(map(len, wanted.frames.values()))
     decoded = all(stream.is_decoded() or not stream.codec for stream in wanted.streams.values())
     what = f"{count} {'decoded ' if decoded else ''}frames"

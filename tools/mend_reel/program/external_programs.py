@@ -1,6 +1,7 @@
 """The programs that are run: ffv1restore, and FFmpeg's where a container other than Matroska is read."""
 from __future__ import annotations
 
+import contextlib
 import os
 import pathlib
 import shutil
@@ -19,6 +20,21 @@ def run(*words: Word) -> "subprocess.CompletedProcess[bytes]":
         return subprocess.run([os.fspath(word) for word in words], stdin=subprocess.DEVNULL, capture_output=True, check=False, restore_signals=False)
     except OSError as error:
         raise Fault(f"cannot run {os.fspath(words[0])}: {error.strerror}") from None
+
+
+@contextlib.contextmanager
+def started(words: typing.Sequence[Word], faults: typing.IO[bytes]) -> "typing.Iterator[subprocess.Popen[bytes]]":
+    """Runs a program whose standard output is read as it comes, and whose faults go to a file. It ends where the reader fails."""
+    try:
+        child = subprocess.Popen([os.fspath(word) for word in words], stdin=subprocess.DEVNULL, stdout=subprocess.PIPE, stderr=faults, restore_signals=False)
+    except OSError as error:
+        raise Fault(f"cannot run {os.fspath(words[0])}: {error.strerror}") from None
+    with child:
+        try:
+            yield child
+        except BaseException:
+            child.kill()
+            raise
 
 
 def last_line(text: bytes, status: int) -> str:

@@ -3,11 +3,10 @@ from __future__ import annotations
 
 import os
 import pathlib
-import subprocess
 import typing
 
 from ..model import Copy, Fault, Outcome, SliceReport, State, Stretch
-from .external_programs import last_line
+from .external_programs import last_line, started
 
 Lines = typing.Iterator[list[str]]
 
@@ -75,11 +74,7 @@ def mend(program: str, stretches: typing.Sequence[Stretch], listed: pathlib.Path
     command = [program, "mend", str(listed), out, *map(str, names)]
     found, done, count, is_alone, is_understood = [], 0, 0, False, True
     with open(work / "faults", "w+b") as faults:
-        try:
-            child = subprocess.Popen(command, stdin=subprocess.DEVNULL, stdout=subprocess.PIPE, stderr=faults, restore_signals=False)
-        except OSError as error:
-            raise Fault(f"cannot run {program}: {error.strerror}") from None
-        with child:
+        with started(command, faults) as child:
             try:
                 for outcome in ReportReader(child.stdout or ()).outcomes():
                     if outcome.number != count or len(outcome.marks) != len(copies):
@@ -93,9 +88,6 @@ def mend(program: str, stretches: typing.Sequence[Stretch], listed: pathlib.Path
             except (ValueError, IndexError):
                 is_understood = False
                 child.kill()
-            except BaseException:
-                child.kill()
-                raise
         if not is_understood:
             raise Fault(f"{program} did not report what became of each stretch")
         faults.seek(0)

@@ -5,6 +5,8 @@ import sys
 import time
 import typing
 
+from ..model import Copy
+
 EACH_SECONDS = {True: 0.1, False: 60.0}
 
 
@@ -21,21 +23,31 @@ class Progress:
         self.stream: typing.Optional[typing.TextIO] = stream or sys.stderr
         self.quiet, self.terminal = quiet or self.stream is None, self.stream is not None and self.stream.isatty()
         self.step, self.begun, self.last, self.shown = "", 0.0, 0.0, False
+        self.share = 0.0
 
     def begin(self, step: str) -> None:
         """Begins a step, which is named in what is shown of it."""
-        self.step, self.begun = step, time.monotonic()
+        self.step, self.begun, self.share = step, time.monotonic(), 0.0
         self.last = self.begun if not self.terminal else 0.0
 
     def at(self, done: float, whole: float) -> None:
-        """Reports that so much of the step is done, if it is time to."""
+        """Reports that so much of the step is done, if it is time to. Where far less is done than before, another file is read now: the time
+        left counts from there."""
         now = time.monotonic()
         if self.quiet or now - self.last < EACH_SECONDS[self.terminal]:
             return
         self.last = now
         share = min(done / whole, 1.0) if whole else 1.0
+        if share < self.share / 2:
+            self.begun = now
+        self.share = share
         left = f", {clock((now - self.begun) * (1 - share) / share)} left" if share > 0 else ""
         self.show(f"{self.step}: {100 * share:.0f} %{left}")
+
+    def watch(self, copies: typing.Iterable[Copy]) -> None:
+        """Has it reported how far each copy is read."""
+        for copy in copies:
+            copy.watch = lambda place, size=copy.size: self.at(place, size)  # type: ignore[misc]
 
     def show(self, text: str) -> None:
         self.write(f"\r\033[K{text}" if self.terminal else f"mend-reel: {text}\n")

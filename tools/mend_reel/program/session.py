@@ -90,7 +90,7 @@ class Finished:
 
 def run(options: Options, work: pathlib.Path, outputs: Outputs, progress: Progress) -> Finished:
     """Makes OUT, or judges each file by itself. OUT has its place before anything else is written."""
-    reporter, summaries, faults = Reporter(options, find_ffv1restore()), [], []
+    reporter, summaries, faults = Reporter(options, find_ffv1restore(), progress), [], []
     if options.out is not None:
         summaries.append(Session(options, work, outputs, progress).run(reporter))
     for number, path in enumerate(options.copies if options.out is None else ()):
@@ -131,6 +131,7 @@ class Session:
         copies = [open_copy(path) for path in self.options.copies]
         for number, path in self.options.maps.items():
             copies[number].unread = ddrescue_maps.unread(path, copies[number])
+        self.progress.watch(copies)
         try:
             return self.judged(copies, reporter)
         finally:
@@ -139,7 +140,7 @@ class Session:
 
     def judged(self, copies: typing.Sequence[Copy], reporter: Reporter) -> Summary:
         """What becomes of some copies."""
-        self.progress.begin("reading the containers")
+        self.progress.begin("reading the copies")
         for copy, form in zip(copies, of_each(self.options.jobs, self.form, copies)):
             copy.form = form
         self.refuse_recording(copies)
@@ -187,7 +188,8 @@ class Session:
         """What a kept digest says of OUT, or of the file that is checked."""
         if self.options.digest is None:
             return None
-        return digests.compare(self.options.digest, path, self.options.out or path, self.options.copies)
+        self.progress.begin("comparing with the digest")
+        return digests.compare(self.options.digest, path, self.options.out or path, self.options.copies, self.progress.at)
 
     @staticmethod
     def form(copy: Copy) -> str:
@@ -219,6 +221,7 @@ class Session:
             os.fchmod(made.fileno(), stat.S_IMODE(os.fstat(inputs.files[0].file).st_mode))
             os.fsync(made.fileno())
         out = open_copy(part)
+        self.progress.watch([out])
         try:
             self.progress.begin("reading OUT again")
             decoded = decoding.decoded(layout, *mended, decoding.FfmpegDecoder(os.path.abspath(part)))

@@ -14,6 +14,7 @@ from ..program.external_programs import version_of
 from ..program.options import VERSION, Options
 from ..program.output_files import Files, Output
 from ..program.parallel import of_each
+from ..program.progress import Progress
 from . import json_document, page
 from .summary import CopySummary, Role, Summary
 
@@ -23,13 +24,15 @@ Writer = typing.Callable[[typing.TextIO, typing.Sequence[Summary]], None]
 class Reporter:
     """Reports what became of the copies."""
 
-    def __init__(self, options: Options, program: str) -> None:
-        self.options = options
+    def __init__(self, options: Options, program: str, progress: Progress) -> None:
+        self.options, self.progress = options, progress
         self.versions = {"mend-reel": VERSION, "ffv1restore": version_of(program), "ffprobe": version_of("ffprobe")}
 
     def summary(self, copies: typing.Sequence[Copy], arrangement: Arrangement, layout: Layout, verdict: Verdict,
                 part: typing.Optional[str], notes: typing.Sequence[str]) -> Summary:
         """What is to be said of OUT, or of a file that was checked. `part` is where OUT lies while it is made."""
+        if self.options.digests:
+            self.progress.begin("taking digests")
         form = next((copies[number].form for number in arrangement.basis if copies[number].form), "")
         date = datetime.datetime.now(datetime.timezone.utc).isoformat(timespec="seconds")
         return Summary(date, self.versions, ["mend-reel", *sys.argv[1:]], self.copy_summaries(copies, arrangement, verdict),
@@ -39,7 +42,7 @@ class Reporter:
         """What is known of OUT, if it was made."""
         if part is None or self.options.out is None:
             return None
-        return CopySummary(self.options.out, os.stat(part).st_size, form, sha256=digests.digest(part, "sha256") if self.options.digests else None)
+        return CopySummary(self.options.out, os.stat(part).st_size, form, sha256=digests.digest(part, "sha256", self.progress.at) if self.options.digests else None)
 
     def copy_summaries(self, copies: typing.Sequence[Copy], arrangement: Arrangement, verdict: Verdict) -> list[CopySummary]:
         """What is known of each copy."""
