@@ -7,7 +7,7 @@ from mend_reel.judging import frame_checks
 from mend_reel.model import Claims, Content, Frame, Kind, Layout, Stretch, Track, What
 from . import made
 
-VIDEO = Track(1, Content.VIDEO, "ffv1", True, 48, 40, b"record", 0.04)
+VIDEO = Track(1, Content.VIDEO, "ffv1", True, 48, 40, made.RECORD, 0.04)
 SOUND = Track(2, Content.SOUND, "pcm")
 
 

@@ -64,7 +64,9 @@ def track(number_: int, codec: bytes, kind: int, private: bytes = b"", step: int
                    element(0x63A2, private) if private else b"", number(0x23E383, step) if step else b"", video, more)
 
 
-FFV1 = track(1, b"V_FFV1", 1, b"record", 40_000_000)
+# It passes its parity.
+RECORD = b"rej&\xf2\x8a"
+FFV1 = track(1, b"V_FFV1", 1, RECORD, 40_000_000)
 PCM = track(2, b"A_PCM/INT/LIT", 2)
 
 

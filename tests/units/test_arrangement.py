@@ -121,7 +121,8 @@ class ArrangeTest(unittest.TestCase):
         for contents in ([more, MOVED], [MOVED, more]):
             arrangement = self.arrange(*contents)
             self.assertEqual(arrangement.basis, [contents.index(more)])
-            self.assertRegex(arrangement.notes([])[0], "^OUT is the file of copy [12]; what serves of copy [12] is brought into it$")
+            with made.opened(*contents) as copies:
+                self.assertRegex(arrangement.notes(copies)[0], "^OUT is the file of copy [12]; what serves of copy [12] is brought into it$")
 
     def test_the_most_verified_bytes_decide_among_undamaged_copies(self):
         self.assertEqual(self.arrange(REWRAPPED, REEL).basis, [1])

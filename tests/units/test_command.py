@@ -13,10 +13,10 @@ import typing
 import unittest
 
 import schema
-from . import stand_in
 from mend_reel.model import Fault
 from mend_reel.program import options
 from mend_reel.program.command import check
+from . import stand_in
 
 TESTS = pathlib.Path(__file__).resolve().parent.parent
 TOOL = TESTS.parent / "tools/mend-reel"

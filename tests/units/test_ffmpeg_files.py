@@ -3,7 +3,7 @@ import dataclasses
 import unittest
 from unittest import mock
 
-from mend_reel.containers import ffmpeg_files
+from mend_reel.containers import ffmpeg_files, stretch_builder
 from mend_reel.containers.ffprobe import Container, Packet
 from mend_reel.model import Claims, Content, Kind
 from . import made
@@ -68,7 +68,7 @@ class ProbeTest(unittest.TestCase):
 
     def test_long_bytes_between_frames_are_divided(self):
         layout = self.layout([bytes(5 << 19)], [self.container(packet(0, 10, 30))])
-        self.assertEqual(max(each.size for each in layout.stretches), ffmpeg_files.LONGEST_PLAIN)
+        self.assertEqual(max(each.size for each in layout.stretches), stretch_builder.MOST_PLAIN)
 
     def test_frames_of_all_streams(self):
         both = Container("nut", [TRACK, dataclasses.replace(TRACK, number=1)], Claims(), [packet(0, 50, 30), packet(0, 90, 30, 1)])

@@ -220,7 +220,7 @@ class OneCopyDamaged(Case):
         self.assertEqual([stretch.vouched for stretch in of(found, Content.HEADER)], [{1}])
 
     def test_tracks(self) -> None:
-        for reel, place in ((REEL, REEL.index(b"V_FFV1")), (PLAIN_REEL, PLAIN_REEL.index(b"V_FFV1")), (REEL, REEL.index(b"record"))):
+        for reel, place in ((REEL, REEL.index(b"V_FFV1")), (PLAIN_REEL, PLAIN_REEL.index(b"V_FFV1")), (REEL, REEL.index(made.RECORD))):
             damaged = made.damaged(reel, place)
             for order in ((damaged, reel), (reel, damaged)):
                 self.assertEqual(layout(*order).tracks, layout(reel).tracks)

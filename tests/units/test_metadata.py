@@ -20,17 +20,30 @@ class Metadata(unittest.TestCase):
         other = made.track(6, b"V_MS/VFW/FOURCC", 1, header.replace(b"FFV1", b"HFYU"))
         packed = made.track(7, b"V_FFV1", 1, more=made.element(0x6D80, b""))
         found = read(made.tracks(made.FFV1, made.PCM, windows, other, packed)).tracks
-        self.assertEqual(found[0], Track(1, Content.VIDEO, "V_FFV1", True, 48, 40, b"record", 0.04))
+        self.assertEqual(found[0], Track(1, Content.VIDEO, "V_FFV1", True, 48, 40, made.RECORD, 0.04))
         self.assertEqual(found[1], Track(2, Content.SOUND, "A_PCM/INT/LIT"))
         self.assertEqual([(track.is_ffv1, track.record) for track in found[2:]], [(True, b"extra"), (False, header.replace(b"FFV1", b"HFYU")), (False, b"")])
 
     def test_what_a_file_claims(self) -> None:
-        simple = made.element(0x67C8, made.element(0x45A3, b"NUMBER_OF_FRAMES"), made.element(0x4487, b"8"))
-        tags = made.element(made.TAGS, made.element(0x7373, made.element(0x63C0, made.number(0x63C5, 1001)), simple))
-        content = made.information(320), made.tracks(), tags, made.cues((0, 1, 9), (80, 1, 10), (80, 2, 10))
+        content = made.information(320), made.tracks(), made.cues((0, 1, 9), (80, 1, 10), (80, 2, 10))
         claims = read(*content).claims
-        self.assertEqual((claims.duration, claims.counts, claims.index), (0.32, {1: 8}, {1: [0.0, 0.08], 2: [0.08]}))
+        self.assertEqual((claims.duration, claims.counts, claims.index), (0.32, {}, {1: [0.0, 0.08], 2: [0.08]}))
         self.assertIsNone(read(made.tracks()).claims.duration)
+
+    def test_counts_of_frames_are_those_of_the_last_writer(self) -> None:
+        def simple(name: bytes, text: bytes) -> bytes:
+            return made.element(0x67C8, made.element(0x45A3, name), made.element(0x4487, text))
+
+        information = made.element(made.INFO, made.element(0x5741, b"writer 2"))
+        for writer, counts in ((b"writer 2", {1: 8}), (b"writer 1", {}), (None, {})):
+            named = simple(b"_STATISTICS_WRITING_APP", writer) if writer else b""
+            tags = made.element(made.TAGS, made.element(0x7373, made.element(0x63C0, made.number(0x63C5, 1001)), simple(b"NUMBER_OF_FRAMES", b"8"), named))
+            self.assertEqual(read(information, made.tracks(), tags).claims.counts, counts)
+
+    def test_how_many_bytes_of_pcm_play_in_a_second(self) -> None:
+        sound = made.element(0xE1, made.element(0xB5, struct.pack(">f", 8000.0)), made.number(0x9F, 2), made.number(0x6264, 16))
+        tracks = read(made.tracks(made.FFV1, made.track(2, b"A_PCM/INT/LIT", 2, more=sound), made.track(3, b"A_FLAC", 2, more=sound))).tracks
+        self.assertEqual([track.byte_rate for track in tracks], [0.0, 32000.0, 0.0])
 
     def test_numbers_that_lie(self) -> None:
         for duration in (float("inf"), float("nan"), -1.0):

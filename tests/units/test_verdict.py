@@ -3,6 +3,7 @@ import dataclasses
 import unittest
 
 from mend_reel.containers.frame_times import constant_step, end_of, lasts
+from mend_reel.containers.structure import Flaw, Found
 from mend_reel.copies.arrangement import Leaving, Left, Matched
 from mend_reel.judging.completeness import Excuses, Seen, misplaced
 from mend_reel.judging.digests import Compared
@@ -266,6 +267,34 @@ class VerdictTest(unittest.TestCase):
         stretches = [dataclasses.replace(stretch, kind=Kind.PLAIN, parts=()) for stretch in layout.stretches]
         found = self.of_one_copy(dataclasses.replace(layout, stretches=stretches), is_check=True)
         self.assertEqual((found.status, whys(found)), (3, [Why.UNCHECKED]))
+
+    def test_a_record_that_fails_its_parity(self):
+        layout = recording()
+        layout.tracks = [dataclasses.replace(VIDEO, record=b"record")]
+        found = verdict(layout)
+        self.assertEqual((found.status, [reason.text() for reason in found.reasons]), (3, [
+            "description of the tracks of track 1: what describes its video to a decoder (the Configuration Record) fails its parity; "
+            "a further copy may have it right"]))
+
+    def test_parts_that_do_not_hang_together(self):
+        flaws = [Found(Flaw.BROKEN, 40, 60), Found(Flaw.AFTER_END, 90, 95), Found(Flaw.BARE, 10, 20), Found(Flaw.BROKEN, 630, 700)]
+        lost = Outcome(element(1), State.MISSING, 0, "1-", {})
+        self.assertEqual([reason.bytes for reason in verdict(recording(), lost, flaws=flaws).reasons], [(40, 60), (624, 1124)])
+        found = self.of_one_copy(recording(), is_check=True, flaws=flaws)
+        self.assertEqual([reason.why for reason in found.reasons], [Why.BARE, Why.BROKEN, Why.AFTER_END, Why.BROKEN])
+
+    def test_frames_that_were_damaged_before_the_file_was_written(self):
+        found = verdict(recording(), rotten={2, 3})
+        self.assertEqual([(reason.why, reason.frames) for reason in found.reasons], [(Why.ROTTEN, (2, 3))])
+        self.assertEqual((found.counts.lost, found.results.frames[2].damaged), (2, (0, 1)))
+
+    def test_what_other_files_have_and_out_lacks(self):
+        other = dataclasses.replace(recording(), tracks=[VIDEO, SOUND])
+        other.stretches = [*other.stretches, *(Stretch(Kind.PLAIN, 0, 9, What(each)) for each in (Content.ATTACHMENTS, Content.TAGS))]
+        found = verdict(recording(), others={4: other})
+        self.assertEqual([(reason.why, reason.content, reason.copy) for reason in found.reasons],
+                         [(Why.LACKS, Content.SOUND, 4), (Why.LACKS, Content.ATTACHMENTS, 4)])
+        self.assertEqual((found.status, found.notes), (3, ["copy 5 has tags, and OUT has none"]))
 
     def test_a_digest_decides(self):
         of_all, of_frames = (Compared(True, "it is the original", is_of_all) for is_of_all in (True, False))

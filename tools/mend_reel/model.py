@@ -80,7 +80,8 @@ class What:
 
 @dataclasses.dataclass(frozen=True)
 class Track:
-    """A track as the container describes it. `step` is the time from a frame to the next, where the container gives it."""
+    """A track as the container describes it. `step` is the time from a frame to the next, where the container gives it, `byte_rate` how many
+    bytes of PCM play in a second."""
 
     number: int
     content: Content
@@ -90,6 +91,7 @@ class Track:
     height: int = 0
     record: bytes = b""
     step: typing.Optional[float] = None
+    byte_rate: float = 0.0
 
 
 @dataclasses.dataclass(frozen=True)
@@ -167,7 +169,8 @@ class Stretch:
 class Layout:
     """What lies where in a file: its stretches, which follow each other and cover it, and the frames of all FFV1 tracks in the order of
     their places. `gaps` are places and sizes of what no copy could divide. `rises` is whether the frames of a track have to lie in the
-    order of their times. `end` is where the file ends by its own account, where it says so."""
+    order of their times. `end` is where the file ends by its own account, where it says so. `bare` are from where to where elements lie
+    that have no CRC-32, though those beside them have."""
 
     size: int
     tracks: list[Track]
@@ -177,6 +180,7 @@ class Layout:
     gaps: list[tuple[int, int]] = dataclasses.field(default_factory=list)
     rises: bool = False
     end: typing.Optional[int] = None
+    bare: list[tuple[int, int]] = dataclasses.field(default_factory=list)
 
     def contents(self) -> collections.Counter[Content]:
         """What a file has: how many tracks of each kind, and whether attachments, chapters and tags."""

@@ -10,7 +10,7 @@ from . import ebml, elements, slice_footers
 from .aligned_copies import NONE, AlignedCopies, Budget, Numbers
 from .metadata import NANOSECONDS, Metadata
 
-CRC, VOID, TIMESTAMP, SIMPLE_BLOCK, GROUP, BLOCK, REFERENCE = 0xBF, 0xEC, 0xE7, 0xA3, 0xA0, 0xA1, 0xFB
+CRC, VOID, TIMESTAMP, SIMPLE_BLOCK, GROUP, BLOCK, REFERENCE, DURATION = 0xBF, 0xEC, 0xE7, 0xA3, 0xA0, 0xA1, 0xFB, 0x9B
 IN_CLUSTER = frozenset({CRC, VOID, TIMESTAMP, SIMPLE_BLOCK, GROUP, 0x5854, 0xA7, 0xAB, 0xAF})
 IN_GROUP = frozenset({CRC, VOID, BLOCK, 0x75A1, 0x75A2, 0x9B, 0xFA, REFERENCE, 0xFD, 0xA4, 0x8E, 0xC8, 0xA2})
 # Numbers have at most eight bytes (RFC 8794, section 7).
@@ -25,7 +25,8 @@ SIZE = rb"(?:[\x80-\xfe]|[\x40-\x7f].|[\x20-\x3f].{2}|[\x10-\x1f].{3}|[\x08-\x0f
 
 class Item(typing.NamedTuple):
     """A run of bytes of a cluster: what it is, of which track and when, if it is of a block, and the copies that its container vouches
-    for there. `frame` is set where it is a frame of an FFV1 track, `is_gap` where no copy divides it."""
+    for there. `frame` is set where it is a frame of an FFV1 track, `is_gap` where no copy divides it, `lasts` where its length of
+    time is given."""
 
     start: int
     end: int
@@ -35,6 +36,7 @@ class Item(typing.NamedTuple):
     vouched: Numbers = NONE
     frame: typing.Optional[Frame] = None
     is_gap: bool = False
+    lasts: float = 0.0
 
 
 class BlockHead(typing.NamedTuple):
@@ -278,8 +280,10 @@ class Clusters:
         yield from framing(child)
         children = elements.divide(self.aligned, child.content, child.end, elements.Schema(IN_GROUP, longest=NUMBERS), self.budget)
         key = all(each.identity != REFERENCE for each in children)
+        lengths = [ebml.number(version) for each in children if each.identity == DURATION
+                   for _, version in self._versions(each.content, min(each.end - each.content, 8))[:1]]
         for each in children:
             if each.identity == BLOCK:
-                yield from self._block(each, start, key)
+                yield from (item._replace(lasts=self._seconds(lengths[0]) if lengths else 0.0) for item in self._block(each, start, key))
             else:
                 yield Item(each.place, each.end, Content.FRAMING, is_gap=each.identity == elements.UNDIVIDED)

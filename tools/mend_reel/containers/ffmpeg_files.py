@@ -4,14 +4,13 @@ from __future__ import annotations
 import bisect
 import collections
 import dataclasses
-import itertools
 import typing
 
 from ..judging.frame_checks import Judge, Judged
-from ..model import Claims, Content, Copy, Frame, Kind, Layout, Stretch, Track, What
+from ..model import Claims, Content, Copy, Frame, Layout, Stretch, Track, What
+from . import structure
 from .ffprobe import Container, Packet, contain, with_records
-
-LONGEST_PLAIN = 1 << 20
+from .stretch_builder import Stretches
 
 # Where a packet lies: its place, its size, and its track.
 Spot = tuple[int, int, int]
@@ -34,9 +33,40 @@ def layout(copies: typing.Sequence[Copy], judge: typing.Optional[Judge] = None, 
     base = max(containers, key=lambda container: (len(container.found()), len(container.tracks), len(container.packets)))
     shown = Shown(copies, containers, base)
     found = shown.frames(judge)
-    stretches = Cover([copy.size for copy in copies], found, shown.others(found), base.tracks).stretches()
+    structures = [structure.read(copy) for copy in copies]
+    size, end = ends_at([copy.size for copy in copies], [each.end for each in structures])
+    found = [frame for frame in found if frame.end <= size]
+    stretches = cover(copies, found, shown.others(found), base.tracks, size)
     tracks = with_records(copies[containers.index(base)], base.tracks) if records else base.tracks
-    return Layout(max(copy.size for copy in copies), tracks, found, stretches, common_claims(containers, base))
+    return Layout(size, tracks, found, stretches, common_claims(containers, base), end=end)
+
+
+def ends_at(sizes: typing.Sequence[int], ends: typing.Sequence[typing.Optional[int]]) -> tuple[int, typing.Optional[int]]:
+    """Where OUT ends, and where the file does by what most copies say: what lies after that is never preferred to nothing."""
+    known = [end for end in ends if end is not None]
+    end = max(known, key=known.count, default=None)
+    reaching = [size for size in sizes if end is not None and size >= end]
+    return (min(reaching) if reaching else max(sizes)), end
+
+
+def cover(copies: typing.Sequence[Copy], frames: typing.Sequence[Frame], others: typing.Sequence[tuple[Spot, Packet]],
+          tracks: typing.Sequence[Track], size: int) -> list[Stretch]:
+    """The stretches that cover a file: its frames, other packets, and what lies between them."""
+    steps, kinds = {track.number: track.step or 0.0 for track in tracks}, {track.number: track.content for track in tracks}
+    packets: list[tuple[int, int, What, typing.Optional[Frame]]] = [
+        (frame.place, frame.end, What(Content.FRAME, frame.track, frame.time, frame.time + steps.get(frame.track, 0.0)), frame) for frame in frames]
+    packets += [(place, place + length, What(kinds.get(stream, Content.UNKNOWN), stream, packet.time, packet.time + packet.lasts), None)
+                for (place, length, stream), packet in others if place + length <= size]
+    made, end = Stretches(copies), 0
+    for start, stop, what, frame in sorted(packets, key=lambda packet: packet[0]):
+        made.plain(end, start, What(Content.UNKNOWN if end else Content.HEADER))
+        if frame:
+            made.frame(frame, what)
+        else:
+            made.plain(start, stop, what)
+        end = stop
+    made.plain(end, size, What(Content.INDEX if end else Content.UNKNOWN))
+    return made.made
 
 
 class Shown:
@@ -92,8 +122,8 @@ class Shown:
             counts[frame.track] += 1
         return counted
 
-    def others(self, frames: typing.Sequence[Frame]) -> list[tuple[Spot, float]]:
-        """The packets of other tracks and their times, in the order of their places: those that overlap no frame and none before."""
+    def others(self, frames: typing.Sequence[Frame]) -> list[tuple[Spot, Packet]]:
+        """The packets of other tracks, in the order of their places: those that overlap no frame and none before."""
         starts, end = [frame.place for frame in frames], 0
         clear = []
         for spot in sorted(spot for spot in self.spots if spot[2] not in self.video):
@@ -101,7 +131,7 @@ class Shown:
             after = bisect.bisect_right(starts, place)
             hits = after and frames[after - 1].end > place or after < len(starts) and starts[after] < place + size
             if place >= end and not hits:
-                clear.append((spot, self.spots[spot][0].time))
+                clear.append((spot, self.spots[spot][0]))
                 end = place + size
         return clear
 
@@ -135,65 +165,3 @@ def common_claims(containers: typing.Sequence[Container], base: Container) -> Cl
     """What most of the containers claim, or else the base."""
     claims = [container.claims for container in containers if container.form == base.form]
     return max(claims, key=lambda each: (claims.count(each), each == base.claims))
-
-
-@dataclasses.dataclass
-class Cover:
-    """The stretches that cover a file: its frames, and what lies between them, cut where a copy ends."""
-
-    sizes: typing.Sequence[int]
-    frames: typing.Sequence[Frame]
-    others: typing.Sequence[tuple[Spot, float]]
-    tracks: typing.Sequence[Track]
-
-    def stretches(self) -> list[Stretch]:
-        """The stretches in the order of their places."""
-        covered: list[Stretch] = []
-        steps = {track.number: track.step or 0.0 for track in self.tracks}
-        kinds = {track.number: track.content for track in self.tracks}
-        found: list[Stretch] = []
-        for frame in self.frames:
-            what = What(Content.FRAME, frame.track, frame.time, frame.time + steps.get(frame.track, 0.0))
-            found.append(Stretch(Kind.FRAME, frame.place, frame.size, what, parts=(frame,)))
-        for (place, size, stream), time in self.others:
-            found.append(Stretch(Kind.PLAIN, place, size, What(kinds.get(stream, Content.UNKNOWN), stream, time, time)))
-        end = 0
-        for stretch in sorted(found, key=lambda stretch: stretch.start):
-            covered += self.plain(end, stretch.start, What(Content.UNKNOWN if end else Content.HEADER))
-            self.add(covered, stretch)
-            end = stretch.end
-        return covered + self.plain(end, max(self.sizes), What(Content.INDEX if end else Content.UNKNOWN))
-
-    def add(self, covered: list[Stretch], stretch: Stretch) -> None:
-        """Adds a packet: to the one before it, if it goes on with it."""
-        if stretch.kind is Kind.FRAME:
-            covered.append(dataclasses.replace(stretch, places=self.places(stretch.start, stretch.size)))
-            return
-        before = covered[-1] if covered else None
-        for piece in self.plain(stretch.start, stretch.end, stretch.what):
-            joins = (before and before.kind is Kind.PLAIN and before.end == piece.start and before.size + piece.size <= LONGEST_PLAIN
-                     and (before.what.content, before.what.track) == (piece.what.content, piece.what.track) and same_copies(before, piece))
-            if before and joins:
-                what = dataclasses.replace(before.what, end=piece.what.end)
-                covered[-1] = before = dataclasses.replace(before, size=before.size + piece.size, what=what)
-            else:
-                covered.append(piece)
-                before = piece
-
-    def places(self, start: int, size: int) -> tuple[typing.Optional[int], ...]:
-        return tuple(start if start + size <= length else None for length in self.sizes)
-
-    def plain(self, start: int, end: int, what: What) -> list[Stretch]:
-        """Plain stretches from a place to another, cut where copies end."""
-        bounds = sorted({start, end, *(length for length in self.sizes if start < length < end)})
-        made = []
-        for first, last in zip(bounds, bounds[1:]):
-            for place in range(first, last, LONGEST_PLAIN):
-                size = min(LONGEST_PLAIN, last - place)
-                made.append(Stretch(Kind.PLAIN, place, size, what, self.places(place, size)))
-        return made
-
-
-def same_copies(one: Stretch, other: Stretch) -> bool:
-    """Whether the same copies have two stretches."""
-    return all((a is None) == (b is None) for a, b in itertools.zip_longest(one.places, other.places))

@@ -15,14 +15,14 @@ import zlib
 from ..judging.frame_checks import MOST_BYTES
 from ..model import Claims, Content, Copy, Fault, Track
 from ..program.external_programs import run
-from . import slice_footers
+from . import slice_footers, structure
 
 # How far after the place that ffprobe reports a packet's bytes are looked for, and after how many misses they no longer are.
 FARTHEST, MOST_MISSES = 64, 16
 # Who watches a copy is told how far ffprobe is once in so many lines.
 LINES_BETWEEN = 64
 MOST_REMEMBERED = 64
-ENTRIES = ("packet=stream_index,pts_time,dts_time,size,pos,flags"
+ENTRIES = ("packet=stream_index,pts_time,dts_time,duration_time,size,pos,flags"
            "{more}:stream=index,codec_type,codec_name,width,height,avg_frame_rate,nb_frames,duration,start_time:format=format_name,duration")
 CONTENTS = {"video": Content.VIDEO, "audio": Content.SOUND, "subtitle": Content.SUBTITLES}
 # The containers whose header gives how long they play: of others FFmpeg guesses. An AVI file counts empty frames too.
@@ -40,6 +40,7 @@ class Packet(typing.NamedTuple):
     key: bool
     digest: typing.Optional[int] = None
     place: typing.Optional[int] = None
+    lasts: float = 0.0
 
 
 @dataclasses.dataclass
@@ -92,7 +93,7 @@ def read_packet(values: typing.Mapping[str, str]) -> typing.Optional[Packet]:
     sum_ = whole(digest, 16)
     if time is None or stream is None or place is None or not size or digest and (sum_ is None or len(digest) != 8):
         return None
-    return Packet(stream, time, place, size, "K" in values.get("flags", ""), sum_)
+    return Packet(stream, time, place, size, "K" in values.get("flags", ""), sum_, lasts=number(values.get("duration_time")) or 0.0)
 
 
 def read_track(values: typing.Mapping[str, str]) -> Track:
@@ -144,6 +145,8 @@ def ask(copy: Copy) -> Container:
     if not can_ask():
         raise Fault(f"there is no ffprobe on the PATH, and {copy.path} is no Matroska file that can be read without it")
     container = ask_for(copy, [], "")
+    if container.form == "mov":
+        container.claims = dataclasses.replace(container.claims, counts=structure.read(copy).counts)
     video = container.video()
     container.packets = locate(copy, container.packets, video)
     if any(packet.place is None for packet in container.packets if packet.stream in video):

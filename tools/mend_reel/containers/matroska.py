@@ -105,7 +105,17 @@ class MatroskaReader:
         if segment and claimed_end is not None and any(child.place < claimed_end < child.end for child in strong):
             self.gaps.insert(0, (segment.place, segment.content - segment.place))
         return Layout(size, list(self.metadata.tracks), self.stretches.frames, self.stretches.made, self.metadata.claims, self.gaps, rises=True,
-                      end=claimed_end)
+                      end=claimed_end, bare=list(self._bare()))
+
+    def _bare(self) -> typing.Iterator[tuple[int, int]]:
+        """Yields where elements lie that have no CRC-32, though others of the same ID have one, or most others."""
+        kinds = [(child, self._has_crc(child)) for child in self.top
+                 if child.identity in STRONG - {EBML, SEGMENT} and child.content < child.end and not child.is_cut]
+        mostly = 2 * sum(has_crc for _, has_crc in kinds) > len(kinds)
+        checked = {child.identity for child, has_crc in kinds if has_crc}
+        for child, has_crc in kinds:
+            if not has_crc and (child.identity in checked or mostly) and child.end - child.content <= MOST_STRETCH:
+                yield child.place, child.end
 
     # ---- the file as a whole
 
@@ -229,7 +239,9 @@ class MatroskaReader:
         self.stretches.element(child.content, child.end, what, [item.frame for item in items if item.frame])
 
     def _end(self, item: clusters.Item) -> float:
-        return round((item.time or 0.0) + self.clusters.steps.get(item.track or 0, 0.0), clusters.DIGITS)
+        track = self.clusters.tracks.get(item.track or 0)
+        lasts = item.lasts or self.clusters.steps.get(item.track or 0) or (item.end - item.start) / (track and track.byte_rate or float("inf"))
+        return round((item.time or 0.0) + lasts, clusters.DIGITS)
 
     def _add_live(self, live: typing.Sequence[elements.Child]) -> None:
         """Adds an element of unknown size: its head, and its children."""
@@ -255,10 +267,12 @@ def layout(copies: typing.Sequence[Copy]) -> Layout:
 
 
 def flaws(copy: Copy, layout: Layout) -> typing.Iterator[structure.Found]:
-    """Yields where the elements of a file, which a layout describes, lead nowhere within top-level ones, and what lies after its end."""
+    """Yields where the elements of a file, which a layout describes, lead nowhere within top-level ones, which of these have no CRC-32, and
+    what lies after its end."""
     for stretch in layout.stretches:
         if stretch.what.content in MASTERS and stretch.size <= MOST_METADATA and not structure.divides(copy.read(stretch.start, stretch.size)):
             yield structure.Found(structure.Flaw.BROKEN, stretch.start, stretch.end)
+    yield from (structure.Found(structure.Flaw.BARE, *each) for each in layout.bare)
     if layout.end is not None and layout.end < copy.size:
         yield structure.Found(structure.Flaw.AFTER_END, layout.end, copy.size)
 

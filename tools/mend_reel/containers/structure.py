@@ -26,6 +26,7 @@ class Flaw(enum.Enum):
     CUT = "goes on after the file's end"
     AFTER_END = "lies after the end"
     COUNT = "counts otherwise"
+    BARE = "has no checksum, though what lies beside it has"
     NO_TABLE = "lacks what says where its frames lie"
 
 

@@ -70,11 +70,13 @@ class Arrangement:
     rotten: set[int] = dataclasses.field(default_factory=set)
 
     def notes(self, copies: typing.Sequence[Copy]) -> list[str]:
-        """Whose file OUT is, where there are others."""
+        """Whose file OUT is, where there are others, and which copies have bytes after its end."""
+        longer = [f"copy {number + 1} has {copies[number].size - self.layout.size:,} bytes after the end of the file, which are left out"
+                  for number in self.basis if copies[number].size > self.layout.size]
         if not self.matched:
-            return []
+            return longer
         own, others = (", ".join(str(number + 1) for number in numbers) for numbers in (self.basis, [each.number for each in self.matched]))
-        return [f"OUT is the file of {'copies' if len(self.basis) > 1 else 'copy'} {own}; what serves of "
+        return [*longer, f"OUT is the file of {'copies' if len(self.basis) > 1 else 'copy'} {own}; what serves of "
                 f"{'copies' if len(self.matched) > 1 else 'copy'} {others} is brought into it"]
 
 

@@ -17,6 +17,7 @@ FOOTER = 8
 # The parity of a slice has the polynomial of CRC-32 with the bits of each byte the other way round, and begins with zeros.
 TURNED = bytes(int(f"{byte:08b}"[::-1], 2) for byte in range(256))
 ZEROS = 0xFFFFFFFF
+FEWEST_RECORD = 6
 
 
 @dataclasses.dataclass(frozen=True)
@@ -104,6 +105,11 @@ def slices(frame: bytes) -> typing.Iterator[tuple[int, int]]:
 def passes(piece: bytes) -> bool:
     """Whether a slice passes its parity. One without content says nothing."""
     return len(piece) > FOOTER and zlib.crc32(piece.translate(TURNED), ZEROS) == ZEROS
+
+
+def passes_as_record(record: bytes) -> bool:
+    """Whether a Configuration Record passes its parity (RFC 9043, section 4.2.3). Zeros pass every parity, and are no record."""
+    return len(record) >= FEWEST_RECORD and any(record) and zlib.crc32(record.translate(TURNED), ZEROS) == ZEROS
 
 
 def share_slice(one: bytes, other: bytes) -> bool:

@@ -10,12 +10,14 @@ from ..copies.arrangement import Left, Matched
 from ..model import Because, Claims, Content, Kind, Layout, Outcome, State, Stretch
 from .completeness import Seen, find_lacks
 from .digests import Compared
+from .frame_checks import passes_as_record
 from .reasons import Reason, Why, join
 from .results import GUESSED, Counts, FrameResult, FrameState, Results, Sums, is_guessed
 
 # What remains of a cluster when the frames in it that are not restored are named.
 OF_CLUSTERS = (Content.CLUSTER, Content.UNKNOWN)
-OF_FLAWS = {Flaw.BROKEN: Why.BROKEN, Flaw.CUT: Why.CUT, Flaw.AFTER_END: Why.AFTER_END, Flaw.COUNT: Why.MISCOUNTED, Flaw.NO_TABLE: Why.NO_TABLE}
+OF_FLAWS = {Flaw.BROKEN: Why.BROKEN, Flaw.CUT: Why.CUT, Flaw.AFTER_END: Why.AFTER_END, Flaw.COUNT: Why.MISCOUNTED, Flaw.NO_TABLE: Why.NO_TABLE,
+            Flaw.BARE: Why.BARE}
 PLAYED = (Content.SOUND, Content.VIDEO, Content.SUBTITLES)
 
 
@@ -99,7 +101,7 @@ def judge(evidence: Evidence) -> Verdict:
     found += of_flaws(evidence, found)
     found.sort(key=lambda reason: reason.bytes or (0, 0))
     found += find_lacks(Seen(evidence.layout, evidence.out, results, evidence.claims, evidence.matched))
-    found += of_other_contents(evidence)
+    found += [*of_other_contents(evidence), *of_records(evidence)]
     if sum(track.is_ffv1 for track in evidence.layout.tracks) == 1:
         found = [dataclasses.replace(reason, track=None) if reason.content is Content.FRAME else reason for reason in found]
     compared, counts = evidence.compared, results.counts()
@@ -107,7 +109,7 @@ def judge(evidence: Evidence) -> Verdict:
     notes = [f"copy {left.number + 1} is left out: {left.text()}" for left in evidence.left]
     notes += [compared.text] if compared and compared.is_original and not compared.is_of_all else []
     has_damage = bool(counts.damaged or results.outcomes or evidence.has_damaged_heads or is_cut(evidence, copy_of_mark))
-    return Verdict(reasons, notes + of_the_rest(results), results.sums(), counts, results, has_damage, compared, evidence.is_check)
+    return Verdict(reasons, notes + of_the_rest(results) + of_tags(evidence), results.sums(), counts, results, has_damage, compared, evidence.is_check)
 
 
 def is_cut(evidence: Evidence, copy_of_mark: typing.Sequence[int]) -> bool:
@@ -121,7 +123,20 @@ def of_other_contents(evidence: Evidence) -> typing.Iterator[Reason]:
     """What other files have, and OUT lacks or has less of: tracks of a kind, attachments, chapters, tags."""
     own = evidence.layout.contents()
     for copy, other in evidence.others.items():
-        yield from (Reason(Why.LACKS, content, copy=copy) for content in other.contents() - own)
+        yield from (Reason(Why.LACKS, content, copy=copy) for content in other.contents() - own if content is not Content.TAGS)
+
+
+def of_tags(evidence: Evidence) -> list[str]:
+    """Tags of other files: whoever writes a file writes some."""
+    own = evidence.layout.contents()
+    return [f"copy {copy + 1} has tags, and OUT has none" for copy, other in evidence.others.items() if Content.TAGS in other.contents() - own]
+
+
+def of_records(evidence: Evidence) -> typing.Iterator[Reason]:
+    """The tracks whose Configuration Record fails its parity."""
+    for track in (evidence.out or evidence.layout).tracks:
+        if track.is_ffv1 and track.record and not passes_as_record(track.record):
+            yield Reason(Why.RECORD, Content.TRACKS, track.number)
 
 
 def of_unchecked(results: Results) -> typing.Iterator[Reason]:
@@ -169,10 +184,12 @@ def of_gaps(layout: Layout) -> typing.Iterator[Reason]:
 
 
 def of_flaws(evidence: Evidence, found: typing.Iterable[Reason]) -> list[Reason]:
-    """Where the parts of a file do not hang together, but for what is in doubt already."""
+    """Where the parts of a file do not hang together, but for what is in doubt already. What copies agree on may lack a checksum, or lie
+    after the end."""
     known, made = [reason.bytes for reason in found if reason.bytes and reason.why is not Why.ALONE], []
     for flaw, start, end, has, count in evidence.flaws:
-        if not any(known_start <= start and end <= known_end for known_start, known_end in known):
+        is_agreed = not evidence.is_check and flaw in (Flaw.BARE, Flaw.AFTER_END)
+        if not is_agreed and not any(known_start <= start and end <= known_end for known_start, known_end in known):
             made.append(Reason(OF_FLAWS[flaw], Content.UNKNOWN, bytes=(start, end), has=has, count=count))
     return made
 

@@ -225,7 +225,7 @@ class Session:
         try:
             self.progress.begin("reading OUT again")
             decoded = decoding.decoded(layout, *mended, decoding.FfmpegDecoder(os.path.abspath(part)))
-            read = describe([out], self.judge, False)
+            read = describe([out], self.judge)
             return Made(*mended, read, self.flaws(out, form, read), part, decoded)
         finally:
             os.close(out.file)

@@ -1,0 +1,126 @@
+"""How the parts of one file hang together."""
+import unittest
+
+from mend_reel.containers import matroska, structure
+from mend_reel.containers.structure import Flaw, Found
+from mend_reel.judging.frame_checks import passes_as_record
+from . import made
+from .framed import frame, matroska as reel
+
+REEL = reel([(0.04 * number, frame(number, 200, 150 + number)) for number in range(5)])
+
+
+def chunk(name, content, size=None):
+    return name + (len(content) if size is None else size).to_bytes(4, "little") + content + bytes(len(content) % 2)
+
+
+def avi(frames=4, length=4, entries=4, more=b""):
+    """An AVI file with one video stream."""
+    strh = chunk(b"strh", b"vids" + bytes(28) + length.to_bytes(4, "little") + bytes(20))
+    hdrl = chunk(b"LIST", b"hdrl" + chunk(b"avih", bytes(56)) + chunk(b"LIST", b"strl" + strh))
+    movi = chunk(b"LIST", b"movi" + b"".join(chunk(b"00dc", made.noise(number, 99)) for number in range(frames)))
+    return chunk(b"RIFF", b"AVI " + hdrl + chunk(b"JUNK", bytes(40)) + movi + chunk(b"idx1", bytes(16 * entries))) + more
+
+
+def atom(name, content):
+    return (8 + len(content)).to_bytes(4, "big") + name + content
+
+
+def trak(number, count, name=b"stsz"):
+    stbl = atom(b"stbl", atom(name, bytes(8) + count.to_bytes(4, "big") + bytes(4 * count)))
+    return atom(b"trak", atom(b"tkhd", bytes(12) + number.to_bytes(4, "big") + bytes(68)) + atom(b"mdia", atom(b"minf", stbl)))
+
+
+def fragment(number, count):
+    run = atom(b"trun", bytes(4) + count.to_bytes(4, "big") + bytes(8 * count))
+    return atom(b"moof", atom(b"traf", atom(b"tfhd", bytes(4) + number.to_bytes(4, "big")) + run)) + atom(b"mdat", made.noise(number, 300))
+
+
+MOV = atom(b"ftyp", b"qt  ") + atom(b"mdat", made.noise(1, 900)) + atom(b"moov", trak(1, 4) + trak(2, 50))
+NUT = structure.NUT_ID + made.noise(3, 700) + structure.NUT_INDEX + b"\x20" + made.noise(4, 32)
+
+
+class StructureTest(unittest.TestCase):
+    def read(self, content):
+        with made.opened(content) as (copy,):
+            return structure.read(copy)
+
+    def flaws(self, content):
+        return [(found.flaw, found.start, found.end) for found in self.read(content).flaws]
+
+    def test_files_that_hang_together(self):
+        for content in (avi(), avi(more=chunk(b"RIFF", b"AVIX" + chunk(b"JUNK", bytes(8)))), MOV, NUT):
+            found = self.read(content)
+            self.assertEqual((found.flaws, found.end), ([], len(content)))
+        self.assertEqual(self.read(b"none of these").flaws, [])
+
+    def test_bytes_after_the_end(self):
+        for content in (avi(), MOV, NUT):
+            self.assertEqual(self.flaws(content + bytes(512)), [(Flaw.AFTER_END, len(content), len(content) + 512)])
+
+    def test_files_that_are_cut(self):
+        self.assertIn((Flaw.CUT, 500, len(avi())), self.flaws(avi()[:500]))
+        self.assertIn((Flaw.CUT, len(MOV) - 9, len(MOV)), self.flaws(MOV[:-9]))
+        self.assertEqual(self.flaws(MOV[:500]), [(Flaw.CUT, 500, 920), (Flaw.NO_TABLE, 0, 500)])
+        self.assertEqual(self.flaws(NUT[:600]), [(Flaw.NO_TABLE, 0, 600)])
+        self.assertEqual(self.flaws(NUT[:-5]), [(Flaw.CUT, len(NUT) - 5, len(NUT))])
+
+    def test_parts_that_lead_nowhere(self):
+        place = avi().index(b"00dc", avi().index(b"00dc") + 1)
+        self.assertIn((Flaw.BROKEN, place), [each[:2] for each in self.flaws(made.damaged(avi(), (place + 5, b"\xff")))])
+        self.assertIn((Flaw.BROKEN, place), [each[:2] for each in self.flaws(made.damaged(avi(), (place, bytes(4))))])
+        place = MOV.index(b"mdat") - 4
+        self.assertIn((Flaw.BROKEN, place + 512), [each[:2] for each in self.flaws(made.damaged(MOV, (place, (512).to_bytes(4, "big"))))])
+
+    def test_what_an_avi_file_counts(self):
+        self.assertEqual(self.read(avi(entries=5)).flaws[0][0::3], (Flaw.COUNT, 4))
+        self.assertEqual(self.read(avi(frames=3, entries=3)).flaws, [Found(Flaw.COUNT, 0, len(avi(frames=3, entries=3)), 3, 4)])
+
+    def test_what_the_tables_of_a_mov_file_count(self):
+        self.assertEqual(self.read(MOV).counts, {0: 4, 1: 50})
+        fragmented = atom(b"ftyp", b"qt  ") + atom(b"moov", trak(7, 0) + trak(9, 2)) + fragment(7, 3) + fragment(9, 1) + fragment(7, 2)
+        self.assertEqual((self.read(fragmented).counts, self.read(fragmented).flaws), ({0: 5, 1: 3}, []))
+
+    def test_lists_in_lists_without_end(self):
+        deep = b""
+        for _ in range(40):
+            deep = chunk(b"LIST", b"deep" + deep)
+        self.assertIn(Flaw.BROKEN, [each[0] for each in self.flaws(chunk(b"RIFF", b"AVI " + deep))])
+
+
+class MatroskaTest(unittest.TestCase):
+    def flaws(self, content):
+        with made.opened(content) as copies:
+            return [(each.flaw, each.start) for each in matroska.flaws(copies[0], matroska.layout(copies))]
+
+    def test_an_undamaged_file(self):
+        self.assertEqual(self.flaws(REEL), [])
+        self.assertEqual(self.flaws(reel([(0.0, frame(1))], crc=False)), [])
+
+    def test_elements_that_lead_nowhere_inside(self):
+        chapters = made.element(0x1043A770, made.element(0x45B9, made.element(0xB6, made.number(0x91, 3), made.element(0x80, made.element(0x85, b"name")))))
+        content = made.ebml_header() + made.element(made.SEGMENT, made.information(80, False), made.tracks(crc=False), chapters)
+        self.assertEqual(self.flaws(content), [])
+        place = content.index(chapters) + 5
+        self.assertEqual(self.flaws(made.damaged(content, (content.index(b"\x85\x84name"), bytes(6)))), [(Flaw.BROKEN, place)])
+
+    def test_bytes_after_the_end(self):
+        self.assertEqual(self.flaws(REEL + bytes(100)), [(Flaw.AFTER_END, len(REEL))])
+
+    def test_an_element_without_a_checksum_where_others_have_one(self):
+        place = REEL.index(made.CLUSTER.to_bytes(4, "big"), REEL.index(frame(0, 200, 150)))
+        crc = REEL.index(b"\xbf\x84", place)
+        self.assertEqual(self.flaws(made.damaged(REEL, (crc, b"\xaf"))), [(Flaw.BARE, place)])
+        tracks = REEL.index(made.TRACKS.to_bytes(4, "big"))
+        self.assertEqual(self.flaws(made.damaged(REEL, (REEL.index(b"\xbf\x84", tracks), b"\xec"))), [(Flaw.BARE, tracks)])
+
+
+class RecordTest(unittest.TestCase):
+    def test_the_parity_of_a_record(self):
+        self.assertTrue(passes_as_record(made.RECORD))
+        for record in (made.damaged(made.RECORD, 3), b"", made.RECORD[:5], bytes(6), bytes(40)):
+            self.assertFalse(passes_as_record(record))
+
+
+if __name__ == "__main__":
+    unittest.main()
