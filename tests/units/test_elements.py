@@ -53,6 +53,20 @@ class Undamaged(unittest.TestCase):
         self.assertEqual([child.identity for child in children], [made.EBML, made.SEGMENT, made.TRACKS, 0x4DAD, made.CLUSTER])
 
 
+class OfTwoSizes(unittest.TestCase):
+    def test_a_size_by_which_the_crc_passes_is_right_where_another_leads_on_too(self) -> None:
+        first, second = CLUSTERS[:2]
+        size = second.end - first.content
+        width = first.content - first.place - 4
+        wrong = made.damaged(REEL, (first.place + 4, made.size_of(size, width)))
+        self.assertEqual(len(wrong), len(REEL))
+        for order, right in (((wrong, REEL), 1), ((REEL, wrong), 0)):
+            children = divide(*order)
+            self.assertEqual(shape(children), shape(WHOLE))
+            child, = (each for each in children if each.place == first.place)
+            self.assertEqual(child.sized, frozenset({right}))
+
+
 class OneCopyDamaged(unittest.TestCase):
     def check(self, damaged: bytes, place: int, reel: bytes = REEL) -> None:
         """The division is that of the undamaged file, and the undamaged copy alone vouches for the place."""

@@ -353,6 +353,15 @@ class Kinds(unittest.TestCase):
 
 
 
+
+class Keys(unittest.TestCase):
+    def test_a_block_in_a_group_is_a_keyframe_unless_it_refers_to_another(self):
+        refers = made.element(0xA0, made.block(1, 40, framed.frame(2), 0xA1, 0), made.number(0xFB, 40))
+        clusters = made.cluster(0, made.group(1, 0, framed.frame(1)), refers, made.group(1, 80, framed.frame(3)), crc=False)
+        content = made.ebml_header() + made.element(made.SEGMENT, made.information(120), made.tracks(), clusters)
+        self.assertEqual([frame.key for frame in layout(content).frames], [True, False, True])
+
+
 class BadInput(unittest.TestCase):
     """Files of heads alone: each would be divided at each of its bytes."""
 

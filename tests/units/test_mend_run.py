@@ -101,6 +101,17 @@ class MendTest(unittest.TestCase):
                 with self.assertRaisesRegex(Fault, "did not report"):
                     self.mend(f"printf '{lines}\\n'; exit {status}")
 
+    def test_each_stretch_has_its_number_and_a_mark_for_each_copy(self):
+        lines = LINES.decode().splitlines(True)
+        for change, status in ((lambda: [*lines[:-1], lines[-1].replace("stretch 4", "stretch 5")], 3),
+                               (lambda: [lines[0].replace("11-", "11"), *lines[1:]], 3),
+                               (lambda: [lines[0].replace("11-", "11-1"), *lines[1:]], 3), (lambda: lines[:-1], 3),
+                               (lambda: ["stretch 1 plain agreed 111\n", "stretch 2 plain agreed 111\n", "stretch 3 plain agreed 111\n"], 0),
+                               (lambda: [*lines, "stretch 5 plain open 011\n"], 3)):
+            (self.folder / "changed").write_text("".join(change()))
+            with self.assertRaisesRegex(Fault, "did not report"):
+                self.mend(f"cat {self.folder}/changed; exit {status}")
+
     def test_fault_names_the_copy_itself(self):
         with self.assertRaises(Fault) as caught:
             self.mend('echo "ffv1restore: cannot read $4" >&2; exit 1')

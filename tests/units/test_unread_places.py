@@ -9,9 +9,9 @@ def copy(*unread):
     return Copy("", 0, 1000, unread=unread)
 
 
-def cut(kind, places, *copies, start=100, size=60):
+def cut(kind, places, *copies, start=100, size=60, own=None):
     stretch = Stretch(kind, start, size, What(Content.SOUND), places)
-    return [(part.start, part.end, part.places, part.is_read, part.is_unread) for part in without_unread(stretch, copies)]
+    return [(part.start, part.end, part.places, part.is_read, part.is_unread) for part in without_unread(stretch, copies, own or len(copies))]
 
 
 class UnreadTest(unittest.TestCase):
@@ -41,6 +41,10 @@ class UnreadTest(unittest.TestCase):
 
     def test_a_copy_that_is_cut_short_explains_nothing(self):
         self.assertEqual(cut(Kind.PLAIN, (100, 100, None), copy((0, 500)), copy(), copy()), [(100, 160, (None, 100, None), False, False)])
+
+    def test_other_files_lack_it_without_a_map(self):
+        self.assertEqual(cut(Kind.PLAIN, (100, 100, None), copy((0, 500)), copy(), copy(), own=2), [(100, 160, (None, 100, None), True, False)])
+        self.assertEqual(cut(Kind.PLAIN, (100, 100, 7), copy((0, 500)), copy(), copy(), own=2), [(100, 160, (None, 100, 7), False, False)])
 
     def test_what_none_could_read_is_open(self):
         self.assertEqual(cut(Kind.PLAIN, (100, 100), copy((90, 120)), copy((110, 200))), [

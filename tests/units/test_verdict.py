@@ -113,6 +113,11 @@ class FateTest(unittest.TestCase):
         results = self.results(recording(), Outcome(element(1), State.MISSING, 0, "10", {0: (settled("01"),)}))
         self.assertEqual(results.frames[1].damaged, (0,))
 
+    def test_a_copy_with_other_bytes_where_nothing_is_divided_is_damaged(self):
+        slices = (settled("11", 100), undivided("11", 0, 100))
+        results = self.results(recording(), Outcome(element(1), State.WHOLE, 0, "01", {0: slices}))
+        self.assertEqual(results.frames[1].damaged, (0,))
+
     def test_a_lost_frame(self):
         results = self.results(recording(), Outcome(element(1), State.MISSING, 0, "10", {0: (missing("10"),)}))
         self.assertEqual((results.frames[1].state, results.frames[1].damaged), (FrameState.LOST, (0, 1)))

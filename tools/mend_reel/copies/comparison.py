@@ -43,7 +43,7 @@ def compare(layout: Layout, inputs: Inputs, report: typing.Callable[[float, floa
     own, stretches = inputs.files[: inputs.own], []
     claims = claims_of(layout, own)
     for stretch in layout.stretches:
-        for part in without_unread(stretch, inputs.files):
+        for part in without_unread(stretch, inputs.files, inputs.own):
             stretches += differences.split(part, inputs.files)
         report(stretch.end, layout.size)
     stretches, broken = broken_headers.drop_broken(stretches, inputs.files)

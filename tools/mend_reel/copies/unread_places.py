@@ -8,9 +8,9 @@ import typing
 from ..model import Copy, Kind, Stretch
 
 
-def without_unread(stretch: Stretch, copies: typing.Sequence[Copy]) -> list[Stretch]:
+def without_unread(stretch: Stretch, copies: typing.Sequence[Copy], own: int) -> list[Stretch]:
     """The parts of a stretch, in which no copy has a place that it could not be read at. A frame or an element is one part: its check says
-    what of it is right."""
+    what of it is right. The first copies, so many as `own`, are of OUT's file."""
     if not any(copy.unread for copy in copies):
         return [stretch]
     cuts = {stretch.start, stretch.end}
@@ -18,7 +18,7 @@ def without_unread(stretch: Stretch, copies: typing.Sequence[Copy]) -> list[Stre
         if place is not None and stretch.kind is Kind.PLAIN:
             cuts.update(stretch.start + at - place for span in spans_in(copy, place, place + stretch.size) for at in span)
     ends = sorted(cuts)
-    return [part(stretch, copies, start, end) for start, end in zip(ends, ends[1:])]
+    return [part(stretch, copies, own, start, end) for start, end in zip(ends, ends[1:])]
 
 
 def spans_in(copy: Copy, start: int, end: int) -> list[tuple[int, int]]:
@@ -29,9 +29,9 @@ def spans_in(copy: Copy, start: int, end: int) -> list[tuple[int, int]]:
     return [(max(one, start), min(other, end)) for one, other in copy.unread[first:last]]
 
 
-def part(stretch: Stretch, copies: typing.Sequence[Copy], start: int, end: int) -> Stretch:
-    """The part of a stretch between two places of OUT. If one copy alone could be read there, and each other one not, what it has stands
-    without doubt. What none could be read is that of the first copy, and open."""
+def part(stretch: Stretch, copies: typing.Sequence[Copy], own: int, start: int, end: int) -> Stretch:
+    """The part of a stretch between two places of OUT. If one copy alone could be read there, and each other one of OUT's file not, what it has
+    stands without doubt. What none could be read is that of the first copy, and open."""
     offset, size = start - stretch.start, end - start
     places = [None if place is None else place + offset for place in stretch.places]
     having = [number for number, place in enumerate(places) if place is not None]
@@ -44,4 +44,4 @@ def part(stretch: Stretch, copies: typing.Sequence[Copy], start: int, end: int) 
         lost = set()
     return dataclasses.replace(
         stretch, start=start, size=size, places=tuple(None if number in lost else place for number, place in enumerate(places)),
-        is_read=not is_unread and len(having) == len(copies) == len(lost) + 1 > 1, is_unread=is_unread and stretch.kind is Kind.PLAIN)
+        is_read=not is_unread and bool(lost) and having[:own] == list(range(own)) and len(having) == len(lost) + 1, is_unread=is_unread and stretch.kind is Kind.PLAIN)
