@@ -190,6 +190,29 @@ class ReaderTest(InFolder):
             self.assertEqual(done.stderr.decode(), "mend-reel: cannot write standard output: No space left on device; out.mkv was made\n")
 
 
+class InterruptedTest(InFolder):
+    def interrupted(self, wait: float) -> tuple[int, str]:
+        """The status and the line of a call that is interrupted so many seconds after it began to work."""
+        child = subprocess.Popen([sys.executable, str(TOOL), "--json", "made.json", "-o", "out.mkv", "a.mkv", "b.mkv"], cwd=self.folder,
+                                 env=self.environment(), stdout=subprocess.DEVNULL, stderr=subprocess.PIPE)
+        while child.poll() is None and not list(self.work.iterdir()):
+            time.sleep(0.001)
+        time.sleep(wait)
+        child.send_signal(signal.SIGTERM)
+        said = child.communicate()[1].decode()
+        return child.returncode, said
+
+    def test_whenever_it_comes_nothing_is_left_and_it_is_said_whether_out_was_made(self) -> None:
+        for tenth in range(8):
+            status, said = self.interrupted(tenth / 10)
+            is_made = (self.folder / "out.mkv").exists()
+            self.assertEqual((list(self.work.iterdir()), [name for name in self.names() if name.endswith(".part")]), ([], []))
+            self.assertIn((status, said), [(0, ""), (1, "mend-reel: interrupted; out.mkv was made\n")] if is_made
+                          else [(1, "mend-reel: interrupted, and no OUT was made\n")])
+            for name in ("out.mkv", "made.json"):
+                (self.folder / name).unlink(missing_ok=True)
+
+
 class KilledTest(InFolder):
     def killed(self) -> list[str]:
         """Has a run killed while it mends. Returns what it left in the folder for working files."""

@@ -12,7 +12,7 @@ from ..model import Fault
 from . import options, session
 from .kept_frames import refuse_kept
 from .one_line import in_one_line
-from .output_files import INTERRUPTS, Files, descriptor_of, holds_data, is_same, is_written_to
+from .output_files import INTERRUPTS, Files, descriptor_of, holds_data, is_same, is_written_to, uninterrupted
 from .progress import Progress
 from .session import Finished, Outputs
 from .work_folder import WorkFolder
@@ -22,10 +22,14 @@ class Interrupted(BaseException):
     """What ends the work because a signal came. Nothing that gets over a fault gets over this."""
 
 
-def interrupted(*_: typing.Any) -> typing.NoReturn:
-    """Ends the work. What comes while it is cleared away is ignored."""
+def ignore_interrupts() -> None:
     for number in INTERRUPTS:
         signal.signal(number, signal.SIG_IGN)
+
+
+def interrupted(*_: typing.Any) -> typing.NoReturn:
+    """Ends the work. What comes while it is cleared away is ignored."""
+    ignore_interrupts()
     raise Interrupted("interrupted")
 
 
@@ -100,7 +104,8 @@ def main() -> int:
         if sys.stdout is None:
             raise Fault("cannot write standard output: it is closed")
         check(asked)
-        work = WorkFolder()
+        with uninterrupted():
+            work = WorkFolder()
         outputs = Outputs.make(asked, files, work)
         finished = session.run(asked, work.path, outputs, progress)
         progress.end()
@@ -110,6 +115,7 @@ def main() -> int:
         say(made_or_not(fault, asked, outputs))
         return 1
     finally:
+        ignore_interrupts()
         if work:
             work.remove()
         files.remove()

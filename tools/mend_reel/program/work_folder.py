@@ -11,18 +11,15 @@ import shutil
 import tempfile
 import typing
 
-from .output_files import uninterrupted
-
 PREFIX, LOCK = "mend-reel.", "lock"
 
 
 class WorkFolder:
-    """A folder of this run's own."""
+    """A folder of this run's own. Whoever makes it has interrupts wait until it is known."""
 
     def __init__(self) -> None:
-        with uninterrupted():
-            self.path = pathlib.Path(tempfile.mkdtemp(prefix=PREFIX))
-            self.lock = os.open(self.path / LOCK, os.O_WRONLY | os.O_CREAT, 0o600)
+        self.path = pathlib.Path(tempfile.mkdtemp(prefix=PREFIX))
+        self.lock = os.open(self.path / LOCK, os.O_WRONLY | os.O_CREAT, 0o600)
         with contextlib.suppress(OSError):
             fcntl.flock(self.lock, fcntl.LOCK_EX | fcntl.LOCK_NB)
 
