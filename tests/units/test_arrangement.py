@@ -175,6 +175,17 @@ class ArrangeTest(unittest.TestCase):
         self.assertEqual(arrangement.basis, [1])
         self.assertEqual(([each.time for each in matched.unplaced], [each.time for each in matched.contrary]), ([0.12], [0.16]))
 
+    def test_compressed_frames_are_video(self):
+        packed = made.track(1, b"V_FFV1", 1, made.RECORD, more=made.element(0x6D80, made.element(0x6240, b"")))
+        content = made.ebml_header() + made.element(made.SEGMENT, made.tracks(packed), made.cluster(0, made.block(1, 0, made.noise(1, 900))))
+        arrangement = self.arrange(content, content)
+        self.assertEqual((arrangement.basis, arrangement.layout.frames), ([0, 1], []))
+
+    def test_a_file_that_lost_its_table_is_named(self):
+        lost = (8).to_bytes(4, "big") + b"ftyp" + (9000).to_bytes(4, "big") + b"mdat" + made.noise(1, 2000)
+        with self.assertRaisesRegex(Fault, "copy.0 has lost what says where its frames lie"):
+            self.arrange(lost)
+
     def test_no_video_at_all(self):
         with self.assertRaisesRegex(Fault, "no FFV1 video was found in .*copy.0; .*copy.1 is empty"):
             self.arrange(b"no container " * 99, b"")

@@ -96,6 +96,15 @@ class LocateTest(unittest.TestCase):
             found = locate(copy, lost + self.packets(content, 500, 700, reported=37), {0, 1})
             self.assertEqual([packet.place for packet in found[len(lost):]], [500, 700])
 
+    def test_frames_of_a_file_that_lost_bytes_are_looked_for_around(self):
+        frames = [made.frame(10 * number, 40, 30 + number) for number in range(8)]
+        rest = bytes(5000) + b"".join(frame + made.noise(number, 60) for number, frame in enumerate(frames))
+        whole = (8).to_bytes(4, "big") + b"moov" + (8 + len(rest)).to_bytes(4, "big") + b"mdat" + rest
+        packets = [Packet(0, 0.04 * number, whole.index(frame), len(frame), True) for number, frame in enumerate(frames)]
+        content = whole[:1000] + whole[1512:]
+        with made.opened(content) as (copy,):
+            self.assertEqual([packet.place for packet in locate(copy, packets, {0})], [content.index(frame) for frame in frames])
+
     def test_without_a_digest_footers_show_where_a_frame_lies(self):
         frame = made.frame(3, 40, 30)
         content = bytes(50) + frame + b"x" + frame[:-8] + b"\xff\xff\xff" + frame[-5:] + bytes(80)

@@ -22,6 +22,7 @@ class Metadata(unittest.TestCase):
         found = read(made.tracks(made.FFV1, made.PCM, windows, other, packed)).tracks
         self.assertEqual(found[0], Track(1, Content.VIDEO, "V_FFV1", True, 48, 40, made.RECORD, 0.04))
         self.assertEqual(found[1], Track(2, Content.SOUND, "A_PCM/INT/LIT"))
+        self.assertEqual([track.is_encoded for track in found], [False, False, False, False, True])
         self.assertEqual([(track.is_ffv1, track.record) for track in found[2:]], [(True, b"extra"), (False, header.replace(b"FFV1", b"HFYU")), (False, b"")])
 
     def test_what_a_file_claims(self) -> None:

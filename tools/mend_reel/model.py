@@ -81,7 +81,7 @@ class What:
 @dataclasses.dataclass(frozen=True)
 class Track:
     """A track as the container describes it. `step` is the time from a frame to the next, where the container gives it, `byte_rate` how many
-    bytes of PCM play in a second."""
+    bytes of PCM play in a second. `is_encoded` is whether FFV1 frames are stored in another form: compressed, say."""
 
     number: int
     content: Content
@@ -92,6 +92,7 @@ class Track:
     record: bytes = b""
     step: typing.Optional[float] = None
     byte_rate: float = 0.0
+    is_encoded: bool = False
 
 
 @dataclasses.dataclass(frozen=True)

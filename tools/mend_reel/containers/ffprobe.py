@@ -1,6 +1,7 @@
 """The packets of a file that FFmpeg reads, and what else its container says, as ffprobe reports it."""
 from __future__ import annotations
 
+import bisect
 import collections
 import contextlib
 import dataclasses
@@ -19,6 +20,8 @@ from . import slice_footers, structure
 
 # How far after the place that ffprobe reports a packet's bytes are looked for, and after how many misses they no longer are.
 FARTHEST, MOST_MISSES = 64, 16
+# How far away a frame is looked for by its footers where bytes were lost before it, and how often.
+AROUND, MOST_SEARCHES = 1 << 15, 8
 # Who watches a copy is told how far ffprobe is once in so many lines.
 LINES_BETWEEN = 64
 MOST_REMEMBERED = 64
@@ -150,7 +153,8 @@ def ask(copy: Copy) -> Container:
     video = container.video()
     container.packets = locate(copy, container.packets, video)
     if any(packet.place is None for packet in container.packets if packet.stream in video):
-        container.packets = locate(copy, ask_for(copy, ["-show_data_hash", "crc32"], ",data_hash").packets, video)
+        hashed = locate(copy, ask_for(copy, ["-show_data_hash", "crc32"], ",data_hash").packets, video)
+        container.packets = [one if one.place is not None else other for one, other in zip(container.packets, hashed)]
     return container
 
 
@@ -212,15 +216,16 @@ def contain(copy: Copy) -> Container:
 
 class Locator:
     """Finds where the bytes of a stream's packets begin: some bytes after the place that is reported, or after the packet before it. How
-    far after is mostly the same, so what served last is tried first."""
+    far after is mostly the same, so what served last is tried first. `reported` are the places of all packets of a file that ends elsewhere
+    than it says: bytes are lost or added in it."""
 
-    def __init__(self, copy: Copy) -> None:
-        self.copy = copy
+    def __init__(self, copy: Copy, reported: typing.Sequence[int] = ()) -> None:
+        self.copy, self.reported = copy, sorted(reported)
         self.steps = [0, 4, 8, *(step for step in range(FARTHEST) if step not in (0, 4, 8))]
-        self.misses, self.end = 0, -1
+        self.misses, self.end, self.searches = 0, -1, 0
 
     def place(self, packet: Packet) -> typing.Optional[int]:
-        if packet.size > MOST_BYTES or packet.reported + packet.size > self.copy.size:
+        if packet.size > MOST_BYTES:
             return None
         place = self.search(packet)
         self.misses = 0 if place is not None else self.misses + 1
@@ -235,10 +240,26 @@ class Locator:
                 return packet.reported + step
         if packet.reported < self.end <= packet.reported + FARTHEST + packet.size and self.lies(packet, self.end):
             return self.end
-        return None
+        return self.search_around(packet)
+
+    def search_around(self, packet: Packet) -> typing.Optional[int]:
+        """Looks for a frame further away, and not where another one is reported: the file lost or gained bytes before it, and so has the next
+        one the same distance."""
+        if not self.reported or packet.digest is not None or self.searches >= MOST_SEARCHES:
+            return None
+        self.searches += 1
+        start, end = max(packet.reported - AROUND, self.end, 0), packet.reported + packet.size + AROUND
+        found = slice_footers.nearest(self.copy.read(start, max(end - start, 0)), packet.size, packet.reported - start)
+        at = bisect.bisect(self.reported, start + (found or 0))
+        if found is None or at and start + found - self.reported[at - 1] <= FARTHEST:
+            return None
+        self.steps.insert(0, start + found - packet.reported)
+        return start + found
 
     def lies(self, packet: Packet, place: int) -> bool:
         """Whether a packet's bytes lie at a place: they have its digest, or where none was asked for, they are a frame by their footers."""
+        if place < 0 or place + packet.size > self.copy.size:
+            return False
         if packet.digest is None:
             return slice_footers.seems_frame(self.copy, place, place + packet.size)
         piece = self.copy.read(place, packet.size)
@@ -247,6 +268,8 @@ class Locator:
 
 def locate(copy: Copy, packets: typing.Sequence[Packet], video: typing.Container[int]) -> list[Packet]:
     """The packets with their places. Without a digest those that are not of FFV1 tracks lie where they are reported, or some bytes after."""
-    locators: dict[int, Locator] = collections.defaultdict(lambda: Locator(copy))
+    end = structure.read(copy).end
+    reported = [packet.reported for packet in packets] if end is not None and end != copy.size else []
+    locators: dict[int, Locator] = collections.defaultdict(lambda: Locator(copy, reported))
     return [packet._replace(place=packet.reported) if packet.digest is None and packet.stream not in video
             else packet._replace(place=locators[packet.stream].place(packet)) for packet in packets]

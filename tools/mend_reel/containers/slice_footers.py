@@ -34,6 +34,24 @@ def seems_frame(copy: Copy, start: int, end: int) -> bool:
     return len(places) == ENOUGH_SLICES or bool(places) and places[-1] == start
 
 
+def nearest(data: bytes, size: int, middle: int) -> typing.Optional[int]:
+    """Returns where in some bytes a frame of a size lies by its footers, which lead from its end to its start: the one nearest to a place."""
+    places = sorted(range(len(data) - size + 1), key=lambda start: abs(start - middle))
+    return next((start for start in places if leads(data, start, start + size)), None)
+
+
+def leads(data: bytes, start: int, end: int) -> bool:
+    """Reports whether footers lead from the end of a range of some bytes to its start."""
+    while end - FOOTER >= start:
+        size = int.from_bytes(data[end - FOOTER : end - FOOTER + 3], "big")
+        end -= size + FOOTER
+        if size == 0:
+            return False
+        if end == start:
+            return True
+    return False
+
+
 def first_within(copies: typing.Iterable[Copy], first: int, last: int, end: int) -> typing.Optional[int]:
     """Returns where a frame begins that ends at a place, if the footers of some copy lead to a place between two others."""
     return next((place for copy in copies for place in starts(copy, first, end) if place <= last), None)

@@ -7,7 +7,7 @@ import itertools
 import os
 import typing
 
-from ..containers import ebml, ffmpeg_files
+from ..containers import ebml, ffmpeg_files, structure
 from ..containers.frame_times import lasts
 from ..judging.copy_health import CopyHealth, health, lack_parities, rotten
 from ..judging.frame_checks import Judge
@@ -175,6 +175,10 @@ class File:
     def layout(self) -> Layout:
         return self.recording.layout
 
+    def has_video(self) -> bool:
+        """Whether it has FFV1 frames, or a track of them in another form, of which the container's checksums are judged."""
+        return bool(self.layout.frames) or any(track.is_encoded for track in self.layout.tracks)
+
     def rotten(self) -> set[int]:
         return set() if lack_parities(self.layout, self.recording.copies) else rotten(self.layout, list(self.healths.values()))
 
@@ -212,20 +216,25 @@ def arrange(copies: typing.Sequence[Copy], judge: Judge,
     for each in numbers:
         own = [copies[number] for number in each]
         files.append(File(each, Recording(own, describe_file(own, judge))))
-    if not any(file.layout.frames for file in files):
+    if not any(file.has_video() for file in files):
         names = ", ".join(copy.path for copy in copies if copy.size)
         found = [f"no FFV1 video was found in {names}"] if names else []
-        raise Fault("; ".join([*found, *(f"{copy.path} is empty" for copy in copies if not copy.size)]))
+        lost = [f"{copy.path} has lost what says where its frames lie" for copy in copies if lacks_table(copy)]
+        raise Fault("; ".join([*found, *lost, *(f"{copy.path} is empty" for copy in copies if not copy.size)]))
     if len(files) == 1:
         return Arrangement(files[0].numbers, files[0].layout, left=left)
     basis = choose(files, copies, judge)
     return assemble(basis, [file for file in files if file is not basis], left, judge)
 
 
+def lacks_table(copy: Copy) -> bool:
+    return any(found.flaw is structure.Flaw.NO_TABLE for found in structure.read(copy).flaws)
+
+
 def choose(files: typing.Sequence[File], copies: typing.Sequence[Copy], judge: Judge) -> File:
     """The file that OUT is made of: the one for which most speaks. A file that shares nothing with any other serves only if it has several
     copies, or alone has something that passes."""
-    shown = [file for file in files if file.layout.frames]
+    shown = [file for file in files if file.has_video()]
     for file in shown:
         file.healths = {number: health(copies[number], at, file.layout, judge) for at, number in enumerate(file.numbers)}
     for file in shown:

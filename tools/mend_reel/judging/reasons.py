@@ -30,7 +30,7 @@ class Why(enum.Enum):
     NEVER_READ = "no copy could be read there, as their maps say; a further copy may have {it}"
     UNDIVIDED = "no copy's element headers lead through these bytes, so frames may be hidden there; a further copy may show them"
     HIDDEN = "{out} has the bytes, but its container does not show {it}; a further copy may have what shows {it}"
-    UNREAD = "its container can't be read; a further copy may have its headers"
+    UNREAD = "its container can't be read by what the copies have of its headers; a further copy may have more of them"
     HOLE = "the times of the frames around leave room for {it}, but {out} shows none; a further copy may have {it}"
     SHORT = "{out} ends before the time at which the file says that it does; a further copy may have the end"
     SHORTER = "{out} ends before the time at which copy {copy} says that the recording does; a further copy may have the end"

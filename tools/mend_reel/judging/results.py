@@ -203,7 +203,7 @@ class Results:
         known by its content alone is not."""
         gaps = {place for place, _ in self.layout.gaps}
         for number, (header, content) in enumerate(zip(self.stretches, self.stretches[1:])):
-            if (self.states[number] is State.ALONE and header.what.content is Content.FRAMING and header.start not in gaps
+            if (self.states[number] in (State.ALONE, State.READ) and header.what.content is Content.FRAMING and header.start not in gaps
                     and content.kind is Kind.ELEMENT and self.states[number + 1] in (State.WHOLE, State.WOVEN)):
                 self.states[number] = State.WHOLE
 

@@ -141,8 +141,8 @@ def of_records(evidence: Evidence) -> typing.Iterator[Reason]:
 
 def of_unchecked(results: Results) -> typing.Iterator[Reason]:
     """That no frame of a file that is checked has a checksum."""
-    frames = [number for number, stretch in enumerate(results.stretches) if results.numbers(stretch)]
-    if frames and all(results.state(number) is State.ALONE for number in frames):
+    frames = [number for number, stretch in enumerate(results.stretches) if results.numbers(stretch) or stretch.what.content in OF_CLUSTERS]
+    if all(results.state(number) is State.ALONE for number in frames):
         yield Reason(Why.UNCHECKED)
 
 

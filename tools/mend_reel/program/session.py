@@ -33,6 +33,7 @@ from .work_folder import WorkFolder
 
 NOWHERE = "/dev/null"
 PIECE = 1 << 20
+SUFFIXES = {MATROSKA: {".mkv", ".webm", ".mka"}, "avi": {".avi"}, "mov": {".mov", ".mp4", ".m4v", ".qt"}, "nut": {".nut"}, "mxf": {".mxf"}}
 
 
 @dataclasses.dataclass
@@ -155,7 +156,7 @@ class Session:
         others = {matched.number: describe([copies[matched.number]], self.judge, False) for matched in arrangement.matched}
         claims = [*comparison.claims, *(others[matched.number].claims.of_tracks(matched.tracks) for matched in arrangement.matched)]
         made = self.make(comparison)
-        self.notes += [*arrangement.notes(copies), *comparison.notes]
+        self.notes += [*arrangement.notes(copies), *comparison.notes, *self.names_otherwise(inputs)]
         verdict = judge(Evidence(
             layout, made.stretches, made.outcomes, made.out, claims, arrangement.matched, arrangement.left, inputs.numbers, others,
             bool(comparison.notes), made.decoded, self.compared(made.part or self.options.copies[0]), self.options.out is None, made.flaws,
@@ -197,6 +198,13 @@ class Session:
         if matroska.is_matroska([copy]):
             return MATROSKA
         return ffprobe.contain(copy).form if ffprobe.can_ask() else ""
+
+    def names_otherwise(self, inputs: Inputs) -> list[str]:
+        """That the name of OUT is one of another container."""
+        form = next((copy.form for copy in inputs.files[: inputs.own] if copy.form), "")
+        suffix = os.path.splitext(self.options.out or "")[1].lower()
+        named = {each for each, suffixes in SUFFIXES.items() if suffix in suffixes}
+        return [f"OUT is a file of {form}, though its name ends with {suffix}"] if named and form and form not in named else []
 
     def rotten(self, arrangement: Arrangement, layout: Layout, inputs: Inputs) -> set[int]:
         """The numbers of the frames that were damaged before the file was written: looked for with --check, and where other files are among
