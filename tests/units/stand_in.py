@@ -1,9 +1,12 @@
 """What stands in for ffv1restore in the unit tests: tests/readings.py, its second reading, as a program."""
 from __future__ import annotations
 
+import itertools
 import pathlib
 import sys
 
+if not hasattr(itertools, "pairwise"):  # Python 3.9, which the tool has to work with
+    itertools.pairwise = lambda items: zip(items, list(items)[1:])  # type: ignore[attr-defined]
 if __name__ == "__main__":
     sys.dont_write_bytecode = True
     sys.path.insert(0, str(pathlib.Path(__file__).resolve().parent.parent))
