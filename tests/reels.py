@@ -240,7 +240,7 @@ def other_file(numbers, folder, reel, name):
 
 def write_again(numbers, path, source, silent):
     """Writes a file again, the same bytes each time: by mkvmerge, if the ending is its own and it is installed, or by FFmpeg."""
-    if path.suffix == ".mkv" and not silent and path.stem in "bd" and shutil.which("mkvmerge"):
+    if path.suffix == ".mkv" and source.suffix != ".nut" and not silent and path.stem in "bd" and shutil.which("mkvmerge"):
         mkvmerge(path, source)
     else:
         ffmpeg("-i", source, "-map", "0:v:0" if silent else "0", "-map", "-0:t?", "-c", "copy", "-fflags", "+bitexact", path)
