@@ -5,7 +5,7 @@ from unittest import mock
 
 from mend_reel.containers import ffmpeg_files, stretch_builder
 from mend_reel.containers.ffprobe import Container, Packet
-from mend_reel.model import Claims, Content, Kind
+from mend_reel.model import Claims, Content, Frame, Kind, Track
 from . import made
 from .framed import SOUND, VIDEO, frame, judge
 
@@ -14,6 +14,17 @@ TRACK = dataclasses.replace(VIDEO, number=0)
 
 def packet(time, place, size, stream=0):
     return Packet(stream, time, place, size, True, 0, place)
+
+
+class RecordTest(unittest.TestCase):
+    def test_records_before_the_first_frame_and_after_the_last_one(self):
+        track = Track(0, Content.VIDEO, "ffv1", True, record=made.RECORD)
+        for content, place in ((made.noise(1, 70) + made.RECORD + made.noise(2, 400), 70), (made.noise(3, 300) + made.RECORD + b"end", 300)):
+            with made.opened(content) as (copy,):
+                found = ffmpeg_files.find_records(copy, [track], [Frame(0, 0.0, 100, 150)])
+                self.assertEqual(found, [(place, place + 6)])
+                made_ = ffmpeg_files.cover([copy], [], [], [track], copy.size, found)
+            self.assertEqual([(stretch.kind, stretch.start) for stretch in made_ if stretch.kind is Kind.RECORD], [(Kind.RECORD, place)])
 
 
 class ProbeTest(unittest.TestCase):

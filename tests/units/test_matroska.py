@@ -66,7 +66,7 @@ class Undamaged(Case):
     def test_clusters_without_crcs(self) -> None:
         found = layout(PLAIN_REEL, PLAIN_REEL)
         self.assertEqual([stretch.kind for stretch in of(found, Content.FRAME)], [Kind.FRAME] * 8)
-        self.assertTrue(all(stretch.kind is Kind.PLAIN for stretch in found.stretches if stretch.what.content is not Content.FRAME))
+        self.assertEqual({stretch.kind for stretch in found.stretches if stretch.what.content is not Content.FRAME}, {Kind.PLAIN, Kind.RECORD})
         sound = of(found, Content.SOUND)
         self.assertEqual(len(sound), 8)
         self.assertEqual({stretch.what.track for stretch in sound}, {2})
@@ -360,6 +360,26 @@ class Keys(unittest.TestCase):
         clusters = made.cluster(0, made.group(1, 0, framed.frame(1)), refers, made.group(1, 80, framed.frame(3)), crc=False)
         content = made.ebml_header() + made.element(made.SEGMENT, made.information(120), made.tracks(), clusters)
         self.assertEqual([frame.key for frame in layout(content).frames], [True, False, True])
+
+
+class Checks(unittest.TestCase):
+    """What has a check of its own where no element has one."""
+
+    SOUND = made.track(2, b"A_FLAC", 2)
+
+    def reel(self, crc):
+        blocks = made.block(1, 0, framed.frame(1)), made.block(2, 0, made.noise(1, 90)), made.block(2, 20, made.noise(2, 80))
+        return made.ebml_header() + made.element(made.SEGMENT, made.tracks(made.FFV1, self.SOUND, crc=crc), made.cluster(0, *blocks, crc=crc))
+
+    def test_records_and_sound_without_elements_that_have_a_crc(self):
+        content = self.reel(False)
+        found = [(stretch.kind, content[stretch.start : stretch.end]) for stretch in layout(content).stretches if stretch.kind in (Kind.RECORD, Kind.FLAC)]
+        self.assertEqual(found, [(Kind.RECORD, made.RECORD), (Kind.FLAC, made.noise(1, 90)), (Kind.FLAC, made.noise(2, 80))])
+
+    def test_sound_in_an_element_that_has_a_crc(self):
+        content = self.reel(True)
+        cluster = next(stretch for stretch in layout(content).stretches if stretch.parts)
+        self.assertEqual([content[place : place + size] for place, size in cluster.sound], [made.noise(1, 90), made.noise(2, 80)])
 
 
 class BadInput(unittest.TestCase):

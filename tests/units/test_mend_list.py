@@ -1,6 +1,7 @@
 """The list that the program mends by."""
 from __future__ import annotations
 
+import dataclasses
 import io
 import typing
 import unittest
@@ -31,6 +32,13 @@ class Lines(unittest.TestCase):
         lines, listed = write(first, second, third)
         self.assertEqual(lines, ["plain 40 1 0 5 -", "crc32 100 3 40 45 7", "part 6 10", "part 20 80", "frame 22 2 - 145 107"])
         self.assertEqual(listed, [first, second, third])
+
+    def test_records_and_frames_of_flac(self) -> None:
+        record, sound = stretch(Kind.RECORD, 0, 40, (0, 5)), stretch(Kind.FLAC, 40, 30, (40, 45))
+        element = dataclasses.replace(stretch(Kind.ELEMENT, 70, 100, (70, 75), 0, [(90, 10)]), sound=((80, 10), (110, 20), (165, 9)))
+        lines, listed = write(record, sound, element)
+        self.assertEqual(lines, ["record 40 1 0 5", "flac 30 1 40 45", "crc32 100 1 70 75", "part 10 10 flac", "part 20 10", "part 40 20 flac"])
+        self.assertEqual(listed[2].sound, ((80, 10), (110, 20)))
 
     def test_places_that_do_not_rise(self) -> None:
         lines, listed = write(stretch(Kind.PLAIN, 0, 10, (100, 0)), stretch(Kind.PLAIN, 10, 10, (109, 10)), stretch(Kind.PLAIN, 20, 10, (110, 19)),

@@ -301,6 +301,14 @@ class VerdictTest(unittest.TestCase):
                          [(Why.LACKS, Content.SOUND, 4), (Why.LACKS, Content.ATTACHMENTS, 4)])
         self.assertEqual((found.status, found.notes), (3, ["copy 5 has tags, and OUT has none"]))
 
+    def test_sound_that_passes_beside_what_is_lost_is_verified(self):
+        layout = recording()
+        layout.stretches[element(1)] = dataclasses.replace(layout.stretches[element(1)], sound=((634, 40), (680, 30), (1040, 50)))
+        slices = {0: (SliceReport(0, 40, "missing", 0, "00"),), 2: (missing(),), 3: (SliceReport(0, 50, "whole", 0, "10"),)}
+        found = verdict(layout, Outcome(element(1), State.MISSING, 0, "10", slices))
+        self.assertEqual((found.sums.verified, found.sums.open), (5 * 500 + 80, 420))
+        self.assertEqual([(reason.why, reason.frames) for reason in found.reasons], [(Why.DAMAGED, (1, 1))])
+
     def test_a_digest_decides(self):
         of_all, of_frames = (Compared(True, "it is the original", is_of_all) for is_of_all in (True, False))
         lost = Outcome(element(1), State.MISSING, 0, "10", {0: (missing(),)})

@@ -24,6 +24,8 @@ class Kind(enum.Enum):
 
     FRAME = "frame"
     ELEMENT = "crc32"
+    RECORD = "record"
+    FLAC = "flac"
     PLAIN = "plain"
 
 
@@ -81,7 +83,8 @@ class What:
 @dataclasses.dataclass(frozen=True)
 class Track:
     """A track as the container describes it. `step` is the time from a frame to the next, where the container gives it, `byte_rate` how many
-    bytes of PCM play in a second. `is_encoded` is whether FFV1 frames are stored in another form: compressed, say."""
+    bytes of PCM play in a second. `is_encoded` is whether FFV1 frames are stored in another form: compressed, say; `is_flac`, whether each
+    block is a frame of FLAC."""
 
     number: int
     content: Content
@@ -93,6 +96,7 @@ class Track:
     step: typing.Optional[float] = None
     byte_rate: float = 0.0
     is_encoded: bool = False
+    is_flac: bool = False
 
 
 @dataclasses.dataclass(frozen=True)
@@ -146,7 +150,7 @@ class Stretch:
     that lie within an element, by their places in OUT; a stretch of the kind FRAME has its own frame as its only one. `vouched` are
     the copies of which the container itself confirms what they have here (a header that leads to the next element, say). `is_read` is
     whether some copy has it, and a map says of each other one that it could not be read there; `is_unread`, whether maps say so of all.
-    `is_alike` is whether all copies that have it are known to have it alike. `source` is the copy FROM, and `because` says why."""
+    `sound` are places and sizes of FLAC frames in an element. `is_alike` is whether all copies that have it are known to have it alike. `source` is the copy FROM, and `because` says why."""
 
     kind: Kind
     start: int
@@ -154,6 +158,7 @@ class Stretch:
     what: What
     places: tuple[typing.Optional[int], ...] = ()
     parts: tuple[Frame, ...] = ()
+    sound: tuple[tuple[int, int], ...] = ()
     vouched: frozenset[int] = frozenset()
     is_read: bool = False
     is_unread: bool = False
@@ -164,6 +169,10 @@ class Stretch:
     @property
     def end(self) -> int:
         return self.start + self.size
+
+    def listed_parts(self) -> list[tuple[int, int, bool]]:
+        """The places and sizes of the parts as they are listed, and whether each is a frame of FLAC."""
+        return sorted([*((frame.place, frame.size, False) for frame in self.parts), *((*each, True) for each in self.sound)])
 
 
 @dataclasses.dataclass

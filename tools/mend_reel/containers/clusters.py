@@ -26,7 +26,7 @@ SIZE = rb"(?:[\x80-\xfe]|[\x40-\x7f].|[\x20-\x3f].{2}|[\x10-\x1f].{3}|[\x08-\x0f
 class Item(typing.NamedTuple):
     """A run of bytes of a cluster: what it is, of which track and when, if it is of a block, and the copies that its container vouches
     for there. `frame` is set where it is a frame of an FFV1 track, `is_gap` where no copy divides it, `lasts` where its length of
-    time is given."""
+    time is given, `is_flac` where it is a frame of FLAC."""
 
     start: int
     end: int
@@ -37,6 +37,7 @@ class Item(typing.NamedTuple):
     frame: typing.Optional[Frame] = None
     is_gap: bool = False
     lasts: float = 0.0
+    is_flac: bool = False
 
 
 class BlockHead(typing.NamedTuple):
@@ -122,7 +123,7 @@ class Clusters:
                 time = self._seconds(start + block.time)
                 expected[block.track] = round(time + self.steps.get(block.track, time - last.get(block.track, time)), DIGITS)
                 last[block.track] = time
-                if track.is_ffv1:
+                if track.is_ffv1 or track.is_flac:
                     items.append(Item(place, block.payload, Content.FRAMING, block.track, time))
                     place = block.payload
                 items.append(self._payload(block, head.end, track, time, bool(block.flags & KEY))._replace(start=place))
@@ -241,7 +242,7 @@ class Clusters:
             return
         time, track = self._time(head, start), self.tracks.get(head.track)
         is_ffv1 = track is not None and track.is_ffv1
-        if not is_ffv1 and len(child.vouched) >= len(self.aligned.reaching(child.content - 1)):
+        if not is_ffv1 and not (track and track.is_flac) and len(child.vouched) >= len(self.aligned.reaching(child.content - 1)):
             yield Item(child.place, child.end, track.content if track else Content.UNKNOWN, head.track, time)
             return
         yield from framing(child, head.track, time)
@@ -273,7 +274,7 @@ class Clusters:
         if track and track.is_ffv1 and not head.flags & LACING:
             frame = Frame(head.track, time, head.payload, end - head.payload, key)
             return Item(head.payload, end, Content.FRAME, head.track, time, frame=frame)
-        return Item(head.payload, end, content, head.track, time)
+        return Item(head.payload, end, content, head.track, time, is_flac=bool(track and track.is_flac and not head.flags & LACING))
 
     def _group(self, child: elements.Child, start: typing.Optional[int]) -> typing.Iterator[Item]:
         """Yields the items of a BlockGroup."""

@@ -7,10 +7,12 @@ import dataclasses
 import typing
 
 from ..judging.frame_checks import Judge, Judged
-from ..model import Claims, Content, Copy, Frame, Layout, Stretch, Track, What
+from ..model import Claims, Content, Copy, Frame, Kind, Layout, Stretch, Track, What
 from . import structure
 from .ffprobe import Container, Packet, contain, with_records
 from .stretch_builder import Stretches
+
+MOST_HEADER, FEWEST_RECORD = 1 << 24, 6
 
 # Where a packet lies: its place, its size, and its track.
 Spot = tuple[int, int, int]
@@ -36,9 +38,23 @@ def layout(copies: typing.Sequence[Copy], judge: typing.Optional[Judge] = None, 
     structures = [structure.read(copy) for copy in copies]
     size, end = ends_at([copy.size for copy in copies], [each.end for each in structures])
     found = [frame for frame in found if frame.end <= size]
-    stretches = cover(copies, found, shown.others(found), base.tracks, size)
-    tracks = with_records(copies[containers.index(base)], base.tracks) if records else base.tracks
+    copy = copies[containers.index(base)]
+    tracks = with_records(copy, base.tracks) if records else base.tracks
+    described = find_records(copy, tracks, found)
+    stretches = cover(copies, found, shown.others(found), base.tracks, size, described)
     return Layout(size, tracks, found, stretches, common_claims(containers, base), end=end)
+
+
+def find_records(copy: Copy, tracks: typing.Sequence[Track], frames: typing.Sequence[Frame]) -> list[tuple[int, int]]:
+    """From where to where Configuration Records lie in a file: before its first frame, or after its last one."""
+    if not frames:
+        return []
+    found = []
+    for start, size in ((0, min(frames[0].place, MOST_HEADER)), (frames[-1].end, min(copy.size - frames[-1].end, MOST_HEADER))):
+        data = copy.read(start, size)
+        found += [(start + data.find(record), start + data.find(record) + len(record)) for record in {track.record for track in tracks if track.is_ffv1}
+                  if len(record) >= FEWEST_RECORD and record in data]
+    return found
 
 
 def ends_at(sizes: typing.Sequence[int], ends: typing.Sequence[typing.Optional[int]]) -> tuple[int, typing.Optional[int]]:
@@ -50,18 +66,22 @@ def ends_at(sizes: typing.Sequence[int], ends: typing.Sequence[typing.Optional[i
 
 
 def cover(copies: typing.Sequence[Copy], frames: typing.Sequence[Frame], others: typing.Sequence[tuple[Spot, Packet]],
-          tracks: typing.Sequence[Track], size: int) -> list[Stretch]:
-    """The stretches that cover a file: its frames, other packets, and what lies between them."""
+          tracks: typing.Sequence[Track], size: int, records: typing.Iterable[tuple[int, int]]) -> list[Stretch]:
+    """The stretches that cover a file: its frames, other packets, Configuration Records, and what lies between them."""
     steps, kinds = {track.number: track.step or 0.0 for track in tracks}, {track.number: track.content for track in tracks}
     packets: list[tuple[int, int, What, typing.Optional[Frame]]] = [
         (frame.place, frame.end, What(Content.FRAME, frame.track, frame.time, frame.time + steps.get(frame.track, 0.0)), frame) for frame in frames]
     packets += [(place, place + length, What(kinds.get(stream, Content.UNKNOWN), stream, packet.time, packet.time + packet.lasts), None)
                 for (place, length, stream), packet in others if place + length <= size]
+    first, last = min((packet[0] for packet in packets), default=0), max((packet[1] for packet in packets), default=size)
+    packets += [(start, stop, What(Content.TRACKS), None) for start, stop in records if stop <= size]
     made, end = Stretches(copies), 0
     for start, stop, what, frame in sorted(packets, key=lambda packet: packet[0]):
-        made.plain(end, start, What(Content.UNKNOWN if end else Content.HEADER))
+        made.plain(end, start, What(Content.HEADER if start <= first else Content.INDEX if end >= last else Content.UNKNOWN))
         if frame:
             made.frame(frame, what)
+        elif what.content is Content.TRACKS:
+            made.checked(Kind.RECORD, start, stop, what)
         else:
             made.plain(start, stop, what)
         end = stop

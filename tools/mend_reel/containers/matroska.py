@@ -2,9 +2,10 @@
 from __future__ import annotations
 
 import dataclasses
+import itertools
 import typing
 
-from ..model import Claims, Content, Copy, Layout, Track, What
+from ..model import Claims, Content, Copy, Kind, Layout, Track, What
 from . import clusters, ebml, elements, metadata, slice_footers, structure
 from .aligned_copies import NONE, WINDOW, AlignedCopies, Budget, Numbers, Steps
 from .stretch_builder import MOST_STRETCH, Stretches
@@ -16,7 +17,7 @@ CONTENTS = {EBML: Content.HEADER, 0x114D9B74: Content.SEEK_HEAD, metadata.INFORM
 MASTERS = frozenset(CONTENTS.values()) - {Content.CLUSTER, Content.PADDING}
 STRONG = frozenset(CONTENTS) - {clusters.VOID} | {SEGMENT}
 SIGNS = [identity.to_bytes(4, "big") for identity in sorted(STRONG)]
-MOST_METADATA = 1 << 24
+MOST_METADATA, FEWEST_RECORD = 1 << 24, 6
 PASSES_OVER_THE_FILE = 4
 FIRST_BYTES = 1 << 20
 CLUSTERS_TO_GUESS_BY = 16
@@ -211,7 +212,18 @@ class MatroskaReader:
                 self.stretches.element(child.content, child.end, what)
             else:
                 vouched = self._sound_headers(child) if child.identity == EBML else NONE
-                self.stretches.plain(child.content, child.end, what, vouched)
+                records = self._records(child) if child.identity == metadata.TRACKS else []
+                for start, end, is_record in with_records(child.content, child.end, records):
+                    if is_record:
+                        self.stretches.checked(Kind.RECORD, start, end, what)
+                    else:
+                        self.stretches.plain(start, end, what, vouched)
+
+    def _records(self, child: elements.Child) -> list[tuple[int, int]]:
+        """Returns from where to where the Configuration Records of FFV1 tracks lie in what describes the tracks."""
+        content, records = self._content(child), [track.record for track in self.metadata.tracks if track.is_ffv1]
+        starts = [(child.content + content.find(record), len(record)) for record in records if len(record) >= FEWEST_RECORD and record in content]
+        return [(start, start + size) for start, size in sorted(starts)]
 
     def _has_crc(self, child: elements.Child) -> bool:
         """Reports whether an element's content begins with a CRC-32 in some copy."""
@@ -236,7 +248,8 @@ class MatroskaReader:
             return
         timed = [item for item in items if item.time is not None]
         what = What(Content.CLUSTER, None, min((item.time for item in timed), default=None), max(map(self._end, timed), default=None))
-        self.stretches.element(child.content, child.end, what, [item.frame for item in items if item.frame])
+        sound = [(item.start, item.end - item.start) for item in items if item.is_flac]
+        self.stretches.element(child.content, child.end, what, [item.frame for item in items if item.frame], sound)
 
     def _end(self, item: clusters.Item) -> float:
         track = self.clusters.tracks.get(item.track or 0)
@@ -257,8 +270,21 @@ class MatroskaReader:
                 self.gaps.append((item.start, item.end - item.start))
             if item.frame:
                 self.stretches.frame(item.frame, what)
+            elif item.is_flac:
+                self.stretches.checked(Kind.FLAC, item.start, item.end, what)
             else:
                 self.stretches.plain(item.start, item.end, what, item.vouched)
+
+
+def with_records(start: int, end: int, records: typing.Iterable[tuple[int, int]]) -> typing.Iterator[tuple[int, int, bool]]:
+    """Yields the parts of a range, and whether each is a Configuration Record."""
+    for first, last in records:
+        if start <= first:
+            yield from [(start, first, False)] if start < first else []
+            yield first, last, True
+            start = last
+    if start < end:
+        yield start, end, False
 
 
 def layout(copies: typing.Sequence[Copy]) -> Layout:
@@ -269,9 +295,11 @@ def layout(copies: typing.Sequence[Copy]) -> Layout:
 def flaws(copy: Copy, layout: Layout) -> typing.Iterator[structure.Found]:
     """Yields where the elements of a file, which a layout describes, lead nowhere within top-level ones, which of these have no CRC-32, and
     what lies after its end."""
-    for stretch in layout.stretches:
-        if stretch.what.content in MASTERS and stretch.size <= MOST_METADATA and not structure.divides(copy.read(stretch.start, stretch.size)):
-            yield structure.Found(structure.Flaw.BROKEN, stretch.start, stretch.end)
+    for content, stretches in itertools.groupby(layout.stretches, key=lambda stretch: stretch.what.content):
+        pieces = list(stretches) if content in MASTERS else []
+        size = pieces[-1].end - pieces[0].start if pieces else 0
+        if 0 < size <= MOST_METADATA and not structure.divides(copy.read(pieces[0].start, size)):
+            yield structure.Found(structure.Flaw.BROKEN, pieces[0].start, pieces[-1].end)
     yield from (structure.Found(structure.Flaw.BARE, *each) for each in layout.bare)
     if layout.end is not None and layout.end < copy.size:
         yield structure.Found(structure.Flaw.AFTER_END, layout.end, copy.size)

@@ -62,6 +62,7 @@ def read_track(entry: typing.Mapping[int, bytes]) -> typing.Optional[Track]:
                  width=ebml.number(video.get(WIDTH, b"")), height=ebml.number(video.get(HEIGHT, b"")),
                  record=private[WINDOWS_HEADER:] if is_windows else private, step=step or None,
                  is_encoded=(codec == "V_FFV1" or is_windows) and ENCODINGS in entry,
+                 is_flac=codec == "A_FLAC" and ENCODINGS not in entry,
                  byte_rate=rate if codec.startswith("A_PCM") and 0 < rate < float("inf") else 0.0)
 
 

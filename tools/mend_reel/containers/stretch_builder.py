@@ -39,7 +39,7 @@ class Stretches:
             return
         for place in range(start, end, MOST_PLAIN):
             stop = min(place + MOST_PLAIN, end)
-            self.made.append(Stretch(Kind.PLAIN, place, stop - place, what, self._places(place, stop), (), vouched))
+            self.made.append(Stretch(Kind.PLAIN, place, stop - place, what, self._places(place, stop), vouched=vouched))
 
     def frame(self, frame: Frame, what: What) -> None:
         """Adds a frame that no element's CRC-32 covers."""
@@ -49,7 +49,12 @@ class Stretches:
         else:
             self.made.append(Stretch(Kind.FRAME, frame.place, frame.size, what, self._places(frame.place, frame.end), (frame,)))
 
-    def element(self, start: int, end: int, what: What, parts: typing.Sequence[Frame] = ()) -> None:
+    def element(self, start: int, end: int, what: What, parts: typing.Sequence[Frame] = (),
+                sound: typing.Sequence[tuple[int, int]] = ()) -> None:
         """Adds the content of an element that has a CRC-32."""
         self.frames += parts
-        self.made.append(Stretch(Kind.ELEMENT, start, end - start, what, self._places(start, end), tuple(parts)))
+        self.made.append(Stretch(Kind.ELEMENT, start, end - start, what, self._places(start, end), tuple(parts), tuple(sound)))
+
+    def checked(self, kind: Kind, start: int, end: int, what: What) -> None:
+        """Adds what has a check of its own: a Configuration Record, or a frame of FLAC."""
+        self.made.append(Stretch(kind, start, end - start, what, self._places(start, end)))

@@ -45,8 +45,9 @@ def decoded(layout: Layout, stretches: typing.Sequence[Stretch], outcomes: typin
     for outcome in outcomes:
         stretch = stretches[outcome.number]
         for part, slices in outcome.slices.items():
-            frame = stretch.parts[part]
-            if outcome.state is not State.MISSING or not is_guessed(slices) or frame.track not in tracks:
+            place, _, is_flac = stretch.listed_parts()[part]
+            frame = next((frame for frame in stretch.parts if frame.place == place), None)
+            if is_flac or frame is None or outcome.state is not State.MISSING or not is_guessed(slices) or frame.track not in tracks:
                 continue
             if decodes(tracks[frame.track], frame):
                 found.add(frame.place)

@@ -117,7 +117,7 @@ class Results:
 
     def add(self, number: int, stretch: Stretch, outcome: Outcome) -> None:
         """Adds those frames of a stretch that some copy has damaged. A frame that no checksum is of may lie in several stretches."""
-        parts = {frame.place: part for part, frame in enumerate(stretch.parts)}
+        parts = {place: part for part, (place, _, is_flac) in enumerate(stretch.listed_parts()) if not is_flac}
         for at in self.numbers(stretch):
             result, known = self.judge(number, outcome, parts.get(self.places[at]), at), self.frames.get(at)
             if result and known:
@@ -220,7 +220,13 @@ class Results:
             result = self.frames.get(at)
             if not result or result.slices and is_given(result.slices) or self.places[at] in self.decoded:
                 given += parts.get(self.places[at], 0)
-        return given
+        return given + self.given_sound(number, stretch)
+
+    def given_sound(self, number: int, stretch: Stretch) -> int:
+        """How many bytes of the FLAC frames in an element pass in OUT: the program lists those that do not."""
+        slices = self.outcomes[number].slices if number in self.outcomes else {}
+        return sum(size for part, (_, size, is_flac) in enumerate(stretch.listed_parts())
+                   if is_flac and all(each.state == "whole" for each in slices.get(part, ())))
 
     def verified_in(self, copy: int) -> int:
         """How many bytes of a copy pass a checksum: those of stretches that do, and that it has as OUT has them."""

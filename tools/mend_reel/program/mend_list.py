@@ -50,19 +50,20 @@ def pieces(stretch: Stretch) -> typing.Iterator[Stretch]:
 def rising(stretch: Stretch, ends: typing.Sequence[int]) -> Stretch:
     """Returns a stretch without the places that begin before the end of the stretch before, and without parts that can't be listed."""
     places = tuple(None if place is None or place < end else place for place, end in zip(stretch.places, ends))
-    parts = tuple(listable(stretch)) if stretch.kind is Kind.ELEMENT else stretch.parts
-    if places == stretch.places and parts == stretch.parts:
-        return stretch
-    return dataclasses.replace(stretch, places=places, parts=parts)
+    if stretch.kind is Kind.ELEMENT:
+        listed = {(place, size) for place, size, _ in listable(stretch)}
+        stretch = dataclasses.replace(stretch, parts=tuple(frame for frame in stretch.parts if (frame.place, frame.size) in listed),
+                                      sound=tuple(each for each in stretch.sound if each in listed))
+    return stretch if places == stretch.places else dataclasses.replace(stretch, places=places)
 
 
-def listable(stretch: Stretch) -> typing.Iterator[Frame]:
-    """Yields the frames of an element that rise, begin after its CRC-32, and end within it."""
+def listable(stretch: Stretch) -> typing.Iterator[tuple[int, int, bool]]:
+    """Yields the parts of an element that rise, begin after its CRC-32, and end within it."""
     end = stretch.start + FIRST_PART
-    for frame in stretch.parts:
-        if end <= frame.place and frame.size > 0 and frame.end <= stretch.end:
-            yield frame
-            end = frame.end
+    for place, size, is_flac in stretch.listed_parts():
+        if end <= place and size > 0 and place + size <= stretch.end:
+            yield place, size, is_flac
+            end = place + size
 
 
 def lines(stretch: Stretch) -> typing.Iterator[str]:
@@ -70,5 +71,5 @@ def lines(stretch: Stretch) -> typing.Iterator[str]:
     places = " ".join("-" if place is None else str(place) for place in stretch.places)
     yield f"{stretch.kind.value} {stretch.size} {stretch.source + 1} {places}\n"
     if stretch.kind is Kind.ELEMENT:
-        for frame in stretch.parts:
-            yield f"part {frame.place - stretch.start} {frame.size}\n"
+        for place, size, is_flac in stretch.listed_parts():
+            yield f"part {place - stretch.start} {size}{' flac' if is_flac else ''}\n"

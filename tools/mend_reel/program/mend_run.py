@@ -39,12 +39,13 @@ class ReportReader:
     def read_slices(self) -> tuple[SliceReport, ...]:
         """The slices of a frame, and what its footers do not divide."""
         places = []
-        while self.words and self.words[0] != "end":
+        while self.words and self.words[0] not in ("end", "part", "stretch"):
             places.append(read_place(self.words))
             self.next()
-        if self.words[1:2] == ["broken"]:
+        if self.words[:2] == ["end", "broken"]:
             places.append(SliceReport(0, int(self.words[3]), "broken"))
-        self.next()
+        if self.words[:1] == ["end"]:
+            self.next()
         return tuple(places)
 
     def read_stretch(self) -> Outcome:
@@ -93,7 +94,7 @@ def mend(program: str, stretches: typing.Sequence[Stretch], listed: pathlib.Path
         faults.seek(0)
         judge_end(child.returncode, faults.read(), {out: out_name, **{str(name): copy.path for name, copy in zip(names, copies)}})
     good = all(outcome.state.is_good() for outcome in found)
-    if count != len(stretches) or child.returncode not in ({0, 3} if good and is_alone else {0} if good else {3}):
+    if count != len(stretches) or (child.returncode == 0) != (good and not is_alone):
         raise Fault(f"{program} did not report what became of each stretch")
     return found
 
