@@ -81,6 +81,15 @@ class StructureTest(unittest.TestCase):
         fragmented = atom(b"ftyp", b"qt  ") + atom(b"moov", trak(7, 0) + trak(9, 2)) + fragment(7, 3) + fragment(9, 1) + fragment(7, 2)
         self.assertEqual((self.read(fragmented).counts, self.read(fragmented).flaws), ({0: 5, 1: 3}, []))
 
+    def test_heads_alone_cost_no_more_than_a_file_of_their_size_may(self):
+        inner = chunk(b"RIFF", b"AVI " + chunk(b"LIST", b"movi" + b"00dc\0\0\0\0" * 50000))
+        for content in (inner, avi() + b"RIFF\x04\0\0\0AVIX" * 50000, MOV + b"\0\0\0\x08free" * 50000, MOV + b"\0\0\0\x08moof" * 50000):
+            with self.subTest(size=len(content)), made.opened(content) as (copy,):
+                read = []
+                copy.watch = read.append
+                self.assertTrue(structure.read(copy).flaws)
+                self.assertLess(len(read), 30000)
+
     def test_lists_in_lists_without_end(self):
         deep = b""
         for _ in range(40):

@@ -8,6 +8,7 @@ import typing
 
 from ..model import Copy
 from . import ebml
+from .aligned_copies import Steps
 
 NAME = re.compile(rb"[\x20-\x7e\xa9][\x20-\x7e]{3}")
 MEDIA = re.compile(rb"([0-9]{2})(?:d[bc]|wb|tx)")
@@ -80,7 +81,7 @@ class Avi:
     """Walks the chunks of an AVI file."""
 
     def __init__(self, copy: Copy) -> None:
-        self.copy, self.made = copy, Structure()
+        self.copy, self.made, self.steps = copy, Structure(), Steps(copy.size)
         self.chunks: dict[int, int] = {}
         self.lengths: list[tuple[bytes, int]] = []
         self.indexed: typing.Optional[tuple[int, int, int]] = None
@@ -89,7 +90,7 @@ class Avi:
         place, size, first = 0, self.copy.size, 0
         while place < size:
             head = self.copy.read(place, 12)
-            if head[:4] != b"RIFF" or head[8:] not in (b"AVI ", b"AVIX"):
+            if head[:4] != b"RIFF" or head[8:] not in (b"AVI ", b"AVIX") or not self.steps.take():
                 break
             end = place + 8 + int.from_bytes(head[4:8], "little")
             self.walk(place + 12, min(end, size))
@@ -107,7 +108,7 @@ class Avi:
         while place < end:
             head = self.copy.read(place, 12)
             after = place + 8 + int.from_bytes(head[4:8], "little")
-            if not NAME.fullmatch(head[:4]) or after > end and end < self.copy.size or depth > MOST_DEPTH:
+            if not NAME.fullmatch(head[:4]) or after > end and end < self.copy.size or depth > MOST_DEPTH or not self.steps.take():
                 self.made.flaws.append(Found(Flaw.BROKEN, place, end))
                 return
             media = MEDIA.fullmatch(head[:4])
@@ -130,7 +131,7 @@ class Mov:
     """Walks the atoms of a MOV or MP4 file, and counts the samples in its tables, of fragments too."""
 
     def __init__(self, copy: Copy) -> None:
-        self.copy, self.made = copy, Structure()
+        self.copy, self.made, self.steps = copy, Structure(), Steps(copy.size)
         self.tracks: list[int] = []
         self.samples: dict[int, int] = {}
         self.track, self.has_tables = 0, False
@@ -153,7 +154,7 @@ class Mov:
             if size == 1:
                 size, content = int.from_bytes(head[8:16], "big"), place + 16
             after = end if size == 0 and not depth else place + size
-            if not NAME.fullmatch(head[4:8]) or after < content or depth and after > end or depth > MOST_DEPTH:
+            if not NAME.fullmatch(head[4:8]) or after < content or depth and after > end or depth > MOST_DEPTH or not self.steps.take():
                 if not depth and self.has_tables and is_uniform(self.copy, place):
                     return place
                 self.made.flaws.append(Found(Flaw.BROKEN, place, end))
