@@ -6,7 +6,7 @@ import tempfile
 import unittest
 from unittest import mock
 
-from mend_reel.judging import digests, frame_digests
+from mend_reel.judging import digests, frame_digests, kept_digest
 from mend_reel.model import Fault
 from . import made
 
@@ -43,7 +43,7 @@ class DigestTest(unittest.TestCase):
     def compare(self, lines, named="/films/out.mkv", copies=()):
         kept = self.folder / "kept"
         kept.write_bytes(lines if isinstance(lines, bytes) else lines.encode())
-        return digests.compare(str(kept), str(self.folder / "part"), named, copies)
+        return kept_digest.compare(str(kept), str(self.folder / "part"), named, copies)
 
     def test_each_way_to_write_a_digest(self):
         for line in (f"{MD5}  out.mkv\n", f"{SHA1} *out.mkv", f"{SHA256}  /somewhere/else/out.mkv\r\n", f"SHA256 (out.mkv) = {SHA256}",
@@ -95,7 +95,7 @@ class DigestTest(unittest.TestCase):
 
     def test_a_file_that_is_not_there(self):
         with self.assertRaisesRegex(Fault, "cannot read /nowhere"):
-            digests.compare("/nowhere", str(self.folder / "part"), "out", [])
+            kept_digest.compare("/nowhere", str(self.folder / "part"), "out", [])
 
     def test_the_digest_of_a_copy(self):
         with made.opened(CONTENT) as (copy,):
@@ -145,9 +145,9 @@ class FrameDigestTest(unittest.TestCase):
             pathlib.Path(kept).write_text(FRAMES)
             other = self.read(FRAMES.replace("b" * 32, "e" * 32).replace("d" * 32, "e" * 32))
             with mock.patch.object(frame_digests, "make", return_value=other):
-                found = digests.compare(kept, "/a.mkv", "out.mkv", [])
+                found = kept_digest.compare(kept, "/a.mkv", "out.mkv", [])
             with mock.patch.object(frame_digests, "make", return_value=self.read(FRAMES)):
-                same = digests.compare(kept, "/a.mkv", "out.mkv", [])
+                same = kept_digest.compare(kept, "/a.mkv", "out.mkv", [])
         self.assertFalse(found.is_original)
         self.assertTrue(found.text.endswith("differ: stream 0: frames 1 to 2"))
         self.assertEqual(found.differing, {0: [1, 2]})

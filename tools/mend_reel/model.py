@@ -205,7 +205,8 @@ def unwatched(place: int) -> None:
 @dataclasses.dataclass
 class Copy:
     """A copy: its path, its open file, and its length in bytes. `form` is the container's name: `matroska`, one of FFmpeg's, or empty. `unread`
-    is from where to where it could not be read when it was made, by a map. `watch` is called with each place that is read."""
+    is from where to where it could not be read when it was made, by a map. `watch` is called with each place that is read.
+    `container` is what ffprobe reported of it, once it was asked."""
 
     path: str
     file: int
@@ -213,6 +214,7 @@ class Copy:
     form: str = ""
     unread: typing.Sequence[tuple[int, int]] = ()
     watch: typing.Callable[[int], None] = unwatched
+    container: typing.Any = dataclasses.field(default=None, repr=False, compare=False)
 
     def read(self, place: int, size: int) -> bytes:
         """Bytes of the file; fewer where it ends."""

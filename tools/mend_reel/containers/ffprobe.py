@@ -6,10 +6,8 @@ import collections
 import contextlib
 import dataclasses
 import math
-import os
 import shutil
 import subprocess
-import threading
 import typing
 import zlib
 
@@ -24,7 +22,6 @@ FARTHEST, MOST_MISSES = 64, 16
 AROUND, MOST_SEARCHES = 1 << 15, 8
 # Who watches a copy is told how far ffprobe is once in so many lines.
 LINES_BETWEEN = 64
-MOST_REMEMBERED = 64
 ENTRIES = ("packet=stream_index,pts_time,dts_time,duration_time,size,pos,flags"
            "{more}:stream=index,codec_type,codec_name,width,height,avg_frame_rate,nb_frames,duration,start_time:format=format_name,duration")
 CONTENTS = {"video": Content.VIDEO, "audio": Content.SOUND, "subtitle": Content.SUBTITLES}
@@ -193,22 +190,11 @@ def with_records(copy: Copy, tracks: typing.Sequence[Track]) -> list[Track]:
     return made
 
 
-LOCK = threading.Lock()
-REMEMBERED: dict[tuple[int, int, int, int], Container] = {}
-
-
 def contain(copy: Copy) -> Container:
-    """What ffprobe reports of a copy. It is asked once for a file that does not change."""
-    state = os.fstat(copy.file)
-    file = state.st_dev, state.st_ino, state.st_size, state.st_mtime_ns
-    known = REMEMBERED.get(file)
-    if known is None:
-        known = ask(copy) if copy.size else Container()
-        with LOCK:
-            while len(REMEMBERED) >= MOST_REMEMBERED:
-                del REMEMBERED[next(iter(REMEMBERED))]
-            REMEMBERED[file] = known
-    return known
+    """What ffprobe reports of a copy. It is asked once."""
+    if copy.container is None:
+        copy.container = ask(copy) if copy.size else Container()
+    return copy.container
 
 
 # ---- where the bytes of packets lie
