@@ -150,7 +150,8 @@ class Stretch:
     that lie within an element, by their places in OUT; a stretch of the kind FRAME has its own frame as its only one. `vouched` are
     the copies of which the container itself confirms what they have here (a header that leads to the next element, say). `is_read` is
     whether some copy has it, and a map says of each other one that it could not be read there; `is_unread`, whether maps say so of all.
-    `sound` are places and sizes of FLAC frames in an element. `is_alike` is whether all copies that have it are known to have it alike. `source` is the copy FROM, and `because` says why."""
+    `sound` are places and sizes of FLAC frames in an element. `is_alike` is whether all copies that have it are known to have it alike.
+    `source` is the copy FROM, and `because` says why."""
 
     kind: Kind
     start: int
