@@ -1,6 +1,7 @@
 """Calls of the tool, with a stand-in for ffv1restore: what they print, what they make, and what a slip of the hand costs."""
 from __future__ import annotations
 
+import ast
 import json
 import os
 import pathlib
@@ -188,6 +189,23 @@ class ReaderTest(InFolder):
             done = self.call("-o", "out.mkv", "b.mkv", stdout=full)
             self.assertEqual((done.returncode, self.read("out.mkv")), (1, REEL))
             self.assertEqual(done.stderr.decode(), "mend-reel: cannot write standard output: No space left on device; out.mkv was made\n")
+
+
+class MendTest(InFolder):
+    def test_all_of_the_file_is_mended_once(self) -> None:
+        """Where another copy turns out to be the one to follow, only what is taken from it is made anew."""
+        log = self.work.parent / "log"
+        self.program = stand_in.make(self.work.parent, f"if words[0] == 'mend':\n    open({str(log)!r}, 'a').write(repr(open(words[1]).read()) + '\\n')")
+        content = (TESTS / "real/matroska-no-crc/reel.mkv").read_bytes()
+        self.write("c.mkv", content[:3300] + bytes([content[3300] ^ 1]) + content[3301:5000] + b"ABCDEFGHIJ" + content[5010:])
+        self.write("d.mkv", content)
+        self.assertIn(self.call("-o", "out.mkv", "c.mkv", "d.mkv").returncode, (0, 3))
+        self.assertEqual(self.read("out.mkv"), content)
+        lists = [ast.literal_eval(line).splitlines() for line in log.read_text().splitlines()]
+        sizes = [sum(int(line.split()[1]) for line in each if not line.startswith("part")) for each in lists]
+        self.assertEqual(sizes[0], len(content))
+        self.assertEqual(len(sizes), 2)
+        self.assertLess(sizes[1], 1000)
 
 
 class InterruptedTest(InFolder):
