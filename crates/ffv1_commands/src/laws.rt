@@ -69,15 +69,16 @@ pub fn any_order_makes_one_file()
 {}
 
 /// Where `mend` returns `true`, what becomes of each stretch is vouched for, and so each byte of OUT lies in a stretch that passes its
-/// checksum, or that two copies at least have alike: an element passes its CRC-32; a frame's chain is whole, and each of its slices passes
-/// its parity; and bytes without a checksum are what two copies at least have, and every copy that has them.
+/// checksum, or that two copies at least have alike: an element passes its CRC-32, a Configuration Record its parity, a frame of FLAC its
+/// CRC-8 and its CRC-16; the chain of a frame of FFV1 is whole, and each of its slices passes its parity; and bytes without a checksum are what two copies at least have, and every copy that has them.
 pub fn mend_claims_what_is_vouched()
     ensures { TrueIsVouched }
 {}
 
 /// Where the original of each stretch is known again, and `mend` returns `true`, what it wrote is the originals, one after the other; and
 /// it is refused only by a device or because memory ran out. An original is known again so: that of an element passes its CRC-32, no
-/// version that passes differs from it, and it is among the combinations of the improved versions; no slice of a version of a frame that
+/// version that passes differs from it, and it is among the combinations of the improved versions; so it is of a record, of its versions as
+/// they are; that of a frame of FLAC passes, and no version that passes differs from it; no slice of a version of a frame of FFV1 that
 /// passes its parity differs from the original's, and the versions can be woven; and some version of bytes without a checksum has them.
 pub fn mend_gives_the_original()
     ensures { MendGivesTheOriginal }

@@ -25,9 +25,9 @@ use std::alloc::{AllocError, Global};
 /// frame is neither, it has the bytes of `from`, and so have bytes without a checksum.
 ///
 /// The order of the versions changes nothing, and repeating one changes only `Alone` to `Agreed`; `from` changes only bytes that are
-/// neither good nor alone (`same_versions_mend`). Bytes that are good pass the checksum (`good_is_vouched`), and are the original's where that is among the
-/// combinations (`original_is_mended`). Equal versions are judged once, and a version that stands as it is is lent, and not copied. The
-/// only refusal is that of an allocation of memory.
+/// neither good nor alone (`same_versions_mend`). Bytes that are good pass the checksum (`good_is_vouched`), and are the original's where
+/// that is among the combinations (`original_is_mended`). Equal versions are judged once, and a version that stands as it is is lent, and
+/// not copied. The only refusal is that of an allocation of memory.
 pub fn mend<'a>(
     alloc: Global,
     kind: Kind,

@@ -96,11 +96,11 @@ fn add_line(
     }
 }
 
-/// Reads the stretches that a text lists, of so many copies: a line for each, as `crc32 4096 1 0 - 512`, with its kind (`frame`, `crc32`
-/// or `plain`), how many bytes it has (1 to 2^30), the number of its copy FROM, from 1, and for each copy the place at which it has
-/// the stretch, in bytes from the copy's start, or `-`; and after an element (`crc32`) a line for each frame in it, as `part 6 1000`, with
-/// how many bytes of the element stand before the frame, and how many it has. One space parts two words. Numbers are decimal digits
-/// under 2^64. A line feed ends each line; the last may go without.
+/// Reads the stretches that a text lists, of so many copies: a line for each, as `crc32 4096 1 0 - 512`, with its kind (`frame`, `crc32`,
+/// `record`, `flac` or `plain`), how many bytes it has (1 to 2^30), the number of its copy FROM, from 1, and for each copy the place at
+/// which it has the stretch, in bytes from the copy's start, or `-`; and after an element (`crc32`) a line for each frame in it, as
+/// `part 6 1000`, or `part 6 1000 flac` of a frame of FLAC, with how many bytes of the element stand before the frame, and how many it
+/// has. One space parts two words. Numbers are decimal digits under 2^64. A line feed ends each line; the last may go without.
 ///
 /// The copy FROM has the stretch. The places of each copy rise without overlap. So do the parts of an element, which lie within it and
 /// not in its first six bytes.

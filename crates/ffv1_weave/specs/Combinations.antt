@@ -1,4 +1,4 @@
--- What can be put together of the versions of a slice, or of an element.
+-- What can be put together of the versions of a slice, of an element, or of a record.
 use Rattle.std.specs.Prelude.{ℕ, ◌<◌, ◌≤◌, ◌≡◌, List, Contains, length, slice_index, slice_index_or, slice_range}
 use Rattle.ffv1_weave.specs.Regions.{AgreeAt}
 use Rattle.ffv1_weave.specs.Numbers.{AreNumbered, AreMoreThan}
@@ -39,7 +39,8 @@ pub record IsTriedBy (versions : List (List ℕ)) (grain : Grain) (count : ℕ) 
   pub finer : (k : ℕ) → k < place → HasMany versions (slice_index_or grains k Regions)
   pub few : HasFew versions grain count
 
--- A combination that is tried and passes: of a slice's versions a slice with its parity, of an element's an element with its CRC-32.
+-- A combination that is tried and passes: of a slice's versions a slice with its parity, of an element's an element with its CRC-32, of a
+-- record's a record.
 pub record IsValid (check : Check) (versions : List (List ℕ)) (bytes : List ℕ) : Type 0 where
   pub grain : Grain
   pub count : ℕ

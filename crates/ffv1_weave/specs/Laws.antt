@@ -25,7 +25,7 @@ KeepsOriginal original disputed = Unit {0}
 KeepsOriginal original (missing count) = ⊥
 KeepsOriginal original too_many = Unit {0}
 
--- Where the original passes, as a slice with its parity or an element with its CRC-32, and is one of the combinations, it is what is woven,
+-- Where the original passes, as a slice, an element or a record, and is one of the combinations, it is what is woven,
 -- if anything is.
 abbrev pub OriginalIsWoven : Type 0
 OriginalIsWoven =

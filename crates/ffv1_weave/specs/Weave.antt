@@ -1,4 +1,4 @@
--- What is woven of the versions of a slice, or of an element.
+-- What is woven of the versions of a slice, of an element, or of a record.
 use Rattle.std.specs.Prelude.{ℕ, List, Contains}
 use Rattle.ffv1_slice.specs.Members.{IsOnly, IsOfTwo, IsOfNone}
 use Rattle.ffv1_weave.specs.Grains.{grains}

@@ -8,8 +8,8 @@ pub fn same_versions_weave()
     ensures { SameVersionsWeave }
 {}
 
-/// Where the original passes, as a slice with its parity (RFC 9043, section 4.9) or an element with its CRC-32 (RFC 8794, section
-/// 11.3.1), and is one of the combinations of regions, nothing else is woven, and it is not missing.
+/// Where the original passes, as a slice with its parity (RFC 9043, section 4.9), an element with its CRC-32 (RFC 8794, section 11.3.1) or a
+/// record with its parity (RFC 9043, section 4.3.2), and is one of the combinations of regions, nothing else is woven, and it is not missing.
 pub fn original_is_woven()
     ensures { OriginalIsWoven }
 {}

@@ -1,7 +1,8 @@
-//! A slice that is damaged in every copy, in different places, is put together of what is undamaged in each, and so is an
-//! element with a CRC-32. The copies' versions of it are parted where they differ, as finely as leaves few enough combinations of what
-//! they have there, each of these is tried, and footer and parity (RFC 9043, section 4.9), or the CRC-32 (RFC 8794, section 11.3.1),
-//! show which of them it is. If none is one, what most versions have is tried, or a combination with one bit inverted.
+//! A slice that is damaged in every copy, in different places, is put together of what is undamaged in each, and so are an
+//! element with a CRC-32 and a Configuration Record. The copies' versions of it are parted where they differ, as finely as leaves few
+//! enough combinations of what they have there, each of these is tried, and footer and parity (RFC 9043, section 4.9), or the CRC-32
+//! (RFC 8794, section 11.3.1), or the record's parity (RFC 9043, section 4.3.2), show which of them it is. If none is one, what most
+//! versions have is tried, or a combination with one bit inverted.
 #![tactic(auto)]
 
 mod changes;
