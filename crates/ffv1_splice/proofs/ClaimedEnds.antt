@@ -1,6 +1,6 @@
 -- The ends that copies claim of the slice with which they begin.
-use Rattle.std.proofs.Common.{◌≡◌, ℕ, ◌+◌, ◌<◌, ◌≤◌, List, [], ◌∷◌, ◌++◌, take, drop, refl, subst, arith, inl, inr, take-append-drop}
-use Rattle.std.specs.Prelude.{◌⊎◌, Contains}
+use Rattle.std.proofs.Common.{◌≡◌, ℕ, ◌+◌, ◌-◌, ◌^◌, ◌<◌, ◌≤◌, Option, Some, None, min, List, [], ◌∷◌, ◌++◌, take, drop, refl, subst, arith, inl, inr, take-append-drop}
+use Rattle.std.specs.Prelude.{◌⊎◌, Contains, MatchOption}
 use Rattle.std.proofs.lemmas.Bool.{cases_lt}
 use Rattle.std.proofs.lemmas.List.Elements.{Contains-append_left, Contains-append_right, Contains-append_cases}
 use Rattle.ffv1_bits.specs.Limits.{slice_limit}
@@ -9,6 +9,7 @@ use Rattle.ffv1_slice.specs.Chain.{IsCut}
 use Rattle.ffv1_slice.specs.Members.{IsOnly, IsOfTwo, IsOfNone}
 use Rattle.ffv1_splice.specs.Pieces.{HasContent}
 use Rattle.ffv1_splice.specs.Splice.{IsClaimedEnd}
+use Rattle.ffv1_splice.specs.Inner.Claims.{LacksClaims, IsFirstClaim}
 use Rattle.ffv1_splice.specs.Inner.Splice.{IsNextClaimed}
 use Rattle.ffv1_splice.specs.Inner.Tally.{Tally, Tallies, TalliesBoth}
 use Rattle.ffv1_weave.proofs.ChoiceSteps.{alone}
@@ -17,15 +18,6 @@ use Rattle.ffv1_splice.proofs.TallySteps.{tallies_both}
 use Rattle.ffv1_splice.proofs.ShortestSteps.{cut_is_short}
 
 -- ---- one copy
-
--- the next end is not claimed either
-pub none_further : (copy : List ℕ) (from place : ℕ) → ((end : ℕ) → from < end → end ≤ place → IsCut copy 0 end → ⊥) → (IsCut copy 0 (place + 1) → ⊥)
-    → (end : ℕ) → from < end → end ≤ place + 1 → IsCut copy 0 end → ⊥
-none_further copy from place none uncut end after within cut =
-    elim (cases_lt place end) [
-      | inl beyond ↦ let last : end ≡ place + 1 = omega arith in uncut (subst (IsCut copy 0) last cut)
-      | inr up ↦ none end after up cut
-    ]
 
 module _ (copy : List ℕ) (reach : ℕ) where
   pub claimed_of_cut : (end : ℕ) → IsCut copy 0 end → 8 < end → end ≤ reach → IsClaimedEnd (copy ∷ []) reach end
@@ -52,6 +44,17 @@ module _ (copy : List ℕ) (reach : ℕ) where
         after = after;
         first = λ other past h. elim (cases_lt other end) [ inl earlier ↦ absurd (none other past earlier (cut_of_claimed other h)) | inr later ↦ later ];
       }
+
+  -- what the search for the start of the copy found
+  pub found_claim : (r : Option ℕ) (from next last : ℕ) → AreBytes copy → 8 ≤ from → next ≡ min (from + 1) (2 ^ 64 - 1) → last ≡ min reach slice_limit
+      → MatchOption r (LacksClaims copy 0 next (last + 1)) (IsFirstClaim copy 0 next last)
+      → MatchOption r ((end : ℕ) → from < end → IsClaimedEnd (copy ∷ []) reach end → ⊥) (IsNextClaimed copy from reach)
+  found_claim None from next last small room is most none =
+      none_claimed from last small (λ end after within cut. none end (omega arith) (omega arith) cut) (λ end beyond within short. omega arith)
+  found_claim (Some end) from next last small room is most first =
+      let after : from < end = omega (arith, is, most, first.after, first.within) in
+      next_claimed from end (λ other past before. first.none other (omega arith) before) first.cut (omega (arith, room, after)) after
+      (omega (arith, first.within, most))
 
   claimed_after_footer : (end : ℕ) → IsClaimedEnd (copy ∷ []) reach end → 8 < end
   claimed_after_footer end h = let content : HasContent 0 end = h.claim.content in omega arith

@@ -1,5 +1,6 @@
 pub mod TallySteps
 pub mod LeastSteps
+pub mod ClaimSteps
 pub mod ShortestSteps
 pub mod ClaimedEnds
 pub mod PlaceSteps

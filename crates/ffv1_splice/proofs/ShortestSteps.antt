@@ -13,6 +13,7 @@ use Rattle.ffv1_bits.proofs.Bytes.{AreBytes-range}
 use Rattle.ffv1_slice.specs.Chain.{IsCut, footer_before}
 use Rattle.ffv1_slice.specs.Members.{IsOfNone}
 use Rattle.ffv1_slice.proofs.NearLaws.{length-range}
+use Rattle.ffv1_splice.specs.Inner.Claims.{LacksClaims}
 use Rattle.ffv1_splice.specs.Pieces.{HasContent, IsPiece, PieceFrom, IsPieceFrom, IsShortest}
 use Rattle.ffv1_weave.proofs.ChoiceSteps.{alone}
 
@@ -120,10 +121,18 @@ module _ (copy : List ℕ) (start judged end left : ℕ) (so_far : AreJudged cop
         | inr over ↦ let same : earlier ≡ end = omega arith in none (subst (EndsPiece copy start) same h)
       ]
 
-  -- an end that the footer there does not claim for the start
-  pub judged_unclaimed : (IsCut copy start end → ⊥) → AreJudged copy start judged (end + 1) left
-  judged_unclaimed uncut =
-      record { from = so_far.from; to = omega (arith, so_far.to); left' = so_far.left'; none = none_on (λ h. uncut h.cut) }
+  -- ends that no footer claims for the start
+  pub judged_on : (next : ℕ) → end ≤ next → LacksClaims copy start end next → AreJudged copy start judged next left
+  judged_on next order none =
+      record {
+        from = so_far.from;
+        to = omega (arith, so_far.to);
+        left' = so_far.left';
+        none = λ earlier before h. elim (cases_lt earlier end) [
+          | inl under ↦ so_far.none earlier under h
+          | inr over ↦ none earlier over before h.cut
+        ];
+      }
 
   -- a claimed end where something is left
   pub judged_failed : (next : ℕ) → next ≡ remainder_of (bits_of (slice_range copy start end)) → (next ≡ 0 → ⊥) → AreJudged copy start end (end + 1) next
@@ -144,14 +153,14 @@ module _ (copy : List ℕ) (start judged end left : ℕ) (so_far : AreJudged cop
         ];
       }
 
-  -- where no end is left within the bound that a footer can claim, no piece ends there
-  pub judged_all : (bound : ℕ) → AreBytes copy → ((later : ℕ) → end ≤ later → later ≤ bound → later ≤ start + slice_limit → ⊥)
+  -- where no end is left within the bound that a footer claims, no piece ends there
+  pub judged_all : (bound : ℕ) → AreBytes copy → ((later : ℕ) → end ≤ later → later ≤ bound → later ≤ start + slice_limit → IsCut copy start later → ⊥)
       → IsOfNone (IsPieceFrom (copy ∷ []) bound start)
   judged_all bound small past piece p =
       let ends : EndsPiece copy start piece.end = (end_of_piece copy start piece.end piece.bytes p.there).0 in
       elim (cases_lt piece.end end) [
         | inl earlier ↦ so_far.none piece.end earlier ends
-        | inr later ↦ past piece.end later p.within (cut_is_short copy start piece.end small ends.cut)
+        | inr later ↦ past piece.end later p.within (cut_is_short copy start piece.end small ends.cut) ends.cut
       ]
 
 -- ---- copies one by one

@@ -3,3 +3,4 @@ pub mod Placing
 pub mod Several
 pub mod Tally
 pub mod Splice
+pub mod Claims

@@ -11,7 +11,7 @@ ghost use Rattle.ffv1_splice.specs.declared.place.Place.{Place};
 use crate::place::Place;
 use crate::placing::{versions_at, weave_at};
 use crate::settling::settle_up;
-use crate::shortest::{claims, first_from};
+use crate::shortest::{first_claim, first_from};
 use crate::tally::{Pieces, Starts, tally_at};
 use ffv1_bits::SLICE_LIMIT;
 use ffv1_slice::FOOTER_LENGTH;
@@ -131,18 +131,16 @@ fn claimed_by(copy: &[u8], reach: usize) -> Starts
     }
 }
 
-/// The first end after a place, and up to a reach, that a copy claims. Each end is looked at once, up to the most bytes that a slice can
-/// have.
+/// The first end after a place, and up to a reach, that a copy claims. Ends are looked at up to the most bytes that a slice can have.
 fn next_claimed(copy: &[u8], from: usize, reach: usize) -> Option<usize>
     requires room { reach ≤ length copy.now }
     requires content { 8 ≤ from }
     ensures { MatchOption result ((end : ℕ) → from < end → IsClaimedEnd (copy.now ∷ []) reach end → ⊥) (IsNextClaimed copy.now from reach) }
 {
-    let last = reach.min(SLICE_LIMIT as usize);
-    for end in from..last {
-        if claims(copy, 0, end + 1) {
-            return Some(end + 1);
-        }
-    }
-    None
+    first_claim(
+        copy,
+        0,
+        from.saturating_add(1),
+        reach.min(SLICE_LIMIT as usize),
+    )
 }

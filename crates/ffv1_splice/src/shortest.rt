@@ -3,9 +3,11 @@ ghost use Rattle.std.specs.Prelude.{◌+◌, ◌≤◌, ◌↔◌, [], ◌∷◌
 ghost use Rattle.ffv1_slice.specs.Chain.{IsCut};
 ghost use Rattle.ffv1_slice.specs.Members.{IsOfNone};
 ghost use Rattle.ffv1_splice.specs.Pieces.{IsPieceFrom, IsShortest};
+ghost use Rattle.ffv1_splice.specs.Inner.Claims.{LacksClaims, IsFirstClaim};
 
 use ffv1_bits::{SLICE_LIMIT, remainder_after};
 use ffv1_slice::{FOOTER_LENGTH, slice_start};
+use memchr::memchr;
 
 /// The bytes of a shortest slice from a place: those of the first copy that has one. It ends at the bound or before it, and each copy has
 /// the bound. All copies are searched up to a distance from the place before any is searched up to twice that distance. So of each copy
@@ -68,21 +70,45 @@ fn first_end(copy: &[u8], start: usize, from: usize, bound: usize) -> Option<usi
     let last = bound.min(start.saturating_add(SLICE_LIMIT as usize));
     let mut left = 0;
     let mut judged = start;
-    for end in from + 1..last + 1 {
-        if claims(copy, start, end) {
-            left = remainder_after(left, &copy[judged..end]);
-            if left == 0 {
-                return Some(end);
-            }
-            judged = end;
+    let mut next = from + 1;
+    while let Some(end) = first_claim(copy, start, next, last) {
+        left = remainder_after(left, &copy[judged..end]);
+        if left == 0 {
+            return Some(end);
         }
+        judged = end;
+        next = end + 1;
+    }
+    None
+}
+
+/// The first end from `from` on, up to the last one, whose footer gives this start. The middle byte of the size is the same for 256 ends
+/// beside each other, so it is looked for in their footers at once.
+pub(crate) fn first_claim(copy: &[u8], start: usize, from: usize, last: usize) -> Option<usize>
+    requires room { last ≤ length copy.now }
+    requires content { start + 8 ≤ from }
+    ensures { MatchOption result (LacksClaims copy.now start from (last + 1)) (IsFirstClaim copy.now start from last) }
+{
+    let mut end = from;
+    while end <= last {
+        let size = end - FOOTER_LENGTH - start;
+        let after = (last + 1).min(end + 256 - size % 256);
+        let Some(skipped) = memchr((size / 256 % 256) as u8, &copy[end - 7..after - 7]) else {
+            end = after;
+            continue;
+        };
+        end += skipped;
+        if claims(copy, start, end) {
+            return Some(end);
+        }
+        end += 1;
     }
     None
 }
 
 /// Whether the footer that ends there gives this start (RFC 9043, section 4.9.1). The lowest byte of its size is looked at first, since
 /// that rules out most ends. There is room for the footer after the start.
-pub(crate) fn claims(copy: &[u8], start: usize, end: usize) -> bool
+fn claims(copy: &[u8], start: usize, end: usize) -> bool
     requires content { start + 8 ≤ end }
     requires within { end ≤ length copy.now }
     ensures { IsTrue result ↔ IsCut copy.now start end }

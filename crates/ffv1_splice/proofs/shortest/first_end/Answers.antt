@@ -1,46 +1,47 @@
-use Rattle.std.proofs.Common.{◌+◌, ◌≡◌, ℕ, arith, sym, ◌∙◌, subst}
+use Rattle.std.proofs.Common.{◌≡◌, ◌∙◌, ℕ, arith, sym}
 use Rattle.std.specs.Prelude.{slice_range}
 use Rattle.ffv1_bits.specs.Bits.{bits_of}
 use Rattle.ffv1_bits.specs.Parity.{remainder_of}
-use Rattle.ffv1_slice.specs.Chain.{IsCut}
-use Rattle.ffv1_splice.proofs.ShortestSteps.{AreJudged, judged_first, left_on, judged_unclaimed, judged_failed, judged_passed, judged_all}
+use Rattle.ffv1_splice.proofs.ShortestSteps.{judged_first, judged_on, left_on, judged_failed, judged_passed, judged_all}
 use Rattle.ffv1_splice.proofs.shortest.first_end.Goals as goal
-use Rattle.ffv1_splice.proofs.shortest.first_end.Goals.{then-claims+else-left-eq0, else-claims}
 
 pub loop-end-init : goal.loop-end-init
-loop-end-init c = judged_first c.args.copy.now c.args.start c.args.from (omega arith) c.requires.none
+loop-end-init c = (omega arith, judged_first c.args.copy.now c.args.start c.args.from (omega arith) c.requires.none)
+
+pub first_claim-requires-clause-content : goal.first_claim-requires-clause-content
+first_claim-requires-clause-content c = omega (arith, c.loop-end.invariant.0, c.requires.content)
+
+pub slice_bounds-remainder_after-count : goal.slice_bounds-remainder_after-count
+slice_bounds-remainder_after-count c = omega (arith, c.loop-end.invariant.1.to, c.in-Some.ensures.after)
 
 pub returns-then-left-eq0 : goal.returns-then-left-eq0
 returns-then-left-eq0 c =
-    let end : ℕ = c.loop-end.end in
-    let cut : IsCut c.args.copy.now c.args.start end = c.claims.ensures.0 c.if-claims.true in
+    let end : ℕ = c.in-Some.end in
+    let first = c.in-Some.ensures in
+    let so_far =
+    judged_on c.args.copy.now c.args.start c.loop-end.judged c.loop-end.next c.loop-end.left c.loop-end.invariant.1 end first.after first.none in
     let is : c.remainder_after-left.result ≡ remainder_of (bits_of (slice_range c.args.copy.now c.args.start end)) =
-    left_on c.args.copy.now c.args.start c.loop-end.judged end c.loop-end.left c.loop-end.invariant c.remainder_after-left.result
-    c.remainder_after-left.ensures in
-    judged_passed c.args.copy.now c.args.start c.loop-end.judged end c.loop-end.left c.loop-end.invariant c.args.bound cut (omega arith)
-    (sym c.if-left-eq0.true ∙ is) (omega arith) (omega arith)
+    left_on c.args.copy.now c.args.start c.loop-end.judged end c.loop-end.left so_far c.remainder_after-left.result c.remainder_after-left.ensures in
+    judged_passed c.args.copy.now c.args.start c.loop-end.judged end c.loop-end.left so_far c.args.bound first.cut
+    (omega (arith, c.loop-end.invariant.0, first.after, c.requires.content)) (sym c.if-left-eq0.true ∙ is)
+    (omega (arith, first.within, c.min-last.ensures)) (omega (arith, first.within, c.min-last.ensures, c.requires.room))
+
+pub loop-end-smaller : goal.loop-end-smaller
+loop-end-smaller c = let first = c.in-Some.ensures in omega (arith, first.after, first.within)
 
 pub loop-end-preserved : goal.loop-end-preserved
 loop-end-preserved c =
-    let end : ℕ = c.loop-end.end in
-    elim c.if-claims.branch [
-      | then-claims+else-left-eq0 w ↦
-          let is : w.remainder_after-left.result ≡ remainder_of (bits_of (slice_range c.args.copy.now c.args.start end)) =
-          left_on c.args.copy.now c.args.start c.loop-end.judged end c.loop-end.left c.loop-end.invariant w.remainder_after-left.result
-          w.remainder_after-left.ensures in
-          subst (λ j. AreJudged c.args.copy.now c.args.start j (end + 1) c.if-claims.left) (sym w.judged-is)
-          (subst (AreJudged c.args.copy.now c.args.start end (end + 1)) (sym w.left-is)
-          (judged_failed c.args.copy.now c.args.start c.loop-end.judged end c.loop-end.left c.loop-end.invariant w.remainder_after-left.result is
-          w.if-left-eq0.false))
-      | else-claims w ↦
-          let uncut : IsCut c.args.copy.now c.args.start end → ⊥ =
-          λ cut. let yes = c.claims.ensures.1 cut in let no = w.if-claims.false in absurd (cc) in
-          subst (λ j. AreJudged c.args.copy.now c.args.start j (end + 1) c.if-claims.left) (sym w.judged-is)
-          (subst (AreJudged c.args.copy.now c.args.start c.loop-end.judged (end + 1)) (sym w.left-is)
-          (judged_unclaimed c.args.copy.now c.args.start c.loop-end.judged end c.loop-end.left c.loop-end.invariant uncut))
-    ]
+    let end : ℕ = c.in-Some.end in
+    let first = c.in-Some.ensures in
+    let so_far =
+    judged_on c.args.copy.now c.args.start c.loop-end.judged c.loop-end.next c.loop-end.left c.loop-end.invariant.1 end first.after first.none in
+    let is : c.remainder_after-left.result ≡ remainder_of (bits_of (slice_range c.args.copy.now c.args.start end)) =
+    left_on c.args.copy.now c.args.start c.loop-end.judged end c.loop-end.left so_far c.remainder_after-left.result c.remainder_after-left.ensures in (
+      omega (arith, c.loop-end.invariant.0, first.after),
+      judged_failed c.args.copy.now c.args.start c.loop-end.judged end c.loop-end.left so_far c.remainder_after-left.result is c.if-left-eq0.false,
+    )
 
 pub returns : goal.returns
 returns c =
-    judged_all c.args.copy.now c.args.start c.loop-end.judged c.loop-end.end c.loop-end.left c.loop-end.invariant c.args.bound
-    (λ i. omega (arith, c.type_inv.copy i)) (λ later past within short. omega arith)
+    judged_all c.args.copy.now c.args.start c.loop-end.judged c.loop-end.next c.loop-end.left c.loop-end.invariant.1 c.args.bound (λ i. omega (arith, c.type_inv.copy i))
+    (λ later past within short. c.in_default.ensures later past (omega (arith, within, short, c.min-last.ensures, c.saturating_add.ensures)))

@@ -1,0 +1,89 @@
+-- The ends whose footers give one start, 256 of them at a time: the middle byte of the size is the same in all of these.
+use Rattle.std.proofs.Common.{◌≡◌, ℕ, ◌+◌, ◌-◌, ◌/◌, ◌%◌, ◌<◌, ◌≤◌, List, length, drop, get_or, sym, ap, ◌∙◌, subst, arith, inl, inr}
+use Rattle.std.specs.Prelude.{slice_range}
+use Rattle.std.proofs.lemmas.Bool.{cases_lt, eq-eqb}
+use Rattle.std.proofs.lemmas.List.{get_or-drop, get_or-take}
+use Rattle.memchr.specs.Find.{Nowhere, NoneBefore, Passes, is_byte}
+use Rattle.ffv1_bits.specs.Parity.{AreBytes}
+use Rattle.ffv1_bits.proofs.Bytes.{AreBytes-range}
+use Rattle.ffv1_slice.specs.Chain.{IsCut, footer_before}
+use Rattle.ffv1_slice.proofs.NearLaws.{length-range}
+use Rattle.ffv1_splice.specs.Inner.Claims.{LacksClaims}
+
+-- No footer that ends from one place on, and before another, gives the start; and the places are in this order.
+pub record AreUnclaimed (copy : List ℕ) (start from end : ℕ) : Type 0 where
+  pub order : from ≤ end
+  pub none : LacksClaims copy start from end
+
+-- ---- bytes of a range
+
+in_range : (xs : List ℕ) (a b k : ℕ) → a + k < b → get_or (slice_range xs a b) k 0 ≡ get_or xs (a + k) 0
+in_range xs a b k within = get_or-take (b - a) (drop a xs) k 0 (omega arith) ∙ get_or-drop a xs k 0
+
+-- the middle byte of the size that a footer gives
+middle : (copy : List ℕ) (start end : ℕ) → AreBytes copy → start + 8 ≤ end → IsCut copy start end
+    → get_or copy (end - 7) 0 ≡ (end - 8 - start) / 256 % 256
+middle copy start end small room cut =
+    let footer : AreBytes (footer_before copy end) = AreBytes-range copy (end - 8) end small in
+    let place : end - 8 + 1 ≡ end - 7 = omega arith in
+    let byte : get_or (footer_before copy end) 1 0 ≡ get_or copy (end - 7) 0 =
+    in_range copy (end - 8) end 1 (omega arith) ∙ ap (λ k. get_or copy k 0) place in
+    sym byte ∙ omega (arith, footer 0, footer 1, footer 2)
+
+-- The ends of one middle byte, of which none is among the bytes in the footers of the ends up to one.
+pub lacks_in_window : (copy : List ℕ) (start end upto after : ℕ) → AreBytes copy → start + 8 ≤ end → upto ≤ after
+    → after ≤ end + 256 - (end - 8 - start) % 256
+    → Nowhere (Passes (is_byte ((end - 8 - start) / 256 % 256)) (slice_range copy (end - 7) (after - 7))) 0 (upto - end)
+    → LacksClaims copy start end upto
+lacks_in_window copy start end upto after small room below near none other later before cut =
+    let k : ℕ = other - end in
+    let m : ℕ = (end - 8 - start) / 256 % 256 in
+    let same : (other - 8 - start) / 256 ≡ (end - 8 - start) / 256 = omega arith in
+    let byte : get_or copy (other - 7) 0 ≡ m = middle copy start other small (omega arith) cut ∙ ap (λ n. n % 256) same in
+    let place : end - 7 + k ≡ other - 7 = omega arith in
+    let there : get_or (slice_range copy (end - 7) (after - 7)) k 0 ≡ m =
+    in_range copy (end - 7) (after - 7) k (omega arith) ∙ ap (λ i. get_or copy i 0) place ∙ byte in
+    none k (omega arith) (omega arith) (eq-eqb _ _ there)
+
+-- the window itself, up to its end
+pub lacks_in_all : (copy : List ℕ) (start end after : ℕ) → AreBytes copy → start + 8 ≤ end → end ≤ after → after ≤ length copy + 1
+    → after ≤ end + 256 - (end - 8 - start) % 256
+    → Nowhere (Passes (is_byte ((end - 8 - start) / 256 % 256)) (slice_range copy (end - 7) (after - 7))) 0
+    (length (slice_range copy (end - 7) (after - 7)))
+    → LacksClaims copy start end after
+lacks_in_all copy start end after small room order fits near none =
+    let size : length (slice_range copy (end - 7) (after - 7)) ≡ after - 7 - (end - 7) =
+    length-range copy (end - 7) (after - 7) (omega arith) (omega arith) in
+    lacks_in_window copy start end after after small room (omega arith) near (λ k low high. none k low (omega arith))
+
+-- the window up to the first byte that is the middle one, and where that stands
+pub lacks_before : (copy : List ℕ) (start end after skipped : ℕ) → AreBytes copy → start + 8 ≤ end → end ≤ after → after ≤ length copy + 1
+    → after ≤ end + 256 - (end - 8 - start) % 256
+    → NoneBefore (Passes (is_byte ((end - 8 - start) / 256 % 256)) (slice_range copy (end - 7) (after - 7))) 0
+    (length (slice_range copy (end - 7) (after - 7))) skipped
+    → (end + skipped < after) × LacksClaims copy start end (end + skipped)
+lacks_before copy start end after skipped small room order fits near first =
+    let size : length (slice_range copy (end - 7) (after - 7)) ≡ after - 7 - (end - 7) =
+    length-range copy (end - 7) (after - 7) (omega arith) (omega arith) in
+    let within : end + skipped < after = omega (arith, size, first.high) in
+    (within, lacks_in_window copy start end (end + skipped) after small room (omega arith) near (λ k low high. first.before k low (omega arith)))
+
+-- ---- ends after others
+
+pub unclaimed_on : (copy : List ℕ) (start from end next : ℕ) → AreUnclaimed copy start from end → end ≤ next → LacksClaims copy start end next
+    → AreUnclaimed copy start from next
+unclaimed_on copy start from end next so_far order none =
+    record {
+      order = omega (arith, so_far.order);
+      none = λ other later before. elim (cases_lt other end) [
+        | inl earlier ↦ so_far.none other later earlier
+        | inr past ↦ none other past before
+      ];
+    }
+
+-- one end more
+pub unclaimed_past : (copy : List ℕ) (start from end : ℕ) → AreUnclaimed copy start from end → (IsCut copy start end → ⊥)
+    → AreUnclaimed copy start from (end + 1)
+unclaimed_past copy start from end so_far uncut =
+    unclaimed_on copy start from end (end + 1) so_far (omega arith)
+    (λ other later before cut. let same : other ≡ end = omega arith in uncut (subst (IsCut copy start) same cut))
