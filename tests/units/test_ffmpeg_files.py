@@ -3,7 +3,7 @@ import dataclasses
 import unittest
 from unittest import mock
 
-from mend_reel.containers import ffmpeg_files, stretch_builder
+from mend_reel.containers import ffmpeg_files, flac_heads, stretch_builder
 from mend_reel.containers.ffprobe import Container, Packet
 from mend_reel.model import Claims, Content, Frame, Kind, Track
 from . import made
@@ -25,6 +25,38 @@ class RecordTest(unittest.TestCase):
                 self.assertEqual(found, [(place, place + 6)])
                 made_ = ffmpeg_files.cover([copy], [], [], [track], copy.size, found)
             self.assertEqual([(stretch.kind, stretch.start) for stretch in made_ if stretch.kind is Kind.RECORD], [(Kind.RECORD, place)])
+
+
+class FlacTest(unittest.TestCase):
+    HEAD = bytes.fromhex("fff87a08140effeb")
+
+    def kinds(self, form, *heads):
+        """What the packets of a track of FLAC are, whose first bytes each copy has so."""
+        copies = [made.damaged(made.noise(1, 200), (50, head)) for head in heads]
+        tracks = [TRACK, dataclasses.replace(SOUND, is_flac=True)]
+        container = Container(form, tracks, Claims(), [packet(0, 10, 30), packet(0, 50, 40, 2), packet(0, 90, 40, 2)])
+        with made.opened(*copies) as opened, mock.patch.object(ffmpeg_files, "contain", lambda copy: container):
+            return [(each.kind, each.start, each.size) for each in ffmpeg_files.layout(opened).stretches if each.what.content is Content.SOUND]
+
+    def test_packets_that_begin_with_a_head_in_some_copy(self):
+        broken = made.damaged(self.HEAD, 4)
+        for form in ("avi", "nut", "mov"):
+            for heads in ([self.HEAD], [self.HEAD, broken], [broken, self.HEAD]):
+                self.assertEqual(self.kinds(form, *heads), [(Kind.FLAC, 50, 40), (Kind.PLAIN, 90, 40)])
+        self.assertEqual(self.kinds("avi", broken), [(Kind.PLAIN, 50, 80)])
+
+    def test_packets_of_a_container_that_gives_no_sizes(self):
+        self.assertEqual(self.kinds("ogg", self.HEAD), [(Kind.PLAIN, 50, 80)])
+
+    def test_heads(self):
+        self.assertTrue(flac_heads.begins(self.HEAD + b"more"))
+        self.assertTrue(flac_heads.begins(b"\xff\xf9\x1c\x08\xc2\x80\x2c" + bytes([flac_heads.crc8(b"\xff\xf9\x1c\x08\xc2\x80\x2c")])))
+        for at in range(8):
+            for bit in range(8):
+                self.assertFalse(flac_heads.begins(made.damaged(self.HEAD, (at, bytes([self.HEAD[at] ^ 1 << bit])))), (at, bit))
+        for size in range(8):
+            self.assertFalse(flac_heads.begins(self.HEAD[:size]))
+        self.assertFalse(flac_heads.begins(bytes(16)))
 
 
 class ProbeTest(unittest.TestCase):

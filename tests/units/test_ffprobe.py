@@ -32,6 +32,10 @@ class ReadTest(unittest.TestCase):
         self.assertTrue(video.is_ffv1 and (video.width, video.height) == (160, 120) and abs(video.step - 1001 / 30000) < 1e-9)
         self.assertEqual((sound.content, sound.step, sound.is_ffv1), (Content.SOUND, None, False))
 
+    def test_tracks_of_flac(self):
+        lines = [f"stream|index={number}|codec_name={name}|codec_type=audio" for number, name in enumerate(("flac", "pcm_s16le"))]
+        self.assertEqual([track.is_flac for track in read_lines(lines).tracks], [True, False])
+
     def test_what_headers_claim_by_container(self):
         self.assertEqual((self.read("mov,mp4").claims.duration, self.read("mov,mp4").claims.counts[0]), (2.5, 50))
         self.assertEqual(self.read("mov,mp4").claims.ends, {0: 2.5})

@@ -8,11 +8,13 @@ import typing
 
 from ..judging.frame_checks import Judge, Judged
 from ..model import Claims, Content, Copy, Frame, Kind, Layout, Stretch, Track, What
-from . import structure
+from . import flac_heads, structure
 from .ffprobe import Container, Packet, contain, with_records
 from .stretch_builder import Stretches
 
 MOST_HEADER, FEWEST_RECORD = 1 << 24, 6
+# The containers that give the size of each packet, so that FFmpeg does not divide sound by what seems to be the head of a frame.
+GIVE_SIZES = {"avi", "mov", "nut"}
 
 # Where a packet lies: its place, its size, and its track.
 Spot = tuple[int, int, int]
@@ -41,7 +43,9 @@ def layout(copies: typing.Sequence[Copy], judge: typing.Optional[Judge] = None, 
     copy = copies[containers.index(base)]
     tracks = with_records(copy, base.tracks) if records else base.tracks
     described = find_records(copy, tracks, found)
-    stretches = cover(copies, found, shown.others(found), base.tracks, size, described)
+    others = shown.others(found)
+    flac = find_flac(copies, [spot for spot, _ in others], base)
+    stretches = cover(copies, found, others, base.tracks, size, described, flac)
     return Layout(size, tracks, found, stretches, common_claims(containers, base), end=end)
 
 
@@ -57,6 +61,13 @@ def find_records(copy: Copy, tracks: typing.Sequence[Track], frames: typing.Sequ
     return found
 
 
+def find_flac(copies: typing.Sequence[Copy], spots: typing.Iterable[Spot], base: Container) -> frozenset[Spot]:
+    """The packets that are frames of FLAC: some copy has the head of one there."""
+    tracks = {track.number for track in base.tracks if track.is_flac and base.form in GIVE_SIZES}
+    return frozenset(spot for spot in spots if spot[2] in tracks and any(
+        flac_heads.begins(copy.read(spot[0], min(spot[1], flac_heads.LONGEST_HEAD))) for copy in copies))
+
+
 def ends_at(sizes: typing.Sequence[int], ends: typing.Sequence[typing.Optional[int]]) -> tuple[int, typing.Optional[int]]:
     """Where OUT ends, and where the file does by what most copies say: what lies after that is never preferred to nothing."""
     known = [end for end in ends if end is not None]
@@ -66,24 +77,28 @@ def ends_at(sizes: typing.Sequence[int], ends: typing.Sequence[typing.Optional[i
 
 
 def cover(copies: typing.Sequence[Copy], frames: typing.Sequence[Frame], others: typing.Sequence[tuple[Spot, Packet]],
-          tracks: typing.Sequence[Track], size: int, records: typing.Iterable[tuple[int, int]]) -> list[Stretch]:
-    """The stretches that cover a file: its frames, other packets, Configuration Records, and what lies between them."""
-    steps, kinds = {track.number: track.step or 0.0 for track in tracks}, {track.number: track.content for track in tracks}
-    packets: list[tuple[int, int, What, typing.Optional[Frame]]] = [
-        (frame.place, frame.end, What(Content.FRAME, frame.track, frame.time, frame.time + steps.get(frame.track, 0.0)), frame) for frame in frames]
-    packets += [(place, place + length, What(kinds.get(stream, Content.UNKNOWN), stream, packet.time, packet.time + packet.lasts), None)
-                for (place, length, stream), packet in others if place + length <= size]
-    first, last = min((packet[0] for packet in packets), default=0), max((packet[1] for packet in packets), default=size)
-    packets += [(start, stop, What(Content.TRACKS), None) for start, stop in records if stop <= size]
+          tracks: typing.Sequence[Track], size: int, records: typing.Iterable[tuple[int, int]],
+          flac: typing.Container[Spot] = frozenset()) -> list[Stretch]:
+    """The stretches that cover a file: its frames, other packets (those of `flac` are frames of FLAC), Configuration Records, and what lies
+    between them."""
+    steps, contents = {track.number: track.step or 0.0 for track in tracks}, {track.number: track.content for track in tracks}
+    pieces: list[tuple[int, int, Kind, What, typing.Optional[Frame]]] = [
+        (frame.place, frame.end, Kind.FRAME, What(Content.FRAME, frame.track, frame.time, frame.time + steps.get(frame.track, 0.0)), frame)
+        for frame in frames]
+    pieces += [(place, place + length, Kind.FLAC if (place, length, stream) in flac else Kind.PLAIN,
+                What(contents.get(stream, Content.UNKNOWN), stream, packet.time, packet.time + packet.lasts), None)
+               for (place, length, stream), packet in others if place + length <= size]
+    first, last = min((piece[0] for piece in pieces), default=0), max((piece[1] for piece in pieces), default=size)
+    pieces += [(start, stop, Kind.RECORD, What(Content.TRACKS), None) for start, stop in records if stop <= size]
     made, end = Stretches(copies), 0
-    for start, stop, what, frame in sorted(packets, key=lambda packet: packet[0]):
+    for start, stop, kind, what, frame in sorted(pieces, key=lambda piece: piece[0]):
         made.plain(end, start, What(Content.HEADER if start <= first else Content.INDEX if end >= last else Content.UNKNOWN))
         if frame:
             made.frame(frame, what)
-        elif what.content is Content.TRACKS:
-            made.checked(Kind.RECORD, start, stop, what)
-        else:
+        elif kind is Kind.PLAIN:
             made.plain(start, stop, what)
+        else:
+            made.checked(kind, start, stop, what)
         end = stop
     made.plain(end, size, What(Content.INDEX if end else Content.UNKNOWN))
     return made.made

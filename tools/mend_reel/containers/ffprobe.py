@@ -101,7 +101,7 @@ def read_track(values: typing.Mapping[str, str]) -> Track:
     frames, seconds = (number(rate[0]), number(rate[-1]))
     step = seconds / frames if frames and seconds and codec == "ffv1" else None
     return Track(int(values["index"]), CONTENTS.get(values.get("codec_type", ""), Content.UNKNOWN), codec, codec == "ffv1",
-                 int(number(values.get("width")) or 0), int(number(values.get("height")) or 0), step=step)
+                 int(number(values.get("width")) or 0), int(number(values.get("height")) or 0), step=step, is_flac=codec == "flac")
 
 
 def read_end(values: typing.Mapping[str, str]) -> typing.Optional[float]:
