@@ -52,7 +52,18 @@ class StructureTest(unittest.TestCase):
         for content in (avi(), avi(more=chunk(b"RIFF", b"AVIX" + chunk(b"JUNK", bytes(8)))), MOV, NUT):
             found = self.read(content)
             self.assertEqual((found.flaws, found.end), ([], len(content)))
-        self.assertEqual(self.read(b"none of these").flaws, [])
+        self.assertEqual(self.read(b"none of these").flaws, [Found(Flaw.NOT_WALKED, 0, 13)])
+
+    def test_what_an_mxf_file_is_made_of(self):
+        content = b"".join(structure.MXF_KEY + made.noise(number, 12) + size + bytes(4) for number, size in enumerate(
+            (b"\x04", b"\x81\x04", b"\x83\0\0\x04", b"\x88" + bytes(7) + b"\x04")))
+        self.assertEqual((self.read(content).flaws, self.read(content).end), ([], len(content)))
+        self.assertEqual(self.flaws(content[:-2]), [(Flaw.CUT, len(content) - 2, len(content))])
+        for end in (1, 5, 12):
+            self.assertEqual(self.flaws(content[:-29] + content[-29:][:end]), [(Flaw.BROKEN, len(content) - 29, len(content) - 29 + end)])
+        self.assertEqual(self.flaws(content + bytes(30)), [(Flaw.BROKEN, len(content), len(content) + 30)])
+        for place, byte in ((21, 5), (22, 0), (37, 0x80), (37, 0x89)):
+            self.assertEqual([each[0] for each in self.flaws(made.damaged(content, (place, bytes([byte]))))], [Flaw.BROKEN], (place, byte))
 
     def test_bytes_after_the_end(self):
         for content in (avi(), MOV, NUT):
@@ -112,6 +123,19 @@ class MatroskaTest(unittest.TestCase):
         self.assertEqual(self.flaws(content), [])
         place = content.index(chapters) + 5
         self.assertEqual(self.flaws(made.damaged(content, (content.index(b"\x85\x84name"), bytes(6)))), [(Flaw.BROKEN, place)])
+
+    def test_a_lost_last_sector_within_a_text(self):
+        def file(text, crc=False, after=b""):
+            tags = made.element(made.TAGS, made.element(0x7373, made.element(0x67C8, made.element(0x45A3, b"NAME"), made.element(0x4487, text))), crc=crc)
+            return made.ebml_header() + made.element(made.SEGMENT, made.information(80, False), made.tracks(crc=False), tags, after)
+
+        whole = file(b"some text")
+        place = whole.index(made.TAGS.to_bytes(4, "big")) + 5
+        self.assertEqual(self.flaws(whole), [])
+        for text in (b"some tex\0", b"some\0\0\0\0\0", b"so\0e text"):
+            self.assertEqual(self.flaws(file(text)), [(Flaw.ZEROS, place)])
+            self.assertNotIn(Flaw.ZEROS, [each[0] for each in self.flaws(file(text, crc=True))])
+            self.assertEqual(self.flaws(file(text, after=made.element(made.VOID, bytes(20)))), [])
 
     def test_bytes_after_the_end(self):
         self.assertEqual(self.flaws(REEL + bytes(100)), [(Flaw.AFTER_END, len(REEL))])

@@ -267,6 +267,13 @@ class VerdictTest(unittest.TestCase):
         found = self.of_one_copy(recording(), is_check=True)
         self.assertEqual(found.sentence("reel.mkv"), "reel.mkv: no damage was found; 3.2 % of the bytes can't be checked.")
 
+    def test_a_file_whose_parts_are_not_walked(self):
+        layout = recording()
+        alone = [dataclasses.replace(stretch, places=stretch.places[:1]) for stretch in layout.stretches]
+        for flaws, is_told in (([], False), ([Found(Flaw.NOT_WALKED, 0, layout.size)], True)):
+            found = judge(Evidence(layout, alone, [], layout, is_check=True, flaws=flaws))
+            self.assertEqual((found.status, "whether its parts hang together is not checked" in found.sentence("a")), (0, is_told))
+
     def test_a_file_that_is_checked_without_a_checksum(self):
         layout = plain()
         stretches = [dataclasses.replace(stretch, kind=Kind.PLAIN, parts=()) for stretch in layout.stretches]

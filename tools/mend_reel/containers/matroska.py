@@ -294,12 +294,15 @@ def layout(copies: typing.Sequence[Copy]) -> Layout:
 
 def flaws(copy: Copy, layout: Layout) -> typing.Iterator[structure.Found]:
     """Yields where the elements of a file, which a layout describes, lead nowhere within top-level ones, which of these have no CRC-32, and
-    what lies after its end."""
+    what lies after its end. A last sector that is shorter than others may be lost within a text: nothing else shows it."""
     for content, stretches in itertools.groupby(layout.stretches, key=lambda stretch: stretch.what.content):
         pieces = list(stretches) if content in MASTERS else []
         size = pieces[-1].end - pieces[0].start if pieces else 0
-        if 0 < size <= MOST_METADATA and not structure.divides(copy.read(pieces[0].start, size)):
+        data = copy.read(pieces[0].start, size) if 0 < size <= MOST_METADATA else b""
+        if data and not structure.divides(data):
             yield structure.Found(structure.Flaw.BROKEN, pieces[0].start, pieces[-1].end)
+        elif data and pieces[-1].kind is Kind.PLAIN and pieces[-1].end == layout.size and structure.has_lost_text(data):
+            yield structure.Found(structure.Flaw.ZEROS, pieces[0].start, pieces[-1].end)
     yield from (structure.Found(structure.Flaw.BARE, *each) for each in layout.bare)
     if layout.end is not None and layout.end < copy.size:
         yield structure.Found(structure.Flaw.AFTER_END, layout.end, copy.size)

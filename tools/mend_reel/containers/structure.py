@@ -12,11 +12,14 @@ from .aligned_copies import Steps
 
 NAME = re.compile(rb"[\x20-\x7e\xa9][\x20-\x7e]{3}")
 MEDIA = re.compile(rb"([0-9]{2})(?:d[bc]|wb|tx)")
+MXF_KEY, MXF_HEAD = bytes.fromhex("060e2b34"), 16
 NUT_INDEX, NUT_ID, TAIL = bytes.fromhex("4e58dd672f23e64e"), b"nut/multimedia container\0", 1 << 20
 MOV_MASTERS = frozenset({b"moov", b"trak", b"mdia", b"minf", b"stbl", b"mvex", b"moof", b"traf"})
 MATROSKA_MASTERS = frozenset({0x1654AE6B, 0x1549A966, 0x1C53BB6B, 0x1254C367, 0x114D9B74, 0x1941A469, 0x1043A770, 0xAE, 0xE0, 0xE1, 0x6D80, 0x6240,
                               0xBB, 0xB7, 0x7373, 0x63C0, 0x67C8, 0x4DBB, 0x61A7, 0x45B9, 0xB6, 0x1A45DFA3})
 CHAPTER_DISPLAY, ANY_ID = 0x80, b"\xec"
+MATROSKA_TEXTS = frozenset({0x45A3, 0x4487, 0x447A, 0x447B, 0x63CA, 0x467E, 0x466E, 0x4660, 0x437C, 0x437D, 0x5654, 0x7BA9, 0x4D80, 0x5741, 0x536E,
+                            0x86, 0x258688, 0x22B59C, 0x22B59D})
 MOST_DEPTH = 16
 
 
@@ -29,6 +32,8 @@ class Flaw(enum.Enum):
     COUNT = "counts otherwise"
     BARE = "has no checksum, though what lies beside it has"
     NO_TABLE = "lacks what says where its frames lie"
+    ZEROS = "has zero bytes in a text"
+    NOT_WALKED = "is of a container whose parts are not walked here"
 
 
 class Found(typing.NamedTuple):
@@ -59,13 +64,15 @@ class Structure:
 
 
 def read(copy: Copy) -> Structure:
-    """The structure of a file, by its first bytes; an empty one of a container that is not known here."""
+    """The structure of a file, by its first bytes. Of a container that is not known here nothing is walked."""
     head = copy.read(0, len(NUT_ID))
     if head[:4] == b"RIFF":
         return Avi(copy).read()
     if head[4:8] in (b"ftyp", b"moov", b"mdat", b"wide", b"free", b"skip"):
         return Mov(copy).read()
-    return read_nut(copy) if head == NUT_ID else Structure()
+    if head[:4] == MXF_KEY:
+        return read_mxf(copy)
+    return read_nut(copy) if head == NUT_ID else Structure([Found(Flaw.NOT_WALKED, 0, copy.size)])
 
 
 def is_uniform(copy: Copy, place: int) -> bool:
@@ -198,7 +205,31 @@ def read_nut(copy: Copy) -> Structure:
     return made.close(start + content + 1 + size, copy.size)
 
 
+# ---- MXF
+
+
+def read_mxf(copy: Copy) -> Structure:
+    """An MXF file is keys of 16 bytes, each with the size of what follows it: in one byte, or in so many as the first one says."""
+    place, made, steps = 0, Structure(), Steps(copy.size)
+    while place < copy.size:
+        head = copy.read(place, MXF_HEAD + 9)
+        first = head[MXF_HEAD] if len(head) > MXF_HEAD else 0x80
+        more = first & 0x7F if first & 0x80 else 0
+        size = head[MXF_HEAD + 1 : MXF_HEAD + 1 + more] if more else bytes([first])
+        if head[:4] != MXF_KEY or first == 0x80 or more > 8 or len(size) < more or not steps.take():
+            made.flaws.append(Found(Flaw.BROKEN, place, copy.size))
+            return made
+        place += MXF_HEAD + 1 + more + int.from_bytes(size, "big")
+    return made.close(place, copy.size)
+
+
 # ---- Matroska
+
+
+def has_lost_text(content: bytes, depth: int = 0) -> bool:
+    """Whether a text in the content of a Matroska master, or in the masters in it, has a zero byte, as where a sector is lost."""
+    return any(identity in MATROSKA_TEXTS and 0 in value or identity in MATROSKA_MASTERS and depth < MOST_DEPTH and has_lost_text(value, depth + 1)
+               for identity, value in ebml.children(content))
 
 
 def divides(content: bytes, depth: int = 0) -> bool:

@@ -45,6 +45,7 @@ class Why(enum.Enum):
     AFTER_END = "this lies after the end of the file by its own account"
     MISCOUNTED = "the file counts {count} frames or blocks there, and {has} are in it; a further copy may have the others"
     NO_TABLE = "what says where the frames lie is lost or was never written; a further copy may have it"
+    ZEROS = "a text there has zero bytes, as where the last sector of a file is lost; a further copy may have it right"
     BARE = "this has no checksum, though what lies beside it has one; its checksum may be lost"
     RECORD = "what describes its video to a decoder (the Configuration Record) fails its parity; a further copy may have it right"
     ROTTEN = ("parts of {it} fail their own checks, though the checksum around {it} passes: {it} was damaged before this file was written; "
@@ -54,7 +55,7 @@ class Why(enum.Enum):
 
 
 # What lies there is not known.
-OF_BYTES = frozenset({Why.ABSENT, Why.UNDIVIDED, Why.BROKEN, Why.CUT, Why.AFTER_END, Why.MISCOUNTED, Why.BARE})
+OF_BYTES = frozenset({Why.ABSENT, Why.UNDIVIDED, Why.BROKEN, Why.CUT, Why.AFTER_END, Why.MISCOUNTED, Why.BARE, Why.ZEROS})
 OF_FILE = frozenset({Why.SHORT, Why.SHORTER, Why.COUNT, Why.UNCHECKED, Why.NO_TABLE})
 OF_FRAMES = frozenset({Why.HOLE, Why.INDEX, Why.ORDER, Why.UNPLACED, Why.CONTRARY})
 

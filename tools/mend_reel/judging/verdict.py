@@ -17,7 +17,9 @@ from .results import GUESSED, Counts, FrameResult, FrameState, Results, Sums, is
 # What remains of a cluster when the frames in it that are not restored are named.
 OF_CLUSTERS = (Content.CLUSTER, Content.UNKNOWN)
 OF_FLAWS = {Flaw.BROKEN: Why.BROKEN, Flaw.CUT: Why.CUT, Flaw.AFTER_END: Why.AFTER_END, Flaw.COUNT: Why.MISCOUNTED, Flaw.NO_TABLE: Why.NO_TABLE,
-            Flaw.BARE: Why.BARE}
+            Flaw.BARE: Why.BARE, Flaw.ZEROS: Why.ZEROS}
+# What copies agree on may be so.
+MAY_BE_AGREED = (Flaw.BARE, Flaw.AFTER_END, Flaw.ZEROS)
 PLAYED = (Content.SOUND, Content.VIDEO, Content.SUBTITLES)
 
 
@@ -49,8 +51,8 @@ class Evidence:
 
 @dataclasses.dataclass
 class Verdict:
-    """Each reason why OUT may not be what was recorded, what else is to be said, and what a kept digest says. A digest of a whole file
-    decides; so does one of its frames that differ."""
+    """Each reason why OUT may not be what was recorded, what else is to be said, what a kept digest says, and whether it is known how the parts
+    of the file hang together. A digest of a whole file decides; so does one of its frames that differ."""
 
     reasons: list[Reason]
     notes: list[str]
@@ -60,6 +62,7 @@ class Verdict:
     has_damage: bool = False
     compared: typing.Optional[Compared] = None
     is_check: bool = False
+    is_walked: bool = True
 
     @property
     def status(self) -> int:
@@ -90,14 +93,16 @@ class Verdict:
                 checked |= {stretch.what.content} | (set(PLAYED) if stretch.what.content is Content.CLUSTER else set())
         alone = [f"all of the {content.value}" for content in contents if content in PLAYED and content not in checked]
         amount = "under 0.1" if share < 0.1 else f"{share:.1f}"
-        return f"{amount} % of the bytes can't be checked" + (", among them " + " and ".join(alone) if alone else "")
+        parts = "" if self.is_walked else "; whether its parts hang together is not checked in such a container"
+        return f"{amount} % of the bytes can't be checked" + (", among them " + " and ".join(alone) if alone else "") + parts
 
 
 def judge(evidence: Evidence) -> Verdict:
     """The verdict on OUT."""
     copy_of_mark = evidence.copy_of_mark or range(max((len(stretch.places) for stretch in evidence.stretches), default=0))
     results = Results(evidence.layout, evidence.stretches, evidence.outcomes, copy_of_mark, evidence.decoded, evidence.rotten)
-    found = [*of_gaps(evidence.layout), *of_stretches(results), *of_rotten(results, evidence.rotten), *(of_unchecked(results) if evidence.is_check else of_one_copy(results))]
+    found = [*of_gaps(evidence.layout), *of_stretches(results), *of_rotten(results, evidence.rotten),
+             *(of_unchecked(results) if evidence.is_check else of_one_copy(results))]
     found += of_flaws(evidence, found)
     found.sort(key=lambda reason: reason.bytes or (0, 0))
     found += find_lacks(Seen(evidence.layout, evidence.out, results, evidence.claims, evidence.matched))
@@ -109,7 +114,9 @@ def judge(evidence: Evidence) -> Verdict:
     notes = [f"copy {left.number + 1} is left out: {left.text()}" for left in evidence.left]
     notes += [compared.text] if compared and compared.is_original and not compared.is_of_all else []
     has_damage = bool(counts.damaged or results.outcomes or evidence.has_damaged_heads or is_cut(evidence, copy_of_mark))
-    return Verdict(reasons, notes + of_the_rest(results) + of_tags(evidence), results.sums(), counts, results, has_damage, compared, evidence.is_check)
+    is_walked = all(flaw.flaw is not Flaw.NOT_WALKED for flaw in evidence.flaws)
+    return Verdict(reasons, notes + of_the_rest(results) + of_tags(evidence), results.sums(), counts, results, has_damage, compared,
+                   evidence.is_check, is_walked)
 
 
 def is_cut(evidence: Evidence, copy_of_mark: typing.Sequence[int]) -> bool:
@@ -188,8 +195,8 @@ def of_flaws(evidence: Evidence, found: typing.Iterable[Reason]) -> list[Reason]
     after the end."""
     known, made = [reason.bytes for reason in found if reason.bytes and reason.why is not Why.ALONE], []
     for flaw, start, end, has, count in evidence.flaws:
-        is_agreed = not evidence.is_check and flaw in (Flaw.BARE, Flaw.AFTER_END)
-        if not is_agreed and not any(known_start <= start and end <= known_end for known_start, known_end in known):
+        is_agreed = not evidence.is_check and flaw in MAY_BE_AGREED
+        if flaw in OF_FLAWS and not is_agreed and not any(known_start <= start and end <= known_end for known_start, known_end in known):
             made.append(Reason(OF_FLAWS[flaw], Content.UNKNOWN, bytes=(start, end), has=has, count=count))
     return made
 
