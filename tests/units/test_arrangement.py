@@ -3,10 +3,12 @@ import os
 import tempfile
 import unittest
 
+from mend_reel.containers.ffprobe import Container
 from mend_reel.copies.arrangement import Leaving, arrange, claimed_size, group
 from mend_reel.model import Fault, open_copy
 from . import made
 from .framed import frame, judge, matroska
+from .test_structure import MOV
 
 FRAMES = [(0.04 * number, frame(number, 200, 150 + number)) for number in range(10)]
 REEL = matroska(FRAMES)
@@ -185,6 +187,14 @@ class ArrangeTest(unittest.TestCase):
         lost = (8).to_bytes(4, "big") + b"ftyp" + (9000).to_bytes(4, "big") + b"mdat" + made.noise(1, 2000)
         with self.assertRaisesRegex(Fault, "copy.0 has lost what says where its frames lie"):
             self.arrange(lost)
+
+    def test_a_file_that_ffmpeg_refuses_is_named(self):
+        """As where what describes the video to a decoder is damaged."""
+        with made.opened(MOV, b"no container " * 99) as copies:
+            for copy in copies:
+                copy.container = Container()
+            with self.assertRaisesRegex(Fault, r"^no FFV1 video was found in .*; FFmpeg can't read \S*copy.0, though its parts hang together[^;]*$"):
+                arrange(copies, judge)
 
     def test_no_video_at_all(self):
         with self.assertRaisesRegex(Fault, "no FFV1 video was found in .*copy.0; .*copy.1 is empty"):

@@ -120,10 +120,24 @@ class MendTest(unittest.TestCase):
     def test_fault_names_out_itself(self):
         with self.assertRaises(Fault) as caught:
             self.mend('echo "ffv1restore: cannot write $3" >&2; exit 1')
-        self.assertEqual(str(caught.exception), "cannot write OUT")
+        self.assertEqual(str(caught.exception), "cannot write OUT: No such file or directory")
+
+    def test_fault_has_the_cause_that_the_system_gives(self):
+        (self.folder / "out").symlink_to("/dev/full")
+        with self.assertRaises(Fault) as caught:
+            self.mend('echo "ffv1restore: cannot write $3" >&2; exit 1')
+        self.assertEqual(str(caught.exception), "cannot write OUT: No space left on device")
+        (self.folder / "out").unlink()
+        (self.folder / "out").write_bytes(b"part")
+        with self.assertRaisesRegex(Fault, "cannot write OUT: the program could not, though there is room now"):
+            self.mend('echo "ffv1restore: cannot write $3" >&2; exit 1')
+
+    def test_program_that_says_nothing_is_named(self):
+        with self.assertRaisesRegex(Fault, "^ffv1restore ended with status 1 and no word, as where the folder of temporary files is full$"):
+            self.mend("exit 1")
 
     def test_program_that_is_killed_is_a_fault(self):
-        with self.assertRaisesRegex(Fault, "was ended by signal 9"):
+        with self.assertRaisesRegex(Fault, r"^ffv1restore was ended by signal 9 \(Killed\), as where memory runs out$"):
             self.mend("kill -9 $$")
 
     def test_program_that_is_not_there_is_a_fault(self):

@@ -220,7 +220,9 @@ def arrange(copies: typing.Sequence[Copy], judge: Judge,
         names = ", ".join(copy.path for copy in copies if copy.size)
         found = [f"no FFV1 video was found in {names}"] if names else []
         lost = [f"{copy.path} has lost what says where its frames lie" for copy in copies if lacks_table(copy)]
-        raise Fault("; ".join([*found, *lost, *(f"{copy.path} is empty" for copy in copies if not copy.size)]))
+        unread = [f"FFmpeg can't read {copy.path}, though its parts hang together: what describes its video to a decoder may be damaged, and a copy "
+                  "beside it may have that right" for copy in copies if is_refused(copy)]
+        raise Fault("; ".join([*found, *lost, *unread, *(f"{copy.path} is empty" for copy in copies if not copy.size)]))
     if len(files) == 1:
         return Arrangement(files[0].numbers, files[0].layout, left=left)
     basis = choose(files, copies, judge)
@@ -229,6 +231,11 @@ def arrange(copies: typing.Sequence[Copy], judge: Judge,
 
 def lacks_table(copy: Copy) -> bool:
     return any(found.flaw is structure.Flaw.NO_TABLE for found in structure.read(copy).flaws)
+
+
+def is_refused(copy: Copy) -> bool:
+    """Whether FFmpeg was asked of a copy, and can't read it, though nothing is wrong with how its parts hang together."""
+    return copy.container is not None and not copy.container.form and not structure.read(copy).flaws
 
 
 def choose(files: typing.Sequence[File], copies: typing.Sequence[Copy], judge: Judge) -> File:

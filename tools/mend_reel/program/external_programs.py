@@ -5,6 +5,7 @@ import contextlib
 import os
 import pathlib
 import shutil
+import signal
 import subprocess
 import sys
 import typing
@@ -39,8 +40,9 @@ def started(words: typing.Sequence[Word], faults: typing.IO[bytes]) -> "typing.I
 
 def last_line(text: bytes, status: int) -> str:
     """The fault that a program reported on its standard error, without its name."""
-    how = f"was ended by signal {-status}" if status < 0 else f"ended with status {status}"
-    lines = os.fsdecode(text).strip().splitlines() or [f"the program {how}"]
+    how = (f"was ended by signal {-status} ({signal.strsignal(-status)}), as where memory runs out" if status < 0 else
+           f"ended with status {status} and no word, as where the folder of temporary files is full")
+    lines = os.fsdecode(text).strip().splitlines() or [f"ffv1restore {how}"]
     return lines[-1].replace("ffv1restore: ", "", 1)
 
 

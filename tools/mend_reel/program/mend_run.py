@@ -8,7 +8,7 @@ import typing
 from ..model import Copy, Fault, Outcome, SliceReport, State, Stretch
 from .external_programs import last_line, started
 
-Lines = typing.Iterator[list[str]]
+PIECE = 1 << 20
 
 
 def link_to(copy: Copy, work: pathlib.Path) -> pathlib.Path:
@@ -92,18 +92,29 @@ def mend(program: str, stretches: typing.Sequence[Stretch], listed: pathlib.Path
         if not is_understood:
             raise Fault(f"{program} did not report what became of each stretch")
         faults.seek(0)
-        judge_end(child.returncode, faults.read(), {out: out_name, **{str(name): copy.path for name, copy in zip(names, copies)}})
+        if child.returncode not in (0, 3):
+            said = last_line(faults.read(), child.returncode)
+            cause = f": {why_not_written(out)}" if said == f"cannot write {out}" else ""
+            raise Fault(known_by(said, {out: out_name, **{str(name): copy.path for name, copy in zip(names, copies)}}) + cause)
     good = all(outcome.state.is_good() for outcome in found)
     if count != len(stretches) or (child.returncode == 0) != (good and not is_alone):
         raise Fault(f"{program} did not report what became of each stretch")
     return found
 
 
-def judge_end(status: int, faults: bytes, names: typing.Mapping[str, str]) -> None:
-    """Passes on the program's fault, with the names of files that a person knows."""
-    if status in (0, 3):
-        return
-    line = last_line(faults, status)
+def known_by(line: str, names: typing.Mapping[str, str]) -> str:
+    """A line with the names of files that a person knows."""
     for name, known in names.items():
         line = line.replace(name, known)
-    raise Fault(line)
+    return line
+
+
+def why_not_written(out: str) -> str:
+    """Why OUT can't be written to, which the program does not say: what the system says of one more try, at its end."""
+    try:
+        with open(out, "r+b") as made:
+            made.seek(0, os.SEEK_END)
+            made.write(bytes(PIECE))
+    except OSError as error:
+        return error.strerror
+    return "the program could not, though there is room now"
