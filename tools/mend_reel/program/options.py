@@ -10,8 +10,8 @@ USAGE = """mend-reel [options] -o OUT COPY...
        mend-reel --check [options] COPY..."""
 DESCRIPTION = """Makes OUT, one good recording, from damaged copies of a recording with FFV1 video. No copy is changed. Every byte of OUT is
 verified by a checksum, or copies agree on it, or it is reported. Without -o the first COPY is OUT, as it was before there was -o: for
-scripts. An OUT that is one of the copies is refused. Where OUT or FILE is a device, a pipe or -, it is written to, not replaced; - is standard
-output."""
+scripts. An OUT that is one of the copies is refused. Where OUT or FILE is a device, a pipe or -, it is written to, not replaced; - is
+standard output."""
 EPILOG = """exit status: 0 OUT is what was recorded, as far as any check can tell (with --check: no copy is damaged); 1 a fault, reported on
 standard error, and no OUT was made, or the line says that it was; 2 the command line was not understood; 3 OUT was made and something is
 open or missing in it (with --check: a copy is damaged)"""
@@ -69,10 +69,11 @@ def parser() -> argparse.ArgumentParser:
     add("--json", metavar="FILE", help="write the same for machines")
     add("--digest", metavar="FILE", help="compare OUT with the digest that md5sum, sha1sum, sha256sum or FFmpeg's framemd5 wrote")
     add("--digests", action="store_true", help="take the SHA-256 of OUT and of each copy into the reports")
-    add("--map", metavar="COPY=FILE", action="append", default=[], help="what GNU ddrescue's mapfile FILE calls unread is no version of COPY")
+    add("--map", metavar="COPY=FILE", action="append", default=[],
+        help="what GNU ddrescue's mapfile FILE calls unread is no version of COPY")
     add("--keep", metavar="DIR", help="keep in DIR the list of what lies where, and the holding file and report of each damaged frame")
     add("--pictures", metavar="DIR", help="write to DIR an image of what can be shown of each frame that is not restored")
-    add("--jobs", metavar="N", type=count, default=1, help="work on N copies at a time")
+    add("--jobs", metavar="N", type=count, default=1, help="have ffprobe read, and take the digests of, N copies at a time")
     add("--quiet", action="store_true", help="report no progress")
     add("--version", action="version", version=f"mend-reel {VERSION}")
     return made
