@@ -82,9 +82,9 @@ class What:
 
 @dataclasses.dataclass(frozen=True)
 class Track:
-    """A track as the container describes it. `step` is the time from a frame to the next, where the container gives it, `byte_rate` how many
-    bytes of PCM play in a second. `is_encoded` is whether FFV1 frames are stored in another form: compressed, say; `is_flac`, whether each
-    block is a frame of FLAC."""
+    """A track as the container describes it. `step` is the time from a frame to the next, where the container gives it, `byte_rate` how
+    many bytes of PCM play in a second. `is_encoded` is whether FFV1 frames are stored in another form: compressed, say; `is_flac`, whether
+    each block is a frame of FLAC."""
 
     number: int
     content: Content
@@ -125,8 +125,8 @@ class Claims:
     ends: typing.Mapping[int, float] = dataclasses.field(default_factory=dict)
 
     def of_tracks(self, numbers: typing.Mapping[int, int]) -> Claims:
-        """What another file claims of OUT: how long it plays, and how many frames those of its tracks have that have numbers in OUT. Its times
-        may begin elsewhere."""
+        """What another file claims of OUT: how long it plays, and how many frames those of its tracks have that have numbers in OUT. Its
+        times may begin elsewhere."""
         return Claims(self.duration, {numbers[track]: count for track, count in self.counts.items() if track in numbers})
 
 
@@ -205,8 +205,8 @@ def unwatched(place: int) -> None:
 
 @dataclasses.dataclass
 class Copy:
-    """A copy: its path, its open file, and its length in bytes. `form` is the container's name: `matroska`, one of FFmpeg's, or empty. `unread`
-    is from where to where it could not be read when it was made, by a map. `watch` is called with each place that is read.
+    """A copy: its path, its open file, and its length in bytes. `form` is the container's name: `matroska`, one of FFmpeg's, or empty.
+    `unread` is from where to where it could not be read when it was made, by a map. `watch` is called with each place that is read.
     `container` is what ffprobe reported of it, once it was asked."""
 
     path: str

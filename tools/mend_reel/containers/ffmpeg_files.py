@@ -53,11 +53,11 @@ def find_records(copy: Copy, tracks: typing.Sequence[Track], frames: typing.Sequ
     """From where to where Configuration Records lie in a file: before its first frame, or after its last one."""
     if not frames:
         return []
-    found = []
+    found, records = [], {track.record for track in tracks if track.is_ffv1 and len(track.record) >= FEWEST_RECORD}
     for start, size in ((0, min(frames[0].place, MOST_HEADER)), (frames[-1].end, min(copy.size - frames[-1].end, MOST_HEADER))):
         data = copy.read(start, size)
-        found += [(start + data.find(record), start + data.find(record) + len(record)) for record in {track.record for track in tracks if track.is_ffv1}
-                  if len(record) >= FEWEST_RECORD and record in data]
+        places = [(start + data.find(record), len(record)) for record in records if record in data]
+        found += [(place, place + length) for place, length in places]
     return found
 
 

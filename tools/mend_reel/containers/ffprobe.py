@@ -22,8 +22,8 @@ FARTHEST, MOST_MISSES = 64, 16
 AROUND, MOST_SEARCHES = 1 << 15, 8
 # Who watches a copy is told how far ffprobe is once in so many lines.
 LINES_BETWEEN = 64
-ENTRIES = ("packet=stream_index,pts_time,dts_time,duration_time,size,pos,flags"
-           "{more}:stream=index,codec_type,codec_name,width,height,avg_frame_rate,nb_frames,duration,start_time:format=format_name,duration")
+ENTRIES = ("packet=stream_index,pts_time,dts_time,duration_time,size,pos,flags{more}:"
+           "stream=index,codec_type,codec_name,width,height,avg_frame_rate,nb_frames,duration,start_time:format=format_name,duration")
 CONTENTS = {"video": Content.VIDEO, "audio": Content.SOUND, "subtitle": Content.SUBTITLES}
 # The containers whose header gives how long they play: of others FFmpeg guesses. An AVI file counts empty frames too.
 GIVE_DURATION = {"avi", "mov", "mxf"}
@@ -140,8 +140,8 @@ def can_ask() -> bool:
 
 
 def ask(copy: Copy) -> Container:
-    """What ffprobe reports of a copy. Digests of packets, for which it works on all bytes, are asked for only where the footers of frames do
-    not show where these lie."""
+    """What ffprobe reports of a copy. Digests of packets, for which it works on all bytes, are asked for only where the footers of frames
+    do not show where these lie."""
     if not can_ask():
         raise Fault(f"there is no ffprobe on the PATH, and {copy.path} is no Matroska file that can be read without it")
     container = ask_for(copy, [], "")
@@ -229,8 +229,8 @@ class Locator:
         return self.search_around(packet)
 
     def search_around(self, packet: Packet) -> typing.Optional[int]:
-        """Looks for a frame further away, and not where another one is reported: the file lost or gained bytes before it, and so has the next
-        one the same distance."""
+        """Looks for a frame further away, and not where another one is reported: the file lost or gained bytes before it, and so has the
+        next one the same distance."""
         if not self.reported or packet.digest is not None or self.searches >= MOST_SEARCHES:
             return None
         self.searches += 1
@@ -253,7 +253,8 @@ class Locator:
 
 
 def locate(copy: Copy, packets: typing.Sequence[Packet], video: typing.Container[int]) -> list[Packet]:
-    """The packets with their places. Without a digest those that are not of FFV1 tracks lie where they are reported, or some bytes after."""
+    """The packets with their places. Without a digest those that are not of FFV1 tracks lie where they are reported, or some bytes
+    after."""
     end = structure.read(copy).end
     reported = [packet.reported for packet in packets] if end is not None and end != copy.size else []
     locators: dict[int, Locator] = collections.defaultdict(lambda: Locator(copy, reported))

@@ -46,8 +46,8 @@ def is_divided(aligned: AlignedCopies, child: elements.Child) -> typing.Optional
     return None if known is None else elements.divides(aligned, child.content, child.end, known)
 
 
-TOP = elements.Schema(STRONG | {clusters.VOID, clusters.CRC}, STRONG, frozenset({SEGMENT}), frozenset({SEGMENT, CLUSTER}), clusters.IN_CLUSTER, signs,
-                 confirms=is_divided)
+TOP = elements.Schema(STRONG | {clusters.VOID, clusters.CRC}, STRONG, frozenset({SEGMENT}), frozenset({SEGMENT, CLUSTER}),
+                      clusters.IN_CLUSTER, signs, confirms=is_divided)
 
 
 def is_matroska(copies: typing.Sequence[Copy]) -> bool:
@@ -105,8 +105,8 @@ class MatroskaReader:
         strong = [child for child in self.top if child.identity in STRONG]
         if segment and claimed_end is not None and any(child.place < claimed_end < child.end for child in strong):
             self.gaps.insert(0, (segment.place, segment.content - segment.place))
-        return Layout(size, list(self.metadata.tracks), self.stretches.frames, self.stretches.made, self.metadata.claims, self.gaps, rises=True,
-                      end=claimed_end, bare=list(self._bare()))
+        return Layout(size, list(self.metadata.tracks), self.stretches.frames, self.stretches.made, self.metadata.claims, self.gaps,
+                      rises=True, end=claimed_end, bare=list(self._bare()))
 
     def _bare(self) -> typing.Iterator[tuple[int, int]]:
         """Yields where elements lie that have no CRC-32, though others of the same ID have one, or most others."""
@@ -221,8 +221,9 @@ class MatroskaReader:
 
     def _records(self, child: elements.Child) -> list[tuple[int, int]]:
         """Returns from where to where the Configuration Records of FFV1 tracks lie in what describes the tracks."""
-        content, records = self._content(child), [track.record for track in self.metadata.tracks if track.is_ffv1]
-        starts = [(child.content + content.find(record), len(record)) for record in records if len(record) >= FEWEST_RECORD and record in content]
+        content, tracks = self._content(child), [track for track in self.metadata.tracks if track.is_ffv1]
+        records = [track.record for track in tracks if len(track.record) >= FEWEST_RECORD and track.record in content]
+        starts = [(child.content + content.find(record), len(record)) for record in records]
         return [(start, start + size) for start, size in sorted(starts)]
 
     def _has_crc(self, child: elements.Child) -> bool:
@@ -253,7 +254,8 @@ class MatroskaReader:
 
     def _end(self, item: clusters.Item) -> float:
         track = self.clusters.tracks.get(item.track or 0)
-        lasts = item.lasts or self.clusters.steps.get(item.track or 0) or (item.end - item.start) / (track and track.byte_rate or float("inf"))
+        by_size = (item.end - item.start) / (track and track.byte_rate or float("inf"))
+        lasts = item.lasts or self.clusters.steps.get(item.track or 0) or by_size
         return round((item.time or 0.0) + lasts, clusters.DIGITS)
 
     def _add_live(self, live: typing.Sequence[elements.Child]) -> None:
@@ -288,7 +290,8 @@ def with_records(start: int, end: int, records: typing.Iterable[tuple[int, int]]
 
 
 def layout(copies: typing.Sequence[Copy]) -> Layout:
-    """Returns what lies where in a file, from copies of it: they have the same bytes at the same places but for damage, and may end early."""
+    """Returns what lies where in a file, from copies of it: they have the same bytes at the same places but for damage, and may end
+    early."""
     return MatroskaReader(copies).layout()
 
 

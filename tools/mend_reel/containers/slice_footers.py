@@ -35,7 +35,8 @@ def seems_frame(copy: Copy, start: int, end: int) -> bool:
 
 
 def nearest(data: bytes, size: int, middle: int) -> typing.Optional[int]:
-    """Returns where in some bytes a frame of a size lies by its footers, which lead from its end to its start: the one nearest to a place."""
+    """Returns where in some bytes a frame of a size lies by its footers, which lead from its end to its start: the one nearest to a
+    place."""
     places = sorted(range(len(data) - size + 1), key=lambda start: abs(start - middle))
     return next((start for start in places if leads(data, start, start + size)), None)
 

@@ -25,16 +25,17 @@ class Stretches:
         return tuple(start if end <= size else None for size in self._sizes)
 
     def plain(self, start: int, end: int, what: What, vouched: Numbers = frozenset(), joins: bool = True) -> None:
-        """Adds bytes that no checksum covers, cut where copies end. The header of an element does not join what is before it: its content may
-        vouch for it."""
+        """Adds bytes that no checksum covers, cut where copies end. The header of an element does not join what is before it: its content
+        may vouch for it."""
         bounds = [start, *sorted({size for size in self._sizes if start < size < end}), end]
         for first, last in zip(bounds, bounds[1:]):
             self._plain(first, last, what, vouched, joins)
 
     def _plain(self, start: int, end: int, what: What, vouched: Numbers, joins: bool) -> None:
         last, places = self.made[-1] if self.made else None, self._places(start, end)
-        if (joins and last and last.kind is Kind.PLAIN and last.end == start and last.vouched == vouched and last.size + end - start <= MOST_PLAIN
-                and (last.what.content, last.what.track) == (what.content, what.track) and last.places.count(None) == places.count(None)):
+        if (joins and last and last.kind is Kind.PLAIN and last.end == start and last.vouched == vouched
+                and last.size + end - start <= MOST_PLAIN and last.places.count(None) == places.count(None)
+                and (last.what.content, last.what.track) == (what.content, what.track)):
             self.made[-1] = dataclasses.replace(last, size=end - last.start, what=dataclasses.replace(last.what, end=what.end))
             return
         for place in range(start, end, MOST_PLAIN):

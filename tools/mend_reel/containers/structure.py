@@ -15,11 +15,11 @@ MEDIA = re.compile(rb"([0-9]{2})(?:d[bc]|wb|tx)")
 MXF_KEY, MXF_HEAD = bytes.fromhex("060e2b34"), 16
 NUT_INDEX, NUT_ID, TAIL = bytes.fromhex("4e58dd672f23e64e"), b"nut/multimedia container\0", 1 << 20
 MOV_MASTERS = frozenset({b"moov", b"trak", b"mdia", b"minf", b"stbl", b"mvex", b"moof", b"traf"})
-MATROSKA_MASTERS = frozenset({0x1654AE6B, 0x1549A966, 0x1C53BB6B, 0x1254C367, 0x114D9B74, 0x1941A469, 0x1043A770, 0xAE, 0xE0, 0xE1, 0x6D80, 0x6240,
-                              0xBB, 0xB7, 0x7373, 0x63C0, 0x67C8, 0x4DBB, 0x61A7, 0x45B9, 0xB6, 0x1A45DFA3})
+MATROSKA_MASTERS = frozenset({0x1654AE6B, 0x1549A966, 0x1C53BB6B, 0x1254C367, 0x114D9B74, 0x1941A469, 0x1043A770, 0xAE, 0xE0, 0xE1, 0x6D80,
+                              0x6240, 0xBB, 0xB7, 0x7373, 0x63C0, 0x67C8, 0x4DBB, 0x61A7, 0x45B9, 0xB6, 0x1A45DFA3})
 CHAPTER_DISPLAY, ANY_ID = 0x80, b"\xec"
-MATROSKA_TEXTS = frozenset({0x45A3, 0x4487, 0x447A, 0x447B, 0x63CA, 0x467E, 0x466E, 0x4660, 0x437C, 0x437D, 0x5654, 0x7BA9, 0x4D80, 0x5741, 0x536E,
-                            0x86, 0x258688, 0x22B59C, 0x22B59D})
+MATROSKA_TEXTS = frozenset({0x45A3, 0x4487, 0x447A, 0x447B, 0x63CA, 0x467E, 0x466E, 0x4660, 0x437C, 0x437D, 0x5654, 0x7BA9, 0x4D80, 0x5741,
+                            0x536E, 0x86, 0x258688, 0x22B59C, 0x22B59D})
 MOST_DEPTH = 16
 
 
@@ -228,7 +228,8 @@ def read_mxf(copy: Copy) -> Structure:
 
 def has_lost_text(content: bytes, depth: int = 0) -> bool:
     """Whether a text in the content of a Matroska master, or in the masters in it, has a zero byte, as where a sector is lost."""
-    return any(identity in MATROSKA_TEXTS and 0 in value or identity in MATROSKA_MASTERS and depth < MOST_DEPTH and has_lost_text(value, depth + 1)
+    return any(0 in value if identity in MATROSKA_TEXTS else
+               identity in MATROSKA_MASTERS and depth < MOST_DEPTH and has_lost_text(value, depth + 1)
                for identity, value in ebml.children(content))
 
 
@@ -238,10 +239,12 @@ def divides(content: bytes, depth: int = 0) -> bool:
     at = 0
     while at < len(content):
         is_display = content[at] == CHAPTER_DISPLAY
-        head = ebml.read_head(ANY_ID + content[at + 1 : at + ebml.LONGEST_HEAD] if is_display else content[at : at + ebml.LONGEST_HEAD], 0, at)
+        start = content[at : at + ebml.LONGEST_HEAD]
+        head = ebml.read_head(ANY_ID + start[1:] if is_display else start, 0, at)
         if head is None or head.end is None or head.end > len(content):
             return False
-        if (is_display or head.identity in MATROSKA_MASTERS) and depth < MOST_DEPTH and not divides(content[head.content : head.end], depth + 1):
+        is_master = is_display or head.identity in MATROSKA_MASTERS
+        if is_master and depth < MOST_DEPTH and not divides(content[head.content : head.end], depth + 1):
             return False
         at = head.end
     return True

@@ -35,7 +35,8 @@ class Alignment:
     def is_same_file(self) -> bool:
         """Whether a quarter of the places is alike, and few spans cover all but a quarter of the shorter copy."""
         covered = sum(span.end - span.start for span in self.spans)
-        return QUARTER * self.alike >= self.compared > 0 and len(self.spans) <= MOST_SPANS and QUARTER * covered >= (QUARTER - 1) * self.least
+        is_alike, is_covered = QUARTER * self.alike >= self.compared > 0, QUARTER * covered >= (QUARTER - 1) * self.least
+        return is_alike and is_covered and len(self.spans) <= MOST_SPANS
 
     def is_shifted(self) -> bool:
         return any(span.shift for span in self.spans)
@@ -60,8 +61,8 @@ def align(one: Copy, other: Copy) -> Alignment:
 
 
 class Search:
-    """Follows the shift from place to place. Another one counts where more of the places that follow have it than the old one: a picture that
-    does not move has the same bytes in many places."""
+    """Follows the shift from place to place. Another one counts where more of the places that follow have it than the old one: a picture
+    that does not move has the same bytes in many places."""
 
     def __init__(self, one: Copy, other: Copy, step: int) -> None:
         self.one, self.other, self.step = one, other, step

@@ -102,8 +102,8 @@ def group(copies: typing.Sequence[Copy]) -> tuple[list[list[int]], list[Left]]:
 
 
 def is_same_file(one: Copy, other: Copy) -> bool:
-    """Whether two copies are of one file: most of their bytes lie at the same places. Two that are read as different containers are not; nor
-    is a shorter one whose header gives its own length, and not that of the longer one."""
+    """Whether two copies are of one file: most of their bytes lie at the same places. Two that are read as different containers are not;
+    nor is a shorter one whose header gives its own length, and not that of the longer one."""
     if not may_be_same(one, other):
         return False
     short, long = sorted((one, other), key=lambda copy: copy.size)
@@ -118,7 +118,8 @@ def may_be_same(one: Copy, other: Copy) -> bool:
 
 
 def aligned(basis: typing.Sequence[Copy], other: Copy) -> typing.Optional[Alignment]:
-    """Where the bytes of a file lie in a copy of it that lost or gained bytes, or None where it is none: its header gives the same length."""
+    """Where the bytes of a file lie in a copy of it that lost or gained bytes, or None where it is none: its header gives the same
+    length."""
     sizes = {claimed_size(copy) for copy in basis}
     if claimed_size(other) not in sizes | {None}:
         return None
@@ -220,8 +221,8 @@ def arrange(copies: typing.Sequence[Copy], judge: Judge,
         names = ", ".join(copy.path for copy in copies if copy.size)
         found = [f"no FFV1 video was found in {names}"] if names else []
         lost = [f"{copy.path} has lost what says where its frames lie" for copy in copies if lacks_table(copy)]
-        unread = [f"FFmpeg can't read {copy.path}, though its parts hang together: what describes its video to a decoder may be damaged, and a copy "
-                  "beside it may have that right" for copy in copies if is_refused(copy)]
+        unread = [f"FFmpeg can't read {copy.path}, though its parts hang together: what describes its video to a decoder may be damaged, "
+                  "and a copy beside it may have that right" for copy in copies if is_refused(copy)]
         raise Fault("; ".join([*found, *lost, *unread, *(f"{copy.path} is empty" for copy in copies if not copy.size)]))
     if len(files) == 1:
         return Arrangement(files[0].numbers, files[0].layout, left=left)

@@ -10,8 +10,8 @@ from . import differences
 
 
 def drop_broken(stretches: typing.Iterable[Stretch], copies: typing.Sequence[Copy]) -> tuple[list[Stretch], collections.Counter[int]]:
-    """Takes away the place of a copy in an element's header where it has other bytes than the copies whose headers the container confirms: the
-    size of an element and its ID are right where they lead on. Returns the stretches, and how many places were taken away by copy."""
+    """Takes away the place of a copy in an element's header where it has other bytes than the copies whose headers the container confirms:
+    the size of an element and its ID are right where they lead on. Returns the stretches, and how many places were taken away by copy."""
     dropped: collections.Counter[int] = collections.Counter()
     made = []
     for stretch in stretches:

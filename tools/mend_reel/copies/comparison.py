@@ -1,5 +1,5 @@
-"""The stretches of OUT as the copies have them: split where they differ, without versions that are known to be wrong; and whose bytes OUT has
-where nothing vouches for any."""
+"""The stretches of OUT as the copies have them: split where they differ, without versions that are known to be wrong; and whose bytes OUT
+has where nothing vouches for any."""
 from __future__ import annotations
 
 import dataclasses
@@ -26,8 +26,8 @@ class Comparison:
     notes: list[str]
 
     def sources(self, listed: typing.Sequence[Stretch], outcomes: typing.Sequence[Outcome], judge: Judge) -> dict[int, Stretch]:
-        """The stretches of a list for whose bytes nothing vouches and which are to be taken from another copy than they were, by their numbers:
-        the program reported where copies differ."""
+        """The stretches of a list for whose bytes nothing vouches and which are to be taken from another copy than they were, by their
+        numbers: the program reported where copies differ."""
         doubtful = {outcome.number for outcome in outcomes if not outcome.state.is_good()}
         unlike = {outcome.number for outcome in outcomes}
         if not doubtful:
@@ -49,8 +49,8 @@ def compare(layout: Layout, inputs: Inputs, report: typing.Callable[[float, floa
     stretches, broken = broken_headers.drop_broken(stretches, inputs.files)
     stretches = [preferred_copy.without_lost(stretch, inputs.files) for stretch in stretches]
     reads = [number < inputs.own and can_be_read(copy, layout, broken[number]) for number, copy in enumerate(inputs.files)]
-    notes = [f"copy {inputs.numbers[number] + 1} has damaged element headers in {f'{count} places' if count > 1 else 'one place'}, where those of "
-             "another copy lead on" for number, count in sorted(broken.items())]
+    notes = [f"copy {inputs.numbers[number] + 1} has damaged element headers in {f'{count} places' if count > 1 else 'one place'}, "
+             "where those of another copy lead on" for number, count in sorted(broken.items())]
     return Comparison(dataclasses.replace(layout, stretches=stretches), inputs, claims, reads, notes)
 
 

@@ -1,4 +1,5 @@
-"""The files that the program reads: the copies of OUT's file, other files that have some of its bytes, and files that carry frames of those."""
+"""The files that the program reads: the copies of OUT's file, other files that have some of its bytes, and files that carry frames of
+those."""
 from __future__ import annotations
 
 import dataclasses
@@ -22,8 +23,9 @@ class Inputs:
 
 
 def gather(arrangement: Arrangement, layout: Layout, copies: typing.Sequence[Copy], work: pathlib.Path) -> tuple[Inputs, Layout]:
-    """The files that serve, and the layout with the places of its stretches in each of them: of a copy that lost or gained bytes all that lies
-    in its spans, and of other files frames that no element covers, and elements that no copy of OUT's file has whole, with their frames."""
+    """The files that serve, and the layout with the places of its stretches in each of them: of a copy that lost or gained bytes all that
+    lies in its spans, and of other files frames that no element covers, and elements that no copy of OUT's file has whole, with their
+    frames."""
     basis = [copies[number] for number in arrangement.basis]
     inputs = Inputs(list(basis), list(arrangement.basis), len(basis))
     bounds = set().union(*(matched.alignment.bounds() for matched in arrangement.matched if matched.alignment))

@@ -53,7 +53,8 @@ class KnownDamage:
 
 @dataclasses.dataclass
 class Case:
-    """A stretch in which copies differ: those with equal bytes, those that pass a check, those that may serve, and the rule that decided."""
+    """A stretch in which copies differ: those with equal bytes, those that pass a check, those that may serve, and the rule that
+    decided."""
 
     stretch: Stretch
     groups: differences.Partition
@@ -152,7 +153,8 @@ def by_check(case: Case) -> Candidates:
 
 
 def without_lost_sectors(case: Case, copies: typing.Sequence[Copy]) -> Candidates:
-    """Others have lost sectors there, which are filled with one value now. A copy in which nothing is known to be wrong comes before this."""
+    """Others have lost sectors there, which are filled with one value now. A copy in which nothing is known to be wrong comes before
+    this."""
     stretch = case.stretch
     lost = [number for number in case.candidates if has_lost_sector(stretch, copies, number, case.candidates)]
     others = [number for number in case.candidates if number not in lost]

@@ -30,8 +30,8 @@ def spans_in(copy: Copy, start: int, end: int) -> list[tuple[int, int]]:
 
 
 def part(stretch: Stretch, copies: typing.Sequence[Copy], own: int, start: int, end: int) -> Stretch:
-    """The part of a stretch between two places of OUT. If one copy alone could be read there, and each other one of OUT's file not, what it has
-    stands without doubt. What none could be read is that of the first copy, and open."""
+    """The part of a stretch between two places of OUT. If one copy alone could be read there, and each other one of OUT's file not, what it
+    has stands without doubt. What none could be read is that of the first copy, and open."""
     offset, size = start - stretch.start, end - start
     places = [None if place is None else place + offset for place in stretch.places]
     having = [number for number, place in enumerate(places) if place is not None]
@@ -44,4 +44,5 @@ def part(stretch: Stretch, copies: typing.Sequence[Copy], own: int, start: int, 
         lost = set()
     return dataclasses.replace(
         stretch, start=start, size=size, places=tuple(None if number in lost else place for number, place in enumerate(places)),
-        is_read=not is_unread and bool(lost) and having[:own] == list(range(own)) and len(having) == len(lost) + 1, is_unread=is_unread and stretch.kind is Kind.PLAIN)
+        is_read=not is_unread and bool(lost) and having[:own] == list(range(own)) and len(having) == len(lost) + 1,
+        is_unread=is_unread and stretch.kind is Kind.PLAIN)

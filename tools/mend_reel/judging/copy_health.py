@@ -28,7 +28,8 @@ def health(copy: Copy, number: int, layout: Layout, judge: Judge) -> CopyHealth:
     elements = [at for at, stretch in enumerate(layout.stretches) if stretch.kind is Kind.ELEMENT]
     passing = frozenset(at for at in elements if has_passing(layout, at, number, copy))
     lacks = any(stretch.places[number] is None for stretch in layout.stretches)
-    return CopyHealth(intact, passing, not lacks and not layout.gaps and len(intact) == len(layout.frames) and len(passing) == len(elements))
+    is_undamaged = not lacks and not layout.gaps and len(intact) == len(layout.frames) and len(passing) == len(elements)
+    return CopyHealth(intact, passing, is_undamaged)
 
 
 def has_passing(layout: Layout, at: int, number: int, copy: Copy) -> bool:

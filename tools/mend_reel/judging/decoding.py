@@ -1,5 +1,5 @@
-"""Frames with guessed slices: each of these has what most copies have, or one bit inverted, and so passes. What decodes besides is taken for
-right."""
+"""Frames with guessed slices: each of these has what most copies have, or one bit inverted, and so passes. What decodes besides is taken
+for right."""
 from __future__ import annotations
 
 import typing
@@ -20,8 +20,8 @@ Decodes = typing.Callable[[Track, Frame], bool]
 
 
 class FfmpegDecoder:
-    """Has FFmpeg decode frames of a file. It complains of a slice of a range coder that does not end where its samples do, as a wrong one does
-    in all but a few of 1000. Of Golomb-Rice slices it complains of nothing, so these are not decoded."""
+    """Has FFmpeg decode frames of a file. It complains of a slice of a range coder that does not end where its samples do, as a wrong one
+    does in all but a few of 1000. Of Golomb-Rice slices it complains of nothing, so these are not decoded."""
 
     def __init__(self, out: str) -> None:
         self.out = out
@@ -31,10 +31,12 @@ class FfmpegDecoder:
         if not can_ask() or not has_range_coder(track.record):
             return False
         interval = f"{max(frame.time - BEFORE, 0):.3f}%{frame.time + AFTER:.3f}"
-        done = run("ffprobe", "-v", "warning", "-threads", "1", "-protocol_whitelist", "file", "-select_streams", "v", "-read_intervals", interval,
+        done = run("ffprobe", "-v", "warning", "-threads", "1", "-protocol_whitelist", "file", "-select_streams", "v",
+                   "-read_intervals", interval,
                    "-show_entries", ENTRIES, "-of", "csv=p=0", "file:" + self.out)
         shown = (line.split(",") for line in done.stdout.decode("ascii", "replace").splitlines())
-        found = any(len(words) > 1 and words[0].isdigit() and 0 <= frame.place - int(words[0]) <= HEADER and words[1] == str(frame.size) for words in shown)
+        found = any(len(words) > 1 and words[0].isdigit() and 0 <= frame.place - int(words[0]) <= HEADER and words[1] == str(frame.size)
+                    for words in shown)
         return done.returncode == 0 and not done.stderr.strip() and found
 
 

@@ -17,12 +17,12 @@ class Why(enum.Enum):
 
     DAMAGED = "damaged in every copy; a further copy may restore {it}"
     ALONE_DAMAGED = "damaged in the only copy that has {it}; a further copy may restore {it}"
-    VOTED = ("damaged in every copy; {out} has {it} as most copies have each part of a slice, by which all slices pass. That can be by chance; "
-             "a further copy may restore {it}")
-    REPAIRED = ("damaged in every copy; {out} has {it} with inverted bits, one in a slice, by which all slices pass. That can be by chance; "
-                "a further copy may restore {it}")
-    GUESSED = ("damaged in every copy; {out} has {it} as most copies have each part of some slices, and with one inverted bit in others, by which "
-               "all slices pass. That can be by chance; a further copy may restore {it}")
+    VOTED = ("damaged in every copy; {out} has {it} as most copies have each part of a slice, by which all slices pass. That can be by "
+             "chance; a further copy may restore {it}")
+    REPAIRED = ("damaged in every copy; {out} has {it} with inverted bits, one in a slice, by which all slices pass. That can be by "
+                "chance; a further copy may restore {it}")
+    GUESSED = ("damaged in every copy; {out} has {it} as most copies have each part of some slices, and with one inverted bit in others, "
+               "by which all slices pass. That can be by chance; a further copy may restore {it}")
     BESIDE = "damaged in every copy between the frames, where sound and block headers lie; a further copy may restore {it}"
     DISPUTED = "two different versions pass their checksums; see whether all copies are of one recording. {out} has that of copy {source}"
     DIFFER = "the copies differ, and no checksum says which is right; {out} has that of copy {source}{because}"
@@ -62,8 +62,8 @@ OF_FRAMES = frozenset({Why.HOLE, Why.INDEX, Why.ORDER, Why.UNPLACED, Why.CONTRAR
 
 @dataclasses.dataclass(frozen=True)
 class Reason:
-    """Why a place of OUT is in doubt: what lies there (frames by their numbers, if it is frames), from which byte of OUT to which, from when
-    to when, the copy that OUT follows there, the copy that says so, and how many frames OUT has, or would have."""
+    """Why a place of OUT is in doubt: what lies there (frames by their numbers, if it is frames), from which byte of OUT to which, from
+    when to when, the copy that OUT follows there, the copy that says so, and how many frames OUT has, or would have."""
 
     why: Why
     content: Content = Content.UNKNOWN

@@ -16,8 +16,8 @@ from .results import GUESSED, Counts, FrameResult, FrameState, Results, Sums, is
 
 # What remains of a cluster when the frames in it that are not restored are named.
 OF_CLUSTERS = (Content.CLUSTER, Content.UNKNOWN)
-OF_FLAWS = {Flaw.BROKEN: Why.BROKEN, Flaw.CUT: Why.CUT, Flaw.AFTER_END: Why.AFTER_END, Flaw.COUNT: Why.MISCOUNTED, Flaw.NO_TABLE: Why.NO_TABLE,
-            Flaw.BARE: Why.BARE, Flaw.ZEROS: Why.ZEROS}
+OF_FLAWS = {Flaw.BROKEN: Why.BROKEN, Flaw.CUT: Why.CUT, Flaw.AFTER_END: Why.AFTER_END, Flaw.COUNT: Why.MISCOUNTED,
+            Flaw.NO_TABLE: Why.NO_TABLE, Flaw.BARE: Why.BARE, Flaw.ZEROS: Why.ZEROS}
 # What copies agree on may be so.
 MAY_BE_AGREED = (Flaw.BARE, Flaw.AFTER_END, Flaw.ZEROS)
 PLAYED = (Content.SOUND, Content.VIDEO, Content.SUBTITLES)
@@ -25,12 +25,12 @@ PLAYED = (Content.SOUND, Content.VIDEO, Content.SUBTITLES)
 
 @dataclasses.dataclass
 class Evidence:
-    """What the verdict is judged by: what OUT was made by and its stretches as they were listed; what became of those that are not undamaged;
-    what lies where in OUT as it was read again (None where nothing can be read); what the containers of copies claim of the recording;
-    copies that are other files; copies that are left out; which copy each mark of an outcome is of; what the other files have, by copy;
-    whether damaged element headers of copies were left out; the places of frames with guessed slices that decode; what a kept digest
-    says; whether one file is checked, and no OUT is made; where the parts of OUT, or of that file, do not hang together; and the numbers of
-    frames that fail their parities in elements that pass."""
+    """What the verdict is judged by: what OUT was made by and its stretches as they were listed; what became of those that are not
+    undamaged; what lies where in OUT as it was read again (None where nothing can be read); what the containers of copies claim of the
+    recording; copies that are other files; copies that are left out; which copy each mark of an outcome is of; what the other files have,
+    by copy; whether damaged element headers of copies were left out; the places of frames with guessed slices that decode; what a kept
+    digest says; whether one file is checked, and no OUT is made; where the parts of OUT, or of that file, do not hang together; and the
+    numbers of frames that fail their parities in elements that pass."""
 
     layout: Layout
     stretches: typing.Sequence[Stretch]
@@ -51,8 +51,8 @@ class Evidence:
 
 @dataclasses.dataclass
 class Verdict:
-    """Each reason why OUT may not be what was recorded, what else is to be said, what a kept digest says, and whether it is known how the parts
-    of the file hang together. A digest of a whole file decides; so does one of its frames that differ."""
+    """Each reason why OUT may not be what was recorded, what else is to be said, what a kept digest says, and whether it is known how the
+    parts of the file hang together. A digest of a whole file decides; so does one of its frames that differ."""
 
     reasons: list[Reason]
     notes: list[str]
@@ -136,7 +136,8 @@ def of_other_contents(evidence: Evidence) -> typing.Iterator[Reason]:
 def of_tags(evidence: Evidence) -> list[str]:
     """Tags of other files: whoever writes a file writes some."""
     own = evidence.layout.contents()
-    return [f"copy {copy + 1} has tags, and OUT has none" for copy, other in evidence.others.items() if Content.TAGS in other.contents() - own]
+    return [f"copy {copy + 1} has tags, and OUT has none" for copy, other in evidence.others.items()
+            if Content.TAGS in other.contents() - own]
 
 
 def of_records(evidence: Evidence) -> typing.Iterator[Reason]:
@@ -223,7 +224,8 @@ def of_stretch(stretch: Stretch, state: State, lost: typing.Sequence[FrameResult
     if stretch.is_unread:
         yield of_bytes(Why.NEVER_READ, stretch)
     elif state is State.OPEN:
-        yield dataclasses.replace(of_frame(Why.DIFFER, lost[0], source), because=stretch.because) if lost else of_bytes(Why.DIFFER, stretch, source)
+        differ = of_frame(Why.DIFFER, lost[0], source) if lost else of_bytes(Why.DIFFER, stretch, source)
+        yield dataclasses.replace(differ, because=stretch.because)
     elif state is State.DISPUTED:
         yield of_bytes(Why.DISPUTED, stretch, source)
     elif lost:

@@ -43,7 +43,8 @@ class Held:
 
 def refuse_kept(folders: typing.Iterable[str], copies: typing.Sequence[str], force: bool) -> None:
     """Refuses to overwrite what an earlier call kept in some folders, and copies that have such names."""
-    found = [os.path.join(folder, name) for folder in folders if os.path.isdir(folder) for name in sorted(os.listdir(folder)) if KEPT.fullmatch(name)]
+    found = [os.path.join(folder, name) for folder in folders if os.path.isdir(folder)
+             for name in sorted(os.listdir(folder)) if KEPT.fullmatch(name)]
     for path in found:
         if any(is_same(path, copy) for copy in copies):
             raise Fault(f"{path} is one of the copies")

@@ -12,8 +12,8 @@ FIRST_PART = 6
 
 
 def list_of(stretches: typing.Iterable[Stretch]) -> list[Stretch]:
-    """The stretches as they can stand in a list. What the program would refuse is changed: a place that does not rise is none, and where the
-    source lacks the stretch the first copy that has it is its source."""
+    """The stretches as they can stand in a list. What the program would refuse is changed: a place that does not rise is none, and where
+    the source lacks the stretch the first copy that has it is its source."""
     listed: list[Stretch] = []
     ends: list[int] = []
     for piece in itertools.chain.from_iterable(map(pieces, stretches)):

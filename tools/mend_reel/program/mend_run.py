@@ -69,8 +69,8 @@ class ReportReader:
 
 def mend(program: str, stretches: typing.Sequence[Stretch], listed: pathlib.Path, out: str, out_name: str, copies: typing.Sequence[Copy],
          work: pathlib.Path, report: typing.Callable[[int], None]) -> list[Outcome]:
-    """Has the program write `out`, which a person knows by another name, by a list, and returns what became of each stretch that some copy has
-    otherwise, or that is open. `report` is called with how many bytes of OUT are done."""
+    """Has the program write `out`, which a person knows by another name, by a list, and returns what became of each stretch that some copy
+    has otherwise, or that is open. `report` is called with how many bytes of OUT are done."""
     names = [link_to(copy, work) for copy in copies]
     command = [program, "mend", str(listed), out, *map(str, names)]
     found, done, count, is_alone, is_understood = [], 0, 0, False, True

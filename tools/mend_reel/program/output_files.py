@@ -1,5 +1,5 @@
-"""The files that are made: each as a part beside its name until it is done, so that what is there stays as it is. What names a device, a pipe
-or an open file is written to at the end, and not replaced."""
+"""The files that are made: each as a part beside its name until it is done, so that what is there stays as it is. What names a device, a
+pipe or an open file is written to at the end, and not replaced."""
 from __future__ import annotations
 
 import contextlib

@@ -9,8 +9,8 @@ Found = typing.TypeVar("Found")
 
 
 def of_each(jobs: int, work: typing.Callable[[Item], Found], items: typing.Sequence[Item]) -> list[Found]:
-    """What is found for each item, in their order, so many at a time. Other programs do the work, or the system does, so threads serve. After
-    a fault or an interrupt nothing is begun any more."""
+    """What is found for each item, in their order, so many at a time. Other programs do the work, or the system does, so threads serve.
+    After a fault or an interrupt nothing is begun any more."""
     if jobs == 1 or len(items) < 2:
         return list(map(work, items))
     pool = concurrent.futures.ThreadPoolExecutor(min(jobs, len(items)))

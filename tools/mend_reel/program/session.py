@@ -38,9 +38,9 @@ SUFFIXES = {MATROSKA: {".mkv", ".webm", ".mka"}, "avi": {".avi"}, "mov": {".mov"
 
 @dataclasses.dataclass
 class Made:
-    """What was made: the stretches in the order of OUT, what became of those that are not undamaged, by their numbers there, what lies where
-    in OUT when it is read again, where its parts do not hang together, its path while it is made, and the places of frames with guessed
-    slices that decode."""
+    """What was made: the stretches in the order of OUT, what became of those that are not undamaged, by their numbers there, what lies
+    where in OUT when it is read again, where its parts do not hang together, its path while it is made, and the places of frames with
+    guessed slices that decode."""
 
     stretches: list[Stretch]
     outcomes: list[Outcome]
@@ -52,8 +52,8 @@ class Made:
 
 @dataclasses.dataclass
 class Outputs:
-    """The files that a call makes, whose parts are there before the work begins; what runs that were killed left of OUT and of working files;
-    and whether OUT is made."""
+    """The files that a call makes, whose parts are there before the work begins; what runs that were killed left of OUT and of working
+    files; and whether OUT is made."""
 
     files: Files
     out: typing.Optional[Output] = None
@@ -249,7 +249,8 @@ class Session:
         outcomes = self.mend_listed("list", listed, out, comparison)
         return self.mend_anew(comparison, listed, outcomes, comparison.sources(listed, outcomes, self.judge), out)
 
-    def followed(self, comparison: Comparison, listed: list[Stretch], outcomes: list[Outcome], out: str) -> tuple[list[Stretch], list[Outcome]]:
+    def followed(self, comparison: Comparison, listed: list[Stretch], outcomes: list[Outcome],
+                 out: str) -> tuple[list[Stretch], list[Outcome]]:
         """OUT as it is, or with the container of the copy that shows more right frames than OUT does, where copies differ in it."""
         ways = {outcome.number: listed[outcome.number] for outcome in outcomes if outcome.state is State.OPEN}
         if not any(follow(stretch, stretch.source) is not stretch for stretch in ways.values()):
@@ -269,7 +270,8 @@ class Session:
             few = self.mend_listed("few", self.write_list("few", list(changed.values())), str(again), comparison)
             patch(again, out, list(changed.values()))
             anew = [dataclasses.replace(outcome, number=list(changed)[outcome.number]) for outcome in few]
-            outcomes = sorted([*(outcome for outcome in outcomes if outcome.number not in changed), *anew], key=lambda outcome: outcome.number)
+            kept = [outcome for outcome in outcomes if outcome.number not in changed]
+            outcomes = sorted([*kept, *anew], key=lambda outcome: outcome.number)
             self.write_list("list", listed)
         self.keeper.keep_list(self.work / "list", comparison.inputs.files)
         return listed, outcomes

@@ -1,5 +1,5 @@
-"""The folder for working files, which is removed at the end. A run holds a lock in its own, so that one left by a run that was killed is known
-from one that is in use."""
+"""The folder for working files, which is removed at the end. A run holds a lock in its own, so that one left by a run that was killed is
+known from one that is in use."""
 from __future__ import annotations
 
 import contextlib

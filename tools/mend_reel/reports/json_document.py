@@ -1,9 +1,8 @@
 """The report for machines: one document in JSON, written as it goes. docs/mend-reel.schema.json says what it has.
 
 A path that is not UTF-8 has the replacement character U+FFFD in place of each byte that is none in `path`, and all its bytes in hexadecimal
-digits in `path_hex`. Copies and stretches count from 1, frames from 0, bytes from 0. A size counts bytes, and a range ends before its second
-number. Times are in seconds. What is not known is null.
-"""
+digits in `path_hex`. Copies and stretches count from 1, frames from 0, bytes from 0. A size counts bytes, and a range ends before its
+second number. Times are in seconds. What is not known is null. """
 from __future__ import annotations
 
 import json
@@ -74,8 +73,8 @@ def text_of(text: str) -> str:
 def file_of(copy: CopySummary) -> Made:
     """What a copy and OUT are alike in."""
     is_text = copy.name() == copy.path
-    return {"path": copy.name(), "path_hex": None if is_text else os.fsencode(copy.path).hex(), "size": copy.size, "container": copy.form or None,
-            "sha256": copy.sha256}
+    return {"path": copy.name(), "path_hex": None if is_text else os.fsencode(copy.path).hex(), "size": copy.size,
+            "container": copy.form or None, "sha256": copy.sha256}
 
 
 def role_of(copy: CopySummary) -> Made:
@@ -122,7 +121,8 @@ def stretch_of(results: Results, number: int) -> Made:
         "stretch": number + 1, "content": what.content.value, "track": what.track, "checksum": stretch.kind.value, "state": state.value,
         "is_open": not state.is_good(), "combinations": outcome.count if outcome else 0, "times": times_of((what.start, what.end)),
         "range": [stretch.start, stretch.end], "taken_from": counted(results.source(stretch)),
-        "places": places_of(stretch, outcome, results.copy_of_mark), "frames": [frame_of(result, results) for result in results.within(number)],
+        "places": places_of(stretch, outcome, results.copy_of_mark),
+        "frames": [frame_of(result, results) for result in results.within(number)],
     }
 
 
@@ -135,8 +135,8 @@ def places_of(stretch: Stretch, outcome: typing.Optional[Outcome], copy_of_mark:
 
 def frame_of(result: FrameResult, results: Results) -> Made:
     return {"frame": result.order, "track": result.frame.track, "time": round(result.frame.time, 6),
-            "range": [result.frame.place, result.frame.end], "state": result.state.value, "damaged_in": [copy + 1 for copy in result.damaged],
-            "slices": [slice_of(each, results.copy_of_mark) for each in result.slices]}
+            "range": [result.frame.place, result.frame.end], "state": result.state.value,
+            "damaged_in": [copy + 1 for copy in result.damaged], "slices": [slice_of(each, results.copy_of_mark) for each in result.slices]}
 
 
 def slice_of(place: SliceReport, copy_of_mark: typing.Sequence[int]) -> Made:

@@ -25,8 +25,8 @@ margin:0 .4em 0 1.2em;border:1px solid #444;vertical-align:-.15em}code{font-size
 code.sha{font-size:.72em}th[scope=row]{white-space:nowrap}
 footer{margin-top:3em;color:#555;font-size:.9em}svg,.key,.verdict{print-color-adjust:exact;-webkit-print-color-adjust:exact}
 tr,svg{break-inside:avoid}@media print{body{margin:0;max-width:none;font-size:11pt}}"""
-SUMS = {"verified": "pass a checksum", "agreed": "have none, and several copies agree", "read": "have none, and only that copy could be read there",
-        "alone": "have none, and one copy alone has them",
+SUMS = {"verified": "pass a checksum", "agreed": "have none, and several copies agree",
+        "read": "have none, and only that copy could be read there", "alone": "have none, and one copy alone has them",
         "open": "are damaged, or differ and nothing decides"}
 STANDS = {State.WHOLE: "whole", State.WOVEN: "woven", State.AGREED: "agreed", State.ALONE: "alone", State.DISPUTED: "disputed",
           State.MISSING: "not restored", State.OPEN: "open", State.READ: "read"}
@@ -138,8 +138,8 @@ def frame_row(result: FrameResult, copy_of_mark: typing.Sequence[int], several: 
              for how, group in itertools.groupby(damaged[:MOST_SLICES], key=lambda place: how_slice(place, copy_of_mark))]
     spans += [f"and {len(damaged) - MOST_SLICES} more slices"] if len(damaged) > MOST_SLICES else []
     track = f'<td class="n">{result.frame.track}</td>' if several else ""
-    return (f'<tr><td class="n">{result.order}</td>{track}<td class="n">{time_code(result.frame.time)}</td><td>{numbers(result.damaged)}</td>'
-            f"<td class=\"k\">{result.state.value}</td><td>{'<br>'.join(map(text, spans))}</td></tr>")
+    return (f'<tr><td class="n">{result.order}</td>{track}<td class="n">{time_code(result.frame.time)}</td>'
+            f"<td>{numbers(result.damaged)}</td><td class=\"k\">{result.state.value}</td><td>{'<br>'.join(map(text, spans))}</td></tr>")
 
 
 def how_slice(place: SliceReport, copy_of_mark: typing.Sequence[int]) -> str:

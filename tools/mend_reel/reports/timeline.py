@@ -195,7 +195,7 @@ class Timeline:
         if kind != self.FRAMES:
             return ""
         results = self.results.frames.values()
-        count = sum(result.state is FrameState.LOST for result in results) if copy is None else sum(copy in result.damaged for result in results)
+        count = sum(result.state is FrameState.LOST if copy is None else copy in result.damaged for result in results)
         return f'<text x="{LEFT + WIDTH + 8}" y="{top + 13}">{count} {"not restored" if copy is None else "damaged"}</text>'
 
     def time_at(self, column: int) -> str:

@@ -42,7 +42,8 @@ class Reporter:
         """What is known of OUT, if it was made."""
         if part is None or self.options.out is None:
             return None
-        return CopySummary(self.options.out, os.stat(part).st_size, form, sha256=digests.digest(part, "sha256", self.progress.at) if self.options.digests else None)
+        sum_ = digests.digest(part, "sha256", self.progress.at) if self.options.digests else None
+        return CopySummary(self.options.out, os.stat(part).st_size, form, sha256=sum_)
 
     def copy_summaries(self, copies: typing.Sequence[Copy], arrangement: Arrangement, verdict: Verdict) -> list[CopySummary]:
         """What is known of each copy."""
