@@ -3,7 +3,9 @@ from __future__ import annotations
 
 import typing
 
-GOLOMB_RICE = 0
+from ..model import Track
+
+GOLOMB_RICE, FEWEST_BYTES = 0, 6
 MOST_BITS = 32
 
 
@@ -74,3 +76,9 @@ def coder_of(record: bytes) -> typing.Optional[int]:
 
 def has_range_coder(record: bytes) -> bool:
     return coder_of(record) not in (None, GOLOMB_RICE)
+
+
+def places(data: bytes, start: int, tracks: typing.Iterable[Track]) -> list[tuple[int, int]]:
+    """From where to where the records of FFV1 tracks lie in some bytes, which begin at a place."""
+    records = {track.record for track in tracks if track.is_ffv1 and len(track.record) >= FEWEST_BYTES and track.record in data}
+    return sorted((start + data.find(record), start + data.find(record) + len(record)) for record in records)

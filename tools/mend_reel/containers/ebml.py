@@ -77,26 +77,25 @@ def passes(copy: Copy, content: int, end: int) -> bool:
     return sum_ == int.from_bytes(head[2:], "little")
 
 
-def children(data: bytes) -> typing.Iterator[tuple[int, bytes]]:
-    """Yields the ID and the content of each child in a master's content, up to the first that does not lie within it."""
+def heads(data: bytes) -> typing.Iterator[Head]:
+    """Yields the heads of the children in a master's content, up to the first that does not lie within it."""
     at = 0
     while at < len(data):
         head = read_head(data, at, at)
         if head is None or head.end is None or head.end > len(data):
             return
-        yield head.identity, data[head.content : head.end]
+        yield head
         at = head.end
+
+
+def children(data: bytes) -> typing.Iterator[tuple[int, bytes]]:
+    """Yields the ID and the content of each such child."""
+    return ((head.identity, data[head.content : head.end]) for head in heads(data))
 
 
 def divides(data: bytes) -> bool:
     """Reports whether children cover a master's content."""
-    at = 0
-    while at < len(data):
-        head = read_head(data, at, at)
-        if head is None or head.end is None or head.end > len(data):
-            return False
-        at = head.end
-    return True
+    return max((head.end or 0 for head in heads(data)), default=0) == len(data)
 
 
 def number(content: bytes) -> int:

@@ -8,11 +8,11 @@ import typing
 
 from ..judging.frame_checks import Judge, Judged
 from ..model import Claims, Content, Copy, Frame, Kind, Layout, Stretch, Track, What
-from . import flac_heads, structure
+from . import configuration_record, flac_heads, structure
 from .ffprobe import Container, Packet, contain, with_records
 from .stretch_builder import Stretches
 
-MOST_HEADER, FEWEST_RECORD = 1 << 24, 6
+MOST_HEADER = 1 << 24
 # The containers that give the size of each packet, so that FFmpeg does not divide sound by what seems to be the head of a frame.
 GIVE_SIZES = {"avi", "mov", "nut"}
 
@@ -53,12 +53,8 @@ def find_records(copy: Copy, tracks: typing.Sequence[Track], frames: typing.Sequ
     """From where to where Configuration Records lie in a file: before its first frame, or after its last one."""
     if not frames:
         return []
-    found, records = [], {track.record for track in tracks if track.is_ffv1 and len(track.record) >= FEWEST_RECORD}
-    for start, size in ((0, min(frames[0].place, MOST_HEADER)), (frames[-1].end, min(copy.size - frames[-1].end, MOST_HEADER))):
-        data = copy.read(start, size)
-        places = [(start + data.find(record), len(record)) for record in records if record in data]
-        found += [(place, place + length) for place, length in places]
-    return found
+    around = ((0, frames[0].place), (frames[-1].end, copy.size - frames[-1].end))
+    return [each for start, size in around for each in configuration_record.places(copy.read(start, min(size, MOST_HEADER)), start, tracks)]
 
 
 def find_flac(copies: typing.Sequence[Copy], spots: typing.Iterable[Spot], base: Container) -> frozenset[Spot]:

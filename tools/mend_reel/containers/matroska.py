@@ -6,7 +6,7 @@ import itertools
 import typing
 
 from ..model import Claims, Content, Copy, Kind, Layout, Track, What
-from . import clusters, ebml, elements, metadata, slice_footers, structure
+from . import clusters, configuration_record, ebml, elements, metadata, slice_footers, structure
 from .aligned_copies import NONE, WINDOW, AlignedCopies, Budget, Numbers, Steps
 from .stretch_builder import MOST_STRETCH, Stretches
 
@@ -17,7 +17,7 @@ CONTENTS = {EBML: Content.HEADER, 0x114D9B74: Content.SEEK_HEAD, metadata.INFORM
 MASTERS = frozenset(CONTENTS.values()) - {Content.CLUSTER, Content.PADDING}
 STRONG = frozenset(CONTENTS) - {clusters.VOID} | {SEGMENT}
 SIGNS = [identity.to_bytes(4, "big") for identity in sorted(STRONG)]
-MOST_METADATA, FEWEST_RECORD = 1 << 24, 6
+MOST_METADATA = 1 << 24
 PASSES_OVER_THE_FILE = 4
 FIRST_BYTES = 1 << 20
 CLUSTERS_TO_GUESS_BY = 16
@@ -212,19 +212,13 @@ class MatroskaReader:
                 self.stretches.element(child.content, child.end, what)
             else:
                 vouched = self._sound_headers(child) if child.identity == EBML else NONE
-                records = self._records(child) if child.identity == metadata.TRACKS else []
+                described = self._content(child) if child.identity == metadata.TRACKS else b""
+                records = configuration_record.places(described, child.content, self.metadata.tracks)
                 for start, end, is_record in with_records(child.content, child.end, records):
                     if is_record:
                         self.stretches.checked(Kind.RECORD, start, end, what)
                     else:
                         self.stretches.plain(start, end, what, vouched)
-
-    def _records(self, child: elements.Child) -> list[tuple[int, int]]:
-        """Returns from where to where the Configuration Records of FFV1 tracks lie in what describes the tracks."""
-        content, tracks = self._content(child), [track for track in self.metadata.tracks if track.is_ffv1]
-        records = [track.record for track in tracks if len(track.record) >= FEWEST_RECORD and track.record in content]
-        starts = [(child.content + content.find(record), len(record)) for record in records]
-        return [(start, start + size) for start, size in sorted(starts)]
 
     def _has_crc(self, child: elements.Child) -> bool:
         """Reports whether an element's content begins with a CRC-32 in some copy."""
