@@ -171,6 +171,10 @@ class Stretch:
     def end(self) -> int:
         return self.start + self.size
 
+    def having(self) -> list[int]:
+        """The numbers of the copies that have it."""
+        return [number for number, place in enumerate(self.places) if place is not None]
+
     def listed_parts(self) -> list[tuple[int, int, bool]]:
         """The places and sizes of the parts as they are listed, and whether each is a frame of FLAC."""
         return sorted([*((frame.place, frame.size, False) for frame in self.parts), *((*each, True) for each in self.sound)])

@@ -5,7 +5,7 @@ import struct
 import typing
 import zlib
 
-from ..model import Copy
+from ..model import Copy, Stretch
 
 CRC_HEAD = b"\xbf\x84"
 CRC_SIZE = 6
@@ -75,6 +75,12 @@ def passes(copy: Copy, content: int, end: int) -> bool:
         sum_ = zlib.crc32(piece, sum_)
         place += len(piece)
     return sum_ == int.from_bytes(head[2:], "little")
+
+
+def passes_in(stretch: Stretch, copies: typing.Sequence[Copy], number: int) -> bool:
+    """Reports whether a copy has an element's content, and it passes there."""
+    place = stretch.places[number]
+    return place is not None and passes(copies[number], place, place + stretch.size)
 
 
 def heads(data: bytes) -> typing.Iterator[Head]:

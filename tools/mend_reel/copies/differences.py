@@ -31,7 +31,7 @@ class Run(typing.NamedTuple):
 
 def partition(stretch: Stretch, copies: typing.Sequence[Copy]) -> Partition:
     """Returns the copies that have a stretch in groups with equal bytes, the group of the first copy first."""
-    having = tuple(number for number, place in enumerate(stretch.places) if place is not None)
+    having = tuple(stretch.having())
     groups, offset = [having], 0
     while offset < stretch.size and any(len(group) > 1 for group in groups):
         size = min(PIECE, stretch.size - offset)
@@ -64,7 +64,7 @@ def _read(stretch: Stretch, copies: typing.Sequence[Copy], number: int, offset: 
 
 def split(stretch: Stretch, copies: typing.Sequence[Copy]) -> list[Stretch]:
     """Returns the parts of a plain stretch: it is split where copies begin or end to differ."""
-    having = [number for number, place in enumerate(stretch.places) if place is not None]
+    having = stretch.having()
     if stretch.kind is not Kind.PLAIN or len(having) < 2:
         return [dataclasses.replace(stretch, is_alike=True) if stretch.kind is Kind.PLAIN else stretch]
     agreed: Label = (0,) * len(having)

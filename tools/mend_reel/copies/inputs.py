@@ -54,5 +54,5 @@ def aligned(layout: Layout, matched: Matched) -> dict[int, int]:
 
 def lost_elements(layout: Layout, copies: typing.Sequence[Copy]) -> list[int]:
     """The numbers of the elements of which no copy has a version that passes."""
-    return [number for number, stretch in enumerate(layout.stretches) if stretch.kind is Kind.ELEMENT and not any(
-        place is not None and ebml.passes(copy, place, place + stretch.size) for copy, place in zip(copies, stretch.places))]
+    return [number for number, stretch in enumerate(layout.stretches) if stretch.kind is Kind.ELEMENT
+            and not any(ebml.passes_in(stretch, copies, copy) for copy in range(len(copies)))]

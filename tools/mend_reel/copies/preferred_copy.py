@@ -114,7 +114,7 @@ def differing(stretches: typing.Iterable[Stretch], copies: typing.Sequence[Copy]
               unlike: typing.Optional[typing.Container[int]]) -> typing.Iterator[tuple[int, Case]]:
     """Yields the stretches in which copies differ. Of the others each copy that has them is verified, but for plain ones."""
     for at, stretch in enumerate(stretches):
-        having = [number for number, place in enumerate(stretch.places) if place is not None]
+        having = stretch.having()
         groups = differences.partition(stretch, copies) if unlike is None or at in unlike else (tuple(having),)
         if len(groups) > 1:
             yield at, Case(stretch, groups, stretch.vouched.intersection(having), having)
@@ -129,12 +129,8 @@ def judged(cases: typing.Sequence[Case], copies: typing.Sequence[Copy], judge: J
         case.passing = frozenset(passing).intersection(case.candidates)
     for case in cases:
         if case.stretch.kind is Kind.ELEMENT:
-            case.passing = frozenset(number for group in case.groups if passes(case.stretch, copies, group[0]) for number in group)
-
-
-def passes(stretch: Stretch, copies: typing.Sequence[Copy], number: int) -> bool:
-    place = stretch.places[number]
-    return place is not None and ebml.passes(copies[number], place, place + stretch.size)
+            case.passing = frozenset(number for group in case.groups
+                                     if ebml.passes_in(case.stretch, copies, group[0]) for number in group)
 
 
 def narrow(case: Case, serving: Candidates, rule: Because) -> None:
@@ -231,7 +227,7 @@ def mark_piece(stretch: Stretch, offset: int, ours: bytes, theirs: bytes, wrong:
 
 def without_lost(stretch: Stretch, copies: typing.Sequence[Copy]) -> Stretch:
     """Returns a plain stretch without the versions of copies that have lost a sector there, where two others at least agree."""
-    having = [number for number, place in enumerate(stretch.places) if place is not None]
+    having = stretch.having()
     if stretch.kind is not Kind.PLAIN or stretch.is_alike or len(having) < 3:
         return stretch
     lost = [number for number in having if has_lost_sector(stretch, copies, number, having)]

@@ -75,7 +75,7 @@ def is_believed(layout: Layout, frame: Frame, versions: typing.Sequence[bytes], 
         return True
     around = next((stretch for stretch in layout.stretches if stretch.start <= frame.place < stretch.end), None)
     return around is not None and around.kind is Kind.ELEMENT and any(
-        place is not None and ebml.passes(copy, place, place + around.size) for copy, place in zip(copies, around.places))
+        ebml.passes_in(around, copies, number) for number in range(len(copies)))
 
 
 def without_parts(layout: Layout) -> Layout:

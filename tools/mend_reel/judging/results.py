@@ -131,7 +131,7 @@ class Results:
         starts = [stretch.start for stretch in self.stretches]
         for at in self.rotten:
             frame, number = self.layout.frames[at], bisect.bisect_right(starts, self.places[at]) - 1
-            damaged = {self.copy_of_mark[mark] for mark, place in enumerate(self.stretches[number].places) if place is not None}
+            damaged = {self.copy_of_mark[mark] for mark in self.stretches[number].having()}
             self.frames[at] = FrameResult(at, self.orders[at], frame, number, FrameState.LOST, tuple(sorted(damaged)))
 
     def judge(self, number: int, outcome: Outcome, part: typing.Optional[int], at: int) -> typing.Optional[FrameResult]:
@@ -191,7 +191,7 @@ class Results:
     def find_state(self, number: int, stretch: Stretch) -> State:
         """The state of a stretch. Those that the program did not list are undamaged. What one copy alone has was read where maps say that
         the others could not be read there."""
-        outcome, having = self.outcomes.get(number), sum(place is not None for place in stretch.places)
+        outcome, having = self.outcomes.get(number), len(stretch.having())
         state = (outcome.state if outcome else State.WHOLE if stretch.kind is not Kind.PLAIN
                  else State.AGREED if having > 1 else State.ALONE)
         if state is State.ALONE and (stretch.is_read or stretch.is_unread):

@@ -219,7 +219,7 @@ def of_stretches(results: Results) -> typing.Iterator[Reason]:
 
 def of_stretch(stretch: Stretch, state: State, lost: typing.Sequence[FrameResult], source: int) -> typing.Iterator[Reason]:
     """Why a stretch is in doubt: the frames that are lost in it, if it is for them, else all of it."""
-    having = sum(place is not None for place in stretch.places)
+    having = len(stretch.having())
     damaged = Why.ALONE_DAMAGED if having == 1 else Why.DAMAGED
     if stretch.is_unread:
         yield of_bytes(Why.NEVER_READ, stretch)

@@ -19,7 +19,7 @@ def list_of(stretches: typing.Iterable[Stretch]) -> list[Stretch]:
     for piece in itertools.chain.from_iterable(map(pieces, stretches)):
         ends += [0] * (len(piece.places) - len(ends))
         piece = rising(piece, ends)
-        having = [number for number, place in enumerate(piece.places) if place is not None]
+        having = piece.having()
         assert having, "each byte of OUT is in some copy"
         source = piece.source if piece.source in having else having[0]
         piece = piece if source == piece.source else dataclasses.replace(piece, source=source)
