@@ -5,6 +5,7 @@ Places and sizes count bytes, times are in seconds. Copies count from 0 here, an
 from __future__ import annotations
 
 import collections
+import contextlib
 import dataclasses
 import enum
 import os
@@ -17,6 +18,15 @@ MATROSKA = "matroska"
 
 class Fault(Exception):
     """What ends the work, in one line: status 1."""
+
+
+@contextlib.contextmanager
+def or_fault(what: str) -> typing.Iterator[None]:
+    """Makes a fault of what the system refuses, in a line that begins with what could not be done."""
+    try:
+        yield
+    except OSError as error:
+        raise Fault(f"{what}: {error.strerror}") from None
 
 
 class Kind(enum.Enum):
@@ -232,11 +242,9 @@ class Copy:
 
 def open_copy(path: str) -> Copy:
     """Opens a regular file."""
-    try:
+    with or_fault(f"cannot read {path}"):
         file = os.open(path, os.O_RDONLY | getattr(os, "O_NONBLOCK", 0))
         state = os.fstat(file)
-    except OSError as error:
-        raise Fault(f"cannot read {path}: {error.strerror}") from None
     if not stat.S_ISREG(state.st_mode):
         os.close(file)
         raise Fault(f"cannot read {path}: it is no file")

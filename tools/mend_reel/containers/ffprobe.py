@@ -12,7 +12,7 @@ import typing
 import zlib
 
 from ..judging.frame_checks import MOST_BYTES
-from ..model import Claims, Content, Copy, Fault, Track
+from ..model import Claims, Content, Copy, Fault, Track, or_fault
 from ..program.external_programs import run
 from . import slice_footers, structure
 
@@ -158,13 +158,10 @@ def ask(copy: Copy) -> Container:
 def ask_for(copy: Copy, more: typing.Sequence[str], entries: str) -> Container:
     words = ["ffprobe", "-v", "quiet", "-protocol_whitelist", "file", *more, "-show_entries", ENTRIES.format(more=entries), "-of",
              "compact", "file:" + copy.path]
-    try:
-        with subprocess.Popen(words, stdin=subprocess.DEVNULL, stdout=subprocess.PIPE, stderr=subprocess.DEVNULL, encoding="utf-8",
-                              errors="replace") as process:
-            assert process.stdout
-            return read_lines(watched(copy, process.stdout))
-    except OSError as error:
-        raise Fault(f"cannot run ffprobe: {error.strerror}") from None
+    with or_fault("cannot run ffprobe"), subprocess.Popen(words, stdin=subprocess.DEVNULL, stdout=subprocess.PIPE,
+                                                          stderr=subprocess.DEVNULL, encoding="utf-8", errors="replace") as process:
+        assert process.stdout
+        return read_lines(watched(copy, process.stdout))
 
 
 def watched(copy: Copy, lines: typing.Iterable[str]) -> typing.Iterator[str]:

@@ -4,7 +4,7 @@ from __future__ import annotations
 import bisect
 import typing
 
-from ..model import Copy, Fault, Frame, Kind, Layout, Stretch
+from ..model import Copy, Fault, Frame, Kind, Layout, Stretch, or_fault
 from .arrangement import Matched
 
 PIECE = 1 << 20
@@ -17,20 +17,16 @@ def carry(layout: Layout, copies: typing.Sequence[Copy], other: Copy, matched: M
     numbers = {frame.place: number for number, frame in enumerate(layout.frames)}
     places: dict[int, int] = {}
     end = 0
-    try:
-        with open(path, "wb") as file:
-            for stretch_number in sorted(set(needed)):
-                stretch = layout.stretches[stretch_number]
-                having = [frame for frame in stretch.parts if numbers.get(frame.place) in matched.places]
-                lifted = [(frame, matched.places[numbers[frame.place]]) for frame in having]
-                source = find_source(stretch, copies)
-                if lifted and source:
-                    for piece in overlay(stretch, *source, other, lifted):
-                        file.write(piece)
-                    places[stretch_number] = end
-                    end += stretch.size
-    except OSError as error:
-        raise Fault(f"cannot write {path}: {error.strerror}") from None
+    with or_fault(f"cannot write {path}"), open(path, "wb") as file:
+        for stretch_number in sorted(set(needed)):
+            stretch = layout.stretches[stretch_number]
+            having = [frame for frame in stretch.parts if numbers.get(frame.place) in matched.places]
+            lifted = [(frame, matched.places[numbers[frame.place]]) for frame in having]
+            source = find_source(stretch, copies)
+            if lifted and source:
+                file.writelines(overlay(stretch, *source, other, lifted))
+                places[stretch_number] = end
+                end += stretch.size
     return places
 
 

@@ -7,7 +7,7 @@ import os
 import re
 import typing
 
-from ..model import Copy, Fault
+from ..model import Copy, Fault, or_fault
 
 PIECE = 1 << 20
 ALGORITHMS = {32: "md5", 40: "sha1", 64: "sha256", 128: "sha512"}
@@ -56,14 +56,11 @@ def sha256(copy: Copy) -> str:
 
 def digest(path: str, algorithm: str, report: Report = unreported) -> str:
     made = hashlib.new(algorithm)
-    try:
-        with open(path, "rb", buffering=0) as file:
-            size = os.fstat(file.fileno()).st_size
-            while piece := file.read(PIECE):
-                made.update(piece)
-                report(file.tell(), size)
-    except OSError as error:
-        raise Fault(f"cannot read {path}: {error.strerror}") from None
+    with or_fault(f"cannot read {path}"), open(path, "rb", buffering=0) as file:
+        size = os.fstat(file.fileno()).st_size
+        while piece := file.read(PIECE):
+            made.update(piece)
+            report(file.tell(), size)
     return made.hexdigest()
 
 
@@ -72,17 +69,14 @@ def digest(path: str, algorithm: str, report: Report = unreported) -> str:
 
 def lines(path: str) -> typing.Iterator[str]:
     """The lines of a digest file, names as the system has them."""
-    try:
-        with open(path, "rb") as file:
-            for _ in range(MOST_LINES):
-                line = file.readline(MOST_LINE)
-                if not line:
-                    return
-                if len(line) == MOST_LINE:
-                    break
-                yield os.fsdecode(line.rstrip(b"\r\n"))
-    except OSError as error:
-        raise Fault(f"cannot read {path}: {error.strerror}") from None
+    with or_fault(f"cannot read {path}"), open(path, "rb") as file:
+        for _ in range(MOST_LINES):
+            line = file.readline(MOST_LINE)
+            if not line:
+                return
+            if len(line) == MOST_LINE:
+                break
+            yield os.fsdecode(line.rstrip(b"\r\n"))
     raise Fault(f"{path} is no file of digests: it is too long")
 
 

@@ -7,7 +7,7 @@ import re
 import subprocess
 import typing
 
-from ..model import Fault
+from ..model import Fault, or_fault
 from .digests import MOST_STREAMS, Compared, Report, lines, unreported
 
 HEADER = re.compile(r"#(\w+)(?: ([0-9]{1,9}))?: ?(.*)")
@@ -95,14 +95,10 @@ def make(path: str, wanted: FrameDigests, report: Report) -> FrameDigests:
             report(min(number, count), count)
             yield os.fsdecode(line).rstrip("\r\n")
 
-    try:
-        with subprocess.Popen(command(path, wanted), stdin=subprocess.DEVNULL, stdout=subprocess.PIPE,
-                              stderr=subprocess.DEVNULL) as process:
-            assert process.stdout
-            made = read(lines_of(process.stdout))
-    except OSError as error:
-        raise Fault(f"cannot run ffmpeg: {error.strerror}") from None
-    return made
+    with or_fault("cannot run ffmpeg"), subprocess.Popen(command(path, wanted), stdin=subprocess.DEVNULL, stdout=subprocess.PIPE,
+                                                         stderr=subprocess.DEVNULL) as process:
+        assert process.stdout
+        return read(lines_of(process.stdout))
 
 
 def differences(wanted: FrameDigests, made: FrameDigests) -> dict[int, list[int]]:

@@ -4,7 +4,7 @@ from __future__ import annotations
 import re
 import typing
 
-from ..model import Copy, Fault
+from ..model import Copy, Fault, or_fault
 
 Span = tuple[int, int]
 FINISHED = "+"
@@ -65,16 +65,13 @@ def number_of(word: str) -> int:
 
 def lines(path: str) -> typing.Iterator[tuple[int, list[str]]]:
     """The words of each line that is no comment, with the line's number."""
-    try:
-        with open(path, "rb") as file:
-            for number in range(1, MOST_LINES):
-                line = file.readline(MOST_LINE)
-                if not line:
-                    return
-                if not line.endswith(b"\n") and len(line) == MOST_LINE:
-                    raise not_a_map(path, number)
-                words = line.decode("ascii", "replace").split()
-                if words and not words[0].startswith("#"):
-                    yield number, words
-    except OSError as error:
-        raise Fault(f"cannot read {path}: {error.strerror}") from None
+    with or_fault(f"cannot read {path}"), open(path, "rb") as file:
+        for number in range(1, MOST_LINES):
+            line = file.readline(MOST_LINE)
+            if not line:
+                return
+            if not line.endswith(b"\n") and len(line) == MOST_LINE:
+                raise not_a_map(path, number)
+            words = line.decode("ascii", "replace").split()
+            if words and not words[0].startswith("#"):
+                yield number, words

@@ -10,28 +10,24 @@ import subprocess
 import sys
 import typing
 
-from ..model import Fault
+from ..model import Fault, or_fault
 
 Word = typing.Union[str, "os.PathLike[str]"]
 
 
 def run(*words: Word) -> "subprocess.CompletedProcess[bytes]":
     """Runs a program to its end, without an input."""
-    try:
+    with or_fault(f"cannot run {os.fspath(words[0])}"):
         return subprocess.run([os.fspath(word) for word in words], stdin=subprocess.DEVNULL, capture_output=True, check=False,
                               restore_signals=False)
-    except OSError as error:
-        raise Fault(f"cannot run {os.fspath(words[0])}: {error.strerror}") from None
 
 
 @contextlib.contextmanager
 def started(words: typing.Sequence[Word], faults: typing.IO[bytes]) -> "typing.Iterator[subprocess.Popen[bytes]]":
     """Runs a program whose standard output is read as it comes, and whose faults go to a file. It ends where the reader fails."""
-    try:
+    with or_fault(f"cannot run {os.fspath(words[0])}"):
         child = subprocess.Popen([os.fspath(word) for word in words], stdin=subprocess.DEVNULL, stdout=subprocess.PIPE, stderr=faults,
                                  restore_signals=False)
-    except OSError as error:
-        raise Fault(f"cannot run {os.fspath(words[0])}: {error.strerror}") from None
     with child:
         try:
             yield child

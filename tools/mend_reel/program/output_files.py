@@ -14,7 +14,7 @@ import stat
 import tempfile
 import typing
 
-from ..model import Fault
+from ..model import Fault, or_fault
 
 INTERRUPTS = (signal.SIGINT, signal.SIGTERM, signal.SIGHUP)
 PART = ".part"
@@ -115,14 +115,12 @@ class Output:
 
     def settle(self) -> None:
         """Gives the part its place."""
-        try:
+        with or_fault(f"cannot write {self.path}"):
             if self.replaced is not None:
                 os.replace(self.part, self.replaced)
             else:
                 self.write_on()
                 os.unlink(self.part)
-        except OSError as error:
-            raise Fault(f"cannot write {self.path}: {error.strerror}") from None
 
     def write_on(self) -> None:
         """Writes the part to the device, the pipe or the open file."""
@@ -142,7 +140,7 @@ class Files:
     def make(self, path: str, work: str) -> Output:
         """Makes the part of a file: beside the file that it is to be, or in a folder for working files."""
         replaced = None if is_written_to(path) else os.path.realpath(path)
-        try:
+        with or_fault(f"cannot write {path}"):
             if replaced is None and descriptor_of(path) is None and not os.access(path, os.W_OK):
                 raise Fault(f"cannot write {path}: Permission denied")
             if replaced is None and state_of(path) is None:
@@ -154,18 +152,14 @@ class Files:
             os.umask(umask := os.umask(0o077))
             os.fchmod(file, 0o666 & ~umask)
             os.close(file)
-        except OSError as error:
-            raise Fault(f"cannot write {path}: {error.strerror}") from None
         return self.outputs[-1]
 
     def make_folder(self, path: str) -> None:
         """Makes a folder, and those that it lies in."""
         missing = [folder for folder in [pathlib.Path(path), *pathlib.Path(path).parents] if not folder.exists()]
         self.folders += map(str, missing)
-        try:
+        with or_fault(f"cannot make {path}"):
             os.makedirs(path, exist_ok=True)
-        except OSError as error:
-            raise Fault(f"cannot make {path}: {error.strerror}") from None
 
     def settle(self, output: Output) -> None:
         """Gives a file its place. From then on the folders that were made stay."""

@@ -9,7 +9,7 @@ import typing
 from ..copies.arrangement import Arrangement
 from ..judging import digests
 from ..judging.verdict import Verdict
-from ..model import Copy, Fault, Layout
+from ..model import Copy, Fault, Layout, or_fault
 from ..program.external_programs import version_of
 from ..program.options import VERSION, Options
 from ..program.output_files import Files, Output
@@ -72,8 +72,5 @@ class Reporter:
 
 def write_part(output: Output, writer: Writer, summaries: typing.Sequence[Summary]) -> None:
     """Writes a report as a part."""
-    try:
-        with open(output.part, "w", encoding="utf-8") as made:
-            writer(made, summaries)
-    except OSError as error:
-        raise Fault(f"cannot write {output.path}: {error.strerror}") from None
+    with or_fault(f"cannot write {output.path}"), open(output.part, "w", encoding="utf-8") as made:
+        writer(made, summaries)
