@@ -150,7 +150,6 @@ class FrameDigestTest(unittest.TestCase):
                 same = kept_digest.compare(kept, "/a.mkv", "out.mkv", [])
         self.assertFalse(found.is_original)
         self.assertTrue(found.text.endswith("differ: stream 0: frames 1 to 2"))
-        self.assertEqual(found.differing, {0: [1, 2]})
         self.assertTrue(same.is_original and same.text.startswith("out.mkv has the original's frames"))
 
     def test_runs(self):

@@ -209,14 +209,13 @@ class File:
                 any(each.is_undamaged for each in self.healths.values()), -self.numbers[0])
 
 
-def arrange(copies: typing.Sequence[Copy], judge: Judge,
-            describe_file: typing.Callable[[typing.Sequence[Copy], Judge], Layout] = describe) -> Arrangement:
+def arrange(copies: typing.Sequence[Copy], judge: Judge) -> Arrangement:
     """Which copies OUT is made of, and how. Frames are judged only where the copies are of several files."""
     numbers, left = group(copies)
     files = []
     for each in numbers:
         own = [copies[number] for number in each]
-        files.append(File(each, Recording(own, describe_file(own, judge))))
+        files.append(File(each, Recording(own, describe(own, judge))))
     if not any(file.has_video() for file in files):
         names = ", ".join(copy.path for copy in copies if copy.size)
         found = [f"no FFV1 video was found in {names}"] if names else []

@@ -7,7 +7,7 @@ import pathlib
 import typing
 
 from ..containers import ebml
-from ..model import Copy, Kind, Layout, Stretch, open_copy
+from ..model import Copy, Kind, Layout, open_copy
 from . import carried_frames, differences
 from .arrangement import Arrangement, Matched
 

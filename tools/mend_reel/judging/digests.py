@@ -28,13 +28,11 @@ def unreported(done: int, whole: int) -> None:
 
 @dataclasses.dataclass(frozen=True)
 class Compared:
-    """What a kept digest says of a file: whether it is the original, in a sentence; whether the digest is of the whole file; and the frames
-    that differ, as the digest file numbers them, by stream, where it has one of each frame."""
+    """What a kept digest says of a file: whether it is the original, in a sentence; and whether the digest is of the whole file."""
 
     is_original: bool
     text: str
     is_of_all: bool
-    differing: typing.Mapping[int, typing.Sequence[int]] = dataclasses.field(default_factory=dict)
 
 
 @dataclasses.dataclass(frozen=True)

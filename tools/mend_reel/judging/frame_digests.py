@@ -126,7 +126,7 @@ def compare(digest_file: str, path: str, named: str, report: Report = unreported
     if not found:
         return Compared(True, f"{named} has the original's frames: the digests of all {what} are those of {digest_file}", False)
     differing = "; ".join(f"stream {number}: {runs(frames)}" for number, frames in found.items())
-    return Compared(False, f"{named} does not have the original's frames: digests of {digest_file} differ: {differing}", False, found)
+    return Compared(False, f"{named} does not have the original's frames: digests of {digest_file} differ: {differing}", False)
 
 
 def runs(numbers: typing.Sequence[int]) -> str:

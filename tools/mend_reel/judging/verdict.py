@@ -1,7 +1,6 @@
 """Whether OUT is what was recorded, as far as any check can tell, and if not why. The status is decided here and nowhere else."""
 from __future__ import annotations
 
-import collections
 import dataclasses
 import typing
 

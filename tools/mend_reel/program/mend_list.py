@@ -6,7 +6,7 @@ import itertools
 import typing
 
 from ..containers.stretch_builder import MOST_STRETCH
-from ..model import Frame, Kind, Stretch
+from ..model import Kind, Stretch
 
 FIRST_PART = 6
 
