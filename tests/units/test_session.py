@@ -127,6 +127,13 @@ class PlainTest(InToyFolder):
             self.assertNotIn("96000", lines)
             self.assertNotIn(GOOD, lines)
 
+    def test_it_is_said_where_the_parts_of_a_file_are_not_walked(self) -> None:
+        walked = mov(FRAMES, atom(b"moov", trak(1, len(FRAMES)) + trak(2, 5)))
+        for content, is_said in ((with_table(FRAMES), True), (walked, False)):
+            self.write("0.bin", content)
+            done = self.call("--check", "0.bin")
+            self.assertEqual((done.returncode, b"whether its parts hang together is not checked" in done.stdout), (0, is_said), done.stdout)
+
     def test_a_subtitle_that_outlasts_the_video(self) -> None:
         """The file ends with it, as its duration says, and not with its start."""
         subtitle = made.element(0xA0, made.block(3, 300, b"The end", 0xA1, 0), made.number(0x9B, 4700))
