@@ -1,5 +1,5 @@
 -- The ends whose footers give one start, 256 of them at a time: the middle byte of the size is the same in all of these.
-use Rattle.std.proofs.Common.{◌≡◌, ℕ, ◌+◌, ◌-◌, ◌/◌, ◌%◌, ◌<◌, ◌≤◌, List, length, drop, get_or, sym, ap, ◌∙◌, subst, arith, inl, inr}
+use Rattle.std.proofs.Common.{◌≡◌, ℕ, ◌+◌, ◌-◌, ◌/◌, ◌%◌, ◌<◌, ◌≤◌, List, length, min, drop, get_or, sym, ap, ◌∙◌, subst, arith, inl, inr}
 use Rattle.std.specs.Prelude.{slice_range}
 use Rattle.std.proofs.lemmas.Bool.{cases_lt, eq-eqb}
 use Rattle.std.proofs.lemmas.List.{get_or-drop, get_or-take}
@@ -31,7 +31,7 @@ middle copy start end small room cut =
     sym byte ∙ omega (arith, footer 0, footer 1, footer 2)
 
 -- The ends of one middle byte, of which none is among the bytes in the footers of the ends up to one.
-pub lacks_in_window : (copy : List ℕ) (start end upto after : ℕ) → AreBytes copy → start + 8 ≤ end → upto ≤ after
+lacks_in_window : (copy : List ℕ) (start end upto after : ℕ) → AreBytes copy → start + 8 ≤ end → upto ≤ after
     → after ≤ end + 256 - (end - 8 - start) % 256
     → Nowhere (Passes (is_byte ((end - 8 - start) / 256 % 256)) (slice_range copy (end - 7) (after - 7))) 0 (upto - end)
     → LacksClaims copy start end upto
@@ -46,7 +46,7 @@ lacks_in_window copy start end upto after small room below near none other later
     none k (omega arith) (omega arith) (eq-eqb _ _ there)
 
 -- the window itself, up to its end
-pub lacks_in_all : (copy : List ℕ) (start end after : ℕ) → AreBytes copy → start + 8 ≤ end → end ≤ after → after ≤ length copy + 1
+lacks_in_all : (copy : List ℕ) (start end after : ℕ) → AreBytes copy → start + 8 ≤ end → end ≤ after → after ≤ length copy + 1
     → after ≤ end + 256 - (end - 8 - start) % 256
     → Nowhere (Passes (is_byte ((end - 8 - start) / 256 % 256)) (slice_range copy (end - 7) (after - 7))) 0
     (length (slice_range copy (end - 7) (after - 7)))
@@ -57,7 +57,7 @@ lacks_in_all copy start end after small room order fits near none =
     lacks_in_window copy start end after after small room (omega arith) near (λ k low high. none k low (omega arith))
 
 -- the window up to the first byte that is the middle one, and where that stands
-pub lacks_before : (copy : List ℕ) (start end after skipped : ℕ) → AreBytes copy → start + 8 ≤ end → end ≤ after → after ≤ length copy + 1
+lacks_before : (copy : List ℕ) (start end after skipped : ℕ) → AreBytes copy → start + 8 ≤ end → end ≤ after → after ≤ length copy + 1
     → after ≤ end + 256 - (end - 8 - start) % 256
     → NoneBefore (Passes (is_byte ((end - 8 - start) / 256 % 256)) (slice_range copy (end - 7) (after - 7))) 0
     (length (slice_range copy (end - 7) (after - 7))) skipped
@@ -70,7 +70,7 @@ lacks_before copy start end after skipped small room order fits near first =
 
 -- ---- ends after others
 
-pub unclaimed_on : (copy : List ℕ) (start from end next : ℕ) → AreUnclaimed copy start from end → end ≤ next → LacksClaims copy start end next
+unclaimed_on : (copy : List ℕ) (start from end next : ℕ) → AreUnclaimed copy start from end → end ≤ next → LacksClaims copy start end next
     → AreUnclaimed copy start from next
 unclaimed_on copy start from end next so_far order none =
     record {
@@ -87,3 +87,24 @@ pub unclaimed_past : (copy : List ℕ) (start from end : ℕ) → AreUnclaimed c
 unclaimed_past copy start from end so_far uncut =
     unclaimed_on copy start from end (end + 1) so_far (omega arith)
     (λ other later before cut. let same : other ≡ end = omega arith in uncut (subst (IsCut copy start) same cut))
+
+-- ---- a turn of the loop: the window is up to the last end, or to where the middle byte changes
+
+module _ (copy : List ℕ) (start from end last after : ℕ) (small : AreBytes copy) (room : start + 8 ≤ from) (fits : last ≤ length copy) (on : end ≤ last)
+    (is : after ≡ min (last + 1) (end + 256 - (end - 8 - start) % 256)) (so_far : AreUnclaimed copy start from end) where
+  -- it lacks the middle byte
+  pub unclaimed_after : Nowhere (Passes (is_byte ((end - 8 - start) / 256 % 256)) (slice_range copy (end - 7) (after - 7))) 0
+      (length (slice_range copy (end - 7) (after - 7)))
+      → AreUnclaimed copy start from after
+  unclaimed_after none =
+      unclaimed_on copy start from end after so_far (omega arith)
+      (lacks_in_all copy start end after small (omega (arith, so_far.order)) (omega arith) (omega arith) (omega arith) none)
+
+  -- it has it first after so many
+  pub unclaimed_before : (skipped : ℕ)
+      → NoneBefore (Passes (is_byte ((end - 8 - start) / 256 % 256)) (slice_range copy (end - 7) (after - 7))) 0
+      (length (slice_range copy (end - 7) (after - 7))) skipped
+      → (end + skipped ≤ last) × AreUnclaimed copy start from (end + skipped)
+  unclaimed_before skipped first =
+      let lacks = lacks_before copy start end after skipped small (omega (arith, so_far.order)) (omega arith) (omega arith) (omega arith) first in
+      (omega (arith, lacks.0), unclaimed_on copy start from end (end + skipped) so_far (omega arith) lacks.1)
