@@ -1,6 +1,6 @@
 # ffv1restore. 'rt' is the command of the Rattle kit.
 PROGRAM := crates/ffv1restore/out/ffv1restore
-CALLS := crates/ffv1_refusals/out/ffv1_refusals
+CALLS := crates/ffv1_memory_tests/out/ffv1_memory_tests
 PREFIX ?= $(HOME)/.local
 
 .PHONY: all run test units cases rot fuzz ffmpeg reel bench install dist

@@ -24,7 +24,7 @@ SECTIONS = {
     "ffv1_bits/specs/Reader.antt": "bit order of its bitstream",
     "ffv1_weave/specs/Combinations.antt": "4.9, own",
     "ffv1_splice/specs/Whole.antt": "4.9, own",
-    "ffv1_pool/specs/Reels.antt": "4.3, own",
+    "ffv1_holding/specs/Reels.antt": "4.3, own",
 }
 OWN = {
     "ffv1_bits/specs/Parity.antt",

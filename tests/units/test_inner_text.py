@@ -61,7 +61,7 @@ class Inner(unittest.TestCase):
         self.assertEqual(inner_text.reached(FILES.__getitem__, [(LOW, "alone")]), {(LOW, "alone")})
 
     def test_laws_are_no_definitions(self) -> None:
-        names = inner_text.public_in("ffv1_pool/specs/Sets.antt")
+        names = inner_text.public_in("ffv1_holding/specs/Sets.antt")
         self.assertIn("SetOf", names)
         self.assertNotIn("contains-empty", names)
         self.assertNotIn("contains-union", names)

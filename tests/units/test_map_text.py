@@ -9,7 +9,7 @@ import map_text
 SPECS = """-- Versions of one slice (RFC 9043, section 4.9): what copies
 -- have there. They are split (section 4.9.3).
 use Rattle.ffv1_bits.specs.Bits.{bits_of, has_bit as has}
-use Rattle.ffv1_pool.specs.Sets as set
+use Rattle.ffv1_holding.specs.Sets as set
 
 -- all are as long
 abbrev pub HaveLength : List (List N) -> N -> Type 0
@@ -117,7 +117,7 @@ class Citations(unittest.TestCase):
 
     def test_citations(self) -> None:
         self.assertEqual(self.cited("bits_of x.place"), [("ffv1_bits/specs/Bits.antt", "bits_of")])
-        self.assertEqual(self.cited("(has x) + set.size"), [("ffv1_bits/specs/Bits.antt", "has_bit"), ("ffv1_pool/specs/Sets.antt", "size")])
+        self.assertEqual(self.cited("(has x) + set.size"), [("ffv1_bits/specs/Bits.antt", "has_bit"), ("ffv1_holding/specs/Sets.antt", "size")])
         self.assertEqual(self.cited("has_bit bits_of' size"), [])
 
     def test_passed_on(self) -> None:

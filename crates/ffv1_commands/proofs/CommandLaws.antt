@@ -6,20 +6,20 @@ use Rattle.ffv1_bits.specs.Limits.{payload_limit}
 use Rattle.ffv1_range.specs.Setup.{SetupValue, IsSetupOf}
 use Rattle.ffv1_range.proofs.SetupFacts.{one_setup}
 use Rattle.ffv1_slice.specs.Slices.{IsOriginal}
-use Rattle.ffv1_pool.specs.Reels.{Reel}
-use Rattle.ffv1_pool.specs.Contents.{Contents, holding_of, joined, HasSameCopies}
-use Rattle.ffv1_pool.proofs.ContentsLaws.{joined-holding_of, holding_of-same}
+use Rattle.ffv1_holding.specs.Reels.{Reel}
+use Rattle.ffv1_holding.specs.Contents.{Contents, holding_of, joined, HasSameCopies}
+use Rattle.ffv1_holding.proofs.ContentsLaws.{joined-holding_of, holding_of-same}
 use Rattle.ffv1_hold.specs.FileFaults.{IsFaultOf}
 use Rattle.ffv1_hold.specs.Headline.{IsReelOf}
 use Rattle.ffv1_hold.specs.HoldingText.{holding_text}
 use Rattle.ffv1_hold.specs.declared.version.Version.TheVariants.{Second}
-use Rattle.ffv1_pool.specs.Joins.{joined_all}
-use Rattle.ffv1_pool.specs.Originals.{AreCopiesOfSlices, HoldsExactly}
-use Rattle.ffv1_pool.specs.Standing.{restored_payload, IsLeastUnsettled}
+use Rattle.ffv1_holding.specs.Joins.{joined_all}
+use Rattle.ffv1_holding.specs.Originals.{AreCopiesOfSlices, HoldsExactly}
+use Rattle.ffv1_holding.specs.Standing.{restored_payload, IsLeastUnsettled}
 use Rattle.ffv1_hold.proofs.Answered.{refused_outside}
-use Rattle.ffv1_pool.proofs.ExactlyHeld.{exactly_held, near_are_copies}
+use Rattle.ffv1_holding.proofs.ExactlyHeld.{exactly_held, near_are_copies}
 use Rattle.ffv1_hold.proofs.PlanSteps.{one_reel}
-use Rattle.ffv1_pool.proofs.Restored.{restored_original}
+use Rattle.ffv1_holding.proofs.Restored.{restored_original}
 use Rattle.ffv1_hold.proofs.TextLaws.{one_text}
 use Rattle.ffv1_picture.specs.Headline.{AreEqualInAll, ShowsSlices}
 use Rattle.ffv1_picture.specs.PartialPictures.{IsPartialPicture}

@@ -2,7 +2,7 @@
 use Rattle.std.proofs.Common.{◌≡◌, refl, sym, subst}
 use Rattle.std.proofs.KnownBytes.{Consumes-whole}
 use Rattle.ffv1_devices.specs.Logs.{ReadLog}
-use Rattle.ffv1_pool.specs.Contents.{Contents}
+use Rattle.ffv1_holding.specs.Contents.{Contents}
 use Rattle.ffv1_hold.specs.HoldingText.{file_text}
 use Rattle.ffv1_hold.specs.FileFaults.{ReadsHolding}
 use Rattle.ffv1_commands.specs.Devices.{UnlessWriting}

@@ -1,8 +1,8 @@
 -- One file more is joined, and its line is added.
 use Rattle.std.proofs.Common.{◌≡◌, ℕ, ◌+◌, ◌-◌, List, [], ◌∷◌, ◌++◌, length, Option, refl, sym, ap, ◌∙◌, subst, arith, append_assoc, append-nil}
-use Rattle.ffv1_pool.specs.Sets as set
-use Rattle.ffv1_pool.specs.Contents.{Contents, IsSameReel, joined}
-use Rattle.ffv1_pool.specs.Joins.{joined_all, AreJoinable}
+use Rattle.ffv1_holding.specs.Sets as set
+use Rattle.ffv1_holding.specs.Contents.{Contents, IsSameReel, joined}
+use Rattle.ffv1_holding.specs.Joins.{joined_all, AreJoinable}
 use Rattle.ffv1_commands.specs.Holdings.{IsHoldingFile}
 use Rattle.ffv1_commands.specs.JoinText.{file_line, line_of_join, lines_from, join_text, AreHoldingFiles, JoinsEach}
 use Rattle.ffv1_commands.specs.Inner.JoinText.{JoinsOne}

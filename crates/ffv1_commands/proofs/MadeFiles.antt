@@ -3,7 +3,7 @@ use Rattle.std.proofs.Common.{◌≡◌, ℕ, List, Result, Ok, Err, inl, inr, r
 use Rattle.std.specs.Io.KnownBytes.{Keeps}
 use Rattle.std.proofs.KnownBytes.{Keeps-refl}
 use Rattle.ffv1_devices.specs.Logs.{WriteLog, Writes, StopsWriting}
-use Rattle.ffv1_pool.specs.Contents.{Contents}
+use Rattle.ffv1_holding.specs.Contents.{Contents}
 use Rattle.ffv1_hold.specs.HoldingText.{holding_text}
 use Rattle.ffv1_hold.specs.declared.file_fault.HoldFileFault.{HoldFileFault}
 use Rattle.ffv1_commands.specs.Inner.Devices.{WritesNamed}

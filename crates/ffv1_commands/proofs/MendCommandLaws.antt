@@ -3,7 +3,7 @@ use Rattle.std.proofs.Common.{◌≡◌, ℕ, Bool, true, false, ◌&&◌, List,
 use Rattle.std.specs.List.{AllZip, list_all}
 use Rattle.std.proofs.lemmas.List.{length-map, length-replicate}
 use Rattle.std.proofs.lemmas.List.Sorted.{IsPermutation-refl}
-use Rattle.ffv1_lists.proofs.LineSteps.{lines_are_one}
+use Rattle.ffv1_texts.proofs.LineSteps.{lines_are_one}
 use Rattle.ffv1_mend.specs.Laws.{IsVouched}
 use Rattle.ffv1_mend.specs.Mended.{MendedValue, is_good}
 use Rattle.ffv1_stretches.specs.Cells.{cells_of, versions_in}

@@ -2,7 +2,7 @@
 use Rattle.std.proofs.Common.{◌≡◌, ℕ, Bool, IsTrue, List, Result, Ok, Err, inl, inr, refl, subst, arith}
 use Rattle.std.specs.Prelude.{◌↔◌, All}
 use Rattle.ffv1_devices.specs.Logs.{ReadLog, WriteLog, Writes}
-use Rattle.ffv1_pool.specs.Contents.{Contents}
+use Rattle.ffv1_holding.specs.Contents.{Contents}
 use Rattle.ffv1_hold.specs.FileFaults.{ReadsHolding}
 use Rattle.ffv1_picture.specs.PartialPictures.{IsPartialPicture}
 use Rattle.ffv1_picture.specs.declared.partial.Partial.{Partial}

@@ -1,7 +1,7 @@
 -- What printing a report does to the output.
 use Rattle.std.proofs.Common.{Result, Ok, Err, inl, inr, refl, sym, subst, arith}
 use Rattle.ffv1_devices.specs.Logs.{ReadLog, WriteLog}
-use Rattle.ffv1_pool.specs.Contents.{Contents}
+use Rattle.ffv1_holding.specs.Contents.{Contents}
 use Rattle.ffv1_hold.specs.FileFaults.{ReadsHolding}
 use Rattle.ffv1_picture.specs.ReportText.{report_text}
 use Rattle.ffv1_commands.specs.Inner.Devices.{WritesNamed}

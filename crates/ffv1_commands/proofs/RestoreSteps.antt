@@ -1,12 +1,12 @@
 -- What restoring a holding file does to the outputs.
 use Rattle.std.proofs.Common.{◌≡◌, ℕ, List, length, Result, Ok, Err, inl, inr, refl, ap, ◌∙◌, subst, arith}
 use Rattle.ffv1_devices.specs.Logs.{ReadLog, WriteLog, Writes}
-use Rattle.ffv1_pool.specs.Contents.{Contents}
+use Rattle.ffv1_holding.specs.Contents.{Contents}
 use Rattle.ffv1_hold.specs.FileFaults.{ReadsHolding}
-use Rattle.ffv1_pool.specs.Standing.{AreSettled, restored_payload}
-use Rattle.ffv1_pool.specs.Refusals.{IsRefusal}
-use Rattle.ffv1_pool.specs.declared.restore.RestoreFault.{RestoreFault}
-use Rattle.ffv1_pool.specs.declared.restore.RestoreFault.TheVariants as refusals
+use Rattle.ffv1_holding.specs.Standing.{AreSettled, restored_payload}
+use Rattle.ffv1_holding.specs.Refusals.{IsRefusal}
+use Rattle.ffv1_holding.specs.declared.restore.RestoreFault.{RestoreFault}
+use Rattle.ffv1_holding.specs.declared.restore.RestoreFault.TheVariants as refusals
 use Rattle.ffv1_commands.specs.Devices.{BothStop}
 use Rattle.ffv1_commands.specs.Inner.Devices.{WritesBoth}
 use Rattle.ffv1_commands.specs.Fault.{of_restore}

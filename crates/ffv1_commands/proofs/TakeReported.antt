@@ -5,13 +5,13 @@ use Rattle.std.proofs.lemmas.List.{length-map}
 use Rattle.ffv1_bits.specs.Limits.{payload_limit}
 use Rattle.ffv1_range.specs.Setup.{IsSetupOf}
 use Rattle.ffv1_devices.specs.Logs.{ReadLog, WriteLog, Reads}
-use Rattle.ffv1_pool.specs.Reels.{Reel}
-use Rattle.ffv1_pool.specs.Contents.{Contents, holding_of}
+use Rattle.ffv1_holding.specs.Reels.{Reel}
+use Rattle.ffv1_holding.specs.Contents.{Contents, holding_of}
 use Rattle.ffv1_hold.specs.Headline.{IsReelOf}
 use Rattle.ffv1_hold.specs.HoldingText.{holding_text}
-use Rattle.ffv1_pool.specs.TakeFaults.{IsTakeFault}
-use Rattle.ffv1_pool.specs.declared.fault.HoldFault.{HoldFault}
-use Rattle.ffv1_pool.specs.declared.fault.HoldFault.TheVariants as holds
+use Rattle.ffv1_holding.specs.TakeFaults.{IsTakeFault}
+use Rattle.ffv1_holding.specs.declared.fault.HoldFault.{HoldFault}
+use Rattle.ffv1_holding.specs.declared.fault.HoldFault.TheVariants as holds
 use Rattle.ffv1_commands.specs.Devices.{IsCopyFault, IfOfRecord, WriteStops, TakesWhole, CopyStops}
 use Rattle.ffv1_commands.specs.InTurn.{StopsAtCopy}
 use Rattle.ffv1_commands.specs.RecordInputs.{IsReelInput, TakesReel}

@@ -2,10 +2,10 @@
 use Rattle.std.proofs.Common.{◌≡◌, ℕ, ◌+◌, ◌-◌, List, [], ◌∷◌, ◌++◌, length, Option, sym, ap, ◌∙◌, append_assoc, append-nil}
 use Rattle.ffv1_slice.specs.Walk.{links_of}
 use Rattle.ffv1_slice.specs.Slices.{found_slices}
-use Rattle.ffv1_pool.specs.Sets as set
-use Rattle.ffv1_pool.specs.Reels.{Reel}
-use Rattle.ffv1_pool.specs.Contents.{Contents, with_found, holding_of, no_slices}
-use Rattle.ffv1_pool.proofs.ContentsLaws.{with_found-holding_of}
+use Rattle.ffv1_holding.specs.Sets as set
+use Rattle.ffv1_holding.specs.Reels.{Reel}
+use Rattle.ffv1_holding.specs.Contents.{Contents, with_found, holding_of, no_slices}
+use Rattle.ffv1_holding.proofs.ContentsLaws.{with_found-holding_of}
 use Rattle.ffv1_devices.specs.Logs.{ReadLog}
 use Rattle.ffv1_commands.specs.Devices.{TakesWhole}
 use Rattle.ffv1_commands.specs.InTurn.{log_of}

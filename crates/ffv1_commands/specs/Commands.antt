@@ -5,10 +5,10 @@ use Rattle.std.specs.List.{flat_map}
 use Rattle.std.specs.Io.KnownBytes.{Appends}
 use Rattle.ffv1_range.specs.Setup.{SetupValue, IsSetupOf}
 use Rattle.ffv1_slice.specs.Slices.{IsOriginal}
-use Rattle.ffv1_pool.specs.Reels.{Reel}
-use Rattle.ffv1_pool.specs.Contents.{Contents, holding_of, HasSameCopies}
+use Rattle.ffv1_holding.specs.Reels.{Reel}
+use Rattle.ffv1_holding.specs.Contents.{Contents, holding_of, HasSameCopies}
 use Rattle.ffv1_hold.specs.Headline.{IsReelOf}
-use Rattle.ffv1_pool.specs.Originals.{AreCopiesOfSlices, AreNear}
+use Rattle.ffv1_holding.specs.Originals.{AreCopiesOfSlices, AreNear}
 use Rattle.ffv1_picture.specs.Headline.{AreEqualInAll, ShowsSlices}
 use Rattle.ffv1_picture.specs.declared.frame.Frame.{Frame}
 use Rattle.ffv1_commands.specs.Holdings.{IsHoldingFile}

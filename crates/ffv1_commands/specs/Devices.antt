@@ -4,7 +4,7 @@ use Rattle.std.specs.Io.KnownBytes.{Appends, IsAtEnd, Keeps}
 use Rattle.ffv1_bits.specs.Limits.{payload_limit}
 use Rattle.ffv1_devices.specs.Logs.{ReadLog, WriteLog, Reads, BreaksOff, Writes, StopsWriting}
 pub use Rattle.ffv1_devices.specs.Writing.{WritesFront}
-use Rattle.ffv1_pool.specs.declared.fault.HoldFault.TheVariants as holds
+use Rattle.ffv1_holding.specs.declared.fault.HoldFault.TheVariants as holds
 use Rattle.ffv1_commands.specs.declared.fault.CliFault.{CliFault}
 use Rattle.ffv1_commands.specs.declared.fault.CliFault.TheVariants as faults
 use Rattle.ffv1_commands.specs.declared.path.CommandPath.{CommandPath}

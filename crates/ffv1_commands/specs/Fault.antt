@@ -3,12 +3,12 @@ use Rattle.std.specs.Prelude.{ℕ, List, ◌++◌, codes, Option, Some, None}
 use Rattle.std.specs.Fmt.{decimal}
 use Rattle.ffv1_range.specs.declared.fault.SetupFault.{SetupFault}
 use Rattle.ffv1_range.specs.declared.fault.SetupFault.TheVariants as setup
-use Rattle.ffv1_pool.specs.declared.fault.HoldFault.{HoldFault}
-use Rattle.ffv1_pool.specs.declared.fault.HoldFault.TheVariants as hold
+use Rattle.ffv1_holding.specs.declared.fault.HoldFault.{HoldFault}
+use Rattle.ffv1_holding.specs.declared.fault.HoldFault.TheVariants as hold
 use Rattle.ffv1_hold.specs.declared.file_fault.HoldFileFault.{HoldFileFault}
 use Rattle.ffv1_hold.specs.declared.file_fault.HoldFileFault.TheVariants as file
-use Rattle.ffv1_pool.specs.declared.restore.RestoreFault.{RestoreFault}
-use Rattle.ffv1_pool.specs.declared.restore.RestoreFault.TheVariants as restore
+use Rattle.ffv1_holding.specs.declared.restore.RestoreFault.{RestoreFault}
+use Rattle.ffv1_holding.specs.declared.restore.RestoreFault.TheVariants as restore
 use Rattle.ffv1_picture.specs.declared.fault.FrameFault.{FrameFault}
 use Rattle.ffv1_picture.specs.declared.fault.FrameFault.TheVariants as frame
 use Rattle.ffv1_stretches.specs.declared.pass.MendFault.{MendFault}

@@ -2,13 +2,13 @@
 use Rattle.std.specs.Prelude.{ℕ, ◌≡◌, ◌+◌, ◌-◌, ◌<◌, ◌++◌, ◌⊎◌, List, [], ◌∷◌, length, map, take, Option, slice_index_or, None, Result, Ok, Err, codes}
 use Rattle.std.specs.Fmt.{decimal}
 use Rattle.std.specs.Io.KnownBytes.{Appends}
-use Rattle.ffv1_pool.specs.Sets as set
-use Rattle.ffv1_pool.specs.Contents.{Contents, IsSameReel, joined}
-use Rattle.ffv1_pool.specs.Joins.{joined_all, AreJoinable}
+use Rattle.ffv1_holding.specs.Sets as set
+use Rattle.ffv1_holding.specs.Contents.{Contents, IsSameReel, joined}
+use Rattle.ffv1_holding.specs.Joins.{joined_all, AreJoinable}
 use Rattle.ffv1_hold.specs.FileFaults.{ReadsHolding}
 use Rattle.ffv1_hold.specs.HoldingText.{holding_text}
 use Rattle.ffv1_devices.specs.Logs.{ReadLog, WriteLog}
-use Rattle.ffv1_pool.specs.declared.fault.HoldFault.TheVariants as holds
+use Rattle.ffv1_holding.specs.declared.fault.HoldFault.TheVariants as holds
 use Rattle.ffv1_commands.specs.Devices.{WriteStops, BothKept}
 use Rattle.ffv1_commands.specs.InTurn.{AreKeptFrom, ReadsAlone}
 use Rattle.ffv1_commands.specs.Holdings.{IsHoldingFile, HasFile, IsHoldingFault, IsFileFault, HoldingStops, IsMade, MadeBreaks}

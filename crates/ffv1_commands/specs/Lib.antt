@@ -34,16 +34,16 @@ pub use Rattle.ffv1_devices.specs.Logs
 pub use Rattle.ffv1_devices.specs.Results
 pub use Rattle.ffv1_devices.specs.Streams
 pub use Rattle.ffv1_devices.specs.Writing
-pub use Rattle.ffv1_pool.specs.Sets
-pub use Rattle.ffv1_pool.specs.Reels
-pub use Rattle.ffv1_pool.specs.Contents
+pub use Rattle.ffv1_holding.specs.Sets
+pub use Rattle.ffv1_holding.specs.Reels
+pub use Rattle.ffv1_holding.specs.Contents
 pub use Rattle.ffv1_hold.specs.Headline
-pub use Rattle.ffv1_pool.specs.Originals
+pub use Rattle.ffv1_holding.specs.Originals
 pub use Rattle.ffv1_hold.specs.HoldingText
 pub use Rattle.ffv1_hold.specs.FileFaults
-pub use Rattle.ffv1_pool.specs.Joins
-pub use Rattle.ffv1_pool.specs.Standing
-pub use Rattle.ffv1_pool.specs.Refusals
+pub use Rattle.ffv1_holding.specs.Joins
+pub use Rattle.ffv1_holding.specs.Standing
+pub use Rattle.ffv1_holding.specs.Refusals
 pub use Rattle.ffv1_hold.specs.Saving
 pub use Rattle.ffv1_plane.specs.Picture
 pub use Rattle.ffv1_picture.specs.WholePicture
@@ -54,8 +54,8 @@ pub use Rattle.ffv1_picture.specs.ReportText
 pub use Rattle.ffv1_splice.specs.Splice
 pub use Rattle.ffv1_splice.specs.Whole
 pub use Rattle.ffv1_splice.specs.Text
-pub use Rattle.ffv1_lists.specs.Lines as TextLines
-pub use Rattle.ffv1_lists.specs.Numbers
+pub use Rattle.ffv1_texts.specs.Lines as TextLines
+pub use Rattle.ffv1_texts.specs.Numbers
 pub use Rattle.ffv1_scan.specs.Ranges
 pub use Rattle.ffv1_scan.specs.Verdicts
 pub use Rattle.ffv1_scan.specs.Scans

@@ -3,8 +3,8 @@ use Rattle.std.specs.Prelude.{ℕ, ◌≡◌, ◌<◌, ◌⊎◌, List, [], leng
 use Rattle.std.specs.Io.KnownBytes.{Appends}
 use Rattle.ffv1_bits.specs.Limits.{file_limit}
 use Rattle.ffv1_devices.specs.Writing.{WritesFront}
-use Rattle.ffv1_pool.specs.Reels.{Reel}
-use Rattle.ffv1_pool.specs.Contents.{Contents, IsSameReel, joined}
+use Rattle.ffv1_holding.specs.Reels.{Reel}
+use Rattle.ffv1_holding.specs.Contents.{Contents, IsSameReel, joined}
 use Rattle.ffv1_hold.specs.HoldingText.{head_text, begun_text, holding_text}
 use Rattle.ffv1_hold.specs.FileFaults.{IsFileReel, IsFaultOf}
 use Rattle.ffv1_hold.specs.MergedStreams.{Inputs, StreamBegins, BeginsWithPart, MergeRefuses, WritesUnion, WritesNoEnd, WritesFrontSoFar}

@@ -2,7 +2,7 @@
 use Rattle.std.specs.Prelude.{ℕ, List, Option}
 use Rattle.ffv1_range.specs.Setup.{SetupValue, IsSetupOf}
 use Rattle.ffv1_range.specs.SetupFaults.{FirstSetupFault}
-use Rattle.ffv1_pool.specs.Reels.{Reel}
+use Rattle.ffv1_holding.specs.Reels.{Reel}
 use Rattle.ffv1_devices.specs.Logs.{ReadLog}
 use Rattle.ffv1_commands.specs.Devices.{IsWholeInput, TakesWhole, FileStops}
 use Rattle.ffv1_commands.specs.declared.fault.CliFault.{CliFault}

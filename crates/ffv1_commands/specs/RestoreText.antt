@@ -3,11 +3,11 @@ use Rattle.std.specs.Prelude.{ℕ, ◌⊎◌, ◌++◌, List, length, Option, Re
 use Rattle.std.specs.Fmt.{decimal}
 use Rattle.std.specs.Io.KnownBytes.{Appends}
 use Rattle.ffv1_devices.specs.Logs.{ReadLog, WriteLog, Writes}
-use Rattle.ffv1_pool.specs.Contents.{Contents}
-use Rattle.ffv1_pool.specs.Standing.{AreSettled, restored_payload}
-use Rattle.ffv1_pool.specs.Refusals.{IsRefusal}
+use Rattle.ffv1_holding.specs.Contents.{Contents}
+use Rattle.ffv1_holding.specs.Standing.{AreSettled, restored_payload}
+use Rattle.ffv1_holding.specs.Refusals.{IsRefusal}
 use Rattle.ffv1_hold.specs.FileFaults.{ReadsHolding}
-use Rattle.ffv1_pool.specs.declared.restore.RestoreFault.TheVariants as refusals
+use Rattle.ffv1_holding.specs.declared.restore.RestoreFault.TheVariants as refusals
 use Rattle.ffv1_commands.specs.Devices.{WriteStops, BothStop, BothKept}
 use Rattle.ffv1_commands.specs.Holdings.{IsHoldingFile, IsHoldingFault, HoldingStops}
 use Rattle.ffv1_commands.specs.declared.fault.CliFault.{CliFault}

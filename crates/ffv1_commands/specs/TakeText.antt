@@ -5,9 +5,9 @@ use Rattle.std.specs.Io.KnownBytes.{Appends}
 use Rattle.ffv1_range.specs.SetupFaults.{FirstSetupFault}
 use Rattle.ffv1_slice.specs.Walk.{links_of}
 use Rattle.ffv1_slice.specs.Slices.{found_slices}
-use Rattle.ffv1_pool.specs.Sets as set
-use Rattle.ffv1_pool.specs.Reels.{Reel}
-use Rattle.ffv1_pool.specs.Contents.{Contents, holding_of}
+use Rattle.ffv1_holding.specs.Sets as set
+use Rattle.ffv1_holding.specs.Reels.{Reel}
+use Rattle.ffv1_holding.specs.Contents.{Contents, holding_of}
 use Rattle.ffv1_hold.specs.HoldingText.{holding_text}
 use Rattle.ffv1_devices.specs.Logs.{ReadLog, WriteLog}
 use Rattle.ffv1_commands.specs.Devices.{IsWholeInput, AreWholeInputs, WriteStops, IsCopyFault, CopyStops, BothKept}

@@ -1,7 +1,7 @@
 //! The command `join`: makes the holding file of the union of holding files (own).
 ghost use Rattle.std.specs.Prelude.{◌≡◌, ◌≢◌, ◌+◌, ◌<◌, ◌^◌, [], ◌∷◌, ◌++◌, length, map, Err, IfOk, IfErr, OnOk, string_bytes};
-ghost use Rattle.ffv1_pool.specs.Contents.{IsSameReel, joined};
-ghost use Rattle.ffv1_pool.specs.Sets.{size};
+ghost use Rattle.ffv1_holding.specs.Contents.{IsSameReel, joined};
+ghost use Rattle.ffv1_holding.specs.Sets.{size};
 ghost use Rattle.ffv1_commands.specs.Fault.{NamesPath};
 ghost use Rattle.ffv1_commands.specs.Paths.{IsJoinPath};
 ghost use Rattle.ffv1_commands.specs.Devices.{UnlessWriting};

@@ -1,8 +1,8 @@
 //! The command `merge`: makes the holding file of the union of two holding files, which are read as streams (own).
 ghost use Rattle.std.specs.Prelude.{◌≡◌, IfErr, IsErrOf, OnOk};
 ghost use Rattle.ffv1_bits.specs.Limits.{file_limit};
-ghost use Rattle.ffv1_pool.specs.Reels.{Reel};
-ghost use Rattle.ffv1_pool.specs.Contents.{Contents, IsSameReel, joined};
+ghost use Rattle.ffv1_holding.specs.Reels.{Reel};
+ghost use Rattle.ffv1_holding.specs.Contents.{Contents, IsSameReel, joined};
 ghost use Rattle.ffv1_hold.specs.declared.version.Version.{Version};
 ghost use Rattle.ffv1_hold.specs.MergedStreams.{IsFileOf, BeginsWithHead, WritesAtMost};
 ghost use Rattle.ffv1_commands.specs.Fault.{NamesPath};

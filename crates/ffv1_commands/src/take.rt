@@ -1,7 +1,7 @@
 //! The command `take`: makes the holding file of all slices that are found in copies of one frame (own;
 //! slices are those of RFC 9043, sections 4.5 and 4.9).
 ghost use Rattle.std.specs.Prelude.{◌≡◌, ◌+◌, ◌<◌, ◌^◌, ◌++◌, length, map, IfOk, IfErr, OnOk, string_bytes};
-ghost use Rattle.ffv1_pool.specs.Contents.{no_slices};
+ghost use Rattle.ffv1_holding.specs.Contents.{no_slices};
 ghost use Rattle.ffv1_commands.specs.Fault.{NamesPath};
 ghost use Rattle.ffv1_commands.specs.Paths.{IsTakePath};
 ghost use Rattle.ffv1_commands.specs.Devices.{IfOfRecord, CopyStops, UnlessWriting};

@@ -1,7 +1,7 @@
 //! The chain of a payload, and its slices.
-use ffv1_frames::{FRAME, LEFT_DAMAGED, ONE_TILE, RECORDED, RECORDED_RECORD, RIGHT};
 use ffv1_range::{HeadFault, RangeFault, Setup};
 use ffv1_slice::{Chain, ChainEnd, LinkFault, next_link, read_slice, slice_of};
+use ffv1_test_frames::{FRAME, LEFT_DAMAGED, ONE_TILE, RECORDED, RECORDED_RECORD, RIGHT};
 use std::alloc::{AllocError, Global};
 
 /// Where a link of a payload starts, its length, its status, and whether its parity is right. Links count from the end.

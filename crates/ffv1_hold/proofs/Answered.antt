@@ -6,7 +6,7 @@ use Rattle.ffv1_devices.specs.Logs.{ReadLog}
 use Rattle.ffv1_hold.specs.declared.file_fault.HoldFileFault.{HoldFileFault}
 use Rattle.ffv1_hold.specs.declared.file_fault.HoldFileFault.TheVariants as faults
 use Rattle.ffv1_hold.specs.declared.version.Version.{Version}
-use Rattle.ffv1_pool.specs.Contents.{Contents, IsHolding}
+use Rattle.ffv1_holding.specs.Contents.{Contents, IsHolding}
 use Rattle.ffv1_hold.specs.HoldingText.{file_text, head_text, entries_text, file_entries, IsStated, FitsInFile}
 use Rattle.ffv1_hold.specs.Reading.{Refuses, StopsIn}
 use Rattle.ffv1_hold.specs.FileFaults.{IsPartOfFile, FileIsWhole, FileShows, ReadsFile, IsOutside, Answers}

@@ -1,7 +1,7 @@
 -- The parts of a slice after its tag.
 use Rattle.std.proofs.Common.{◌≡◌, ℕ, ◌<◌, ◌≤◌, List, ◌++◌, length, arith, inl, inr, refl, ap, length-append}
 use Rattle.ffv1_bits.specs.Limits.{slice_limit}
-use Rattle.ffv1_pool.specs.SliceOrder.{Entry}
+use Rattle.ffv1_holding.specs.SliceOrder.{Entry}
 use Rattle.ffv1_hold.specs.HoldingText.{be2, be4, slice_text}
 use Rattle.ffv1_hold.specs.FileFaults.{IsPartOfSlice}
 

@@ -1,7 +1,7 @@
 -- Entries after their tags are read in one way only, and show one fault at most.
 use Rattle.std.proofs.Common.{◌≡◌, ℕ, List, ◌++◌, Option, sym, ap, ◌∙◌, subst, inl, inr, append_assoc}
 use Rattle.ffv1_range.specs.Setup.{SetupValue}
-use Rattle.ffv1_pool.specs.SliceOrder.{Entry}
+use Rattle.ffv1_holding.specs.SliceOrder.{Entry}
 use Rattle.ffv1_hold.specs.declared.file_fault.HoldFileFault.{HoldFileFault}
 use Rattle.ffv1_hold.specs.declared.version.Version.{Version}
 use Rattle.ffv1_hold.specs.HoldingText.{FileEntry, slice_text, text_after_slice, body_text}

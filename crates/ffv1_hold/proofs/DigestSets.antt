@@ -7,13 +7,13 @@ use Rattle.std.specs.Ordering.{ordering_then, is_eq, eq_by_cmp}
 use Rattle.std.specs.Cmp.{Equal-is, tied_itself}
 use Rattle.std.specs.declared.cmp.Ordering.{Ordering}
 use Rattle.std.specs.declared.cmp.Ordering.TheVariants.{Less}
-use Rattle.ffv1_pool.specs.Sets as set
-use Rattle.ffv1_pool.specs.SliceOrder.{Entry, Origin, with_each, bytes_cmp, entry_cmp, origin_cmp, bytes_total, bytes_antisymmetric, entries_total, entries_antisymmetric, origins_total}
-use Rattle.ffv1_pool.specs.Rising.{IsRising}
-use Rattle.ffv1_pool.specs.TileSets.{digests_in}
-use Rattle.ffv1_pool.proofs.RisingSets.{rising_rest, items-from_list}
-use Rattle.ffv1_pool.proofs.ItemsRise.{items-rising}
-use Rattle.ffv1_pool.proofs.OriginSteps.{both_tie}
+use Rattle.ffv1_holding.specs.Sets as set
+use Rattle.ffv1_holding.specs.SliceOrder.{Entry, Origin, with_each, bytes_cmp, entry_cmp, origin_cmp, bytes_total, bytes_antisymmetric, entries_total, entries_antisymmetric, origins_total}
+use Rattle.ffv1_holding.specs.Rising.{IsRising}
+use Rattle.ffv1_holding.specs.TileSets.{digests_in}
+use Rattle.ffv1_holding.proofs.RisingSets.{rising_rest, items-from_list}
+use Rattle.ffv1_holding.proofs.ItemsRise.{items-rising}
+use Rattle.ffv1_holding.proofs.OriginSteps.{both_tie}
 use Rattle.ffv1_hold.specs.FileEntries.{IsDigest}
 
 -- whether a digest is one of them

@@ -6,13 +6,13 @@ use Rattle.std.specs.Ordering.{is_eq, eq_by_cmp, ordering_reverse}
 use Rattle.std.specs.Cmp.{tied_itself}
 use Rattle.std.specs.declared.cmp.Ordering.{Ordering}
 use Rattle.std.specs.declared.cmp.Ordering.TheVariants.{Less, Equal, Greater}
-use Rattle.ffv1_pool.specs.Sets as set
-use Rattle.ffv1_pool.specs.SliceOrder.{bytes_cmp, bytes_total, bytes_antisymmetric}
-use Rattle.ffv1_pool.specs.Rising.{IsRising}
-use Rattle.ffv1_pool.specs.Contents.{AreDigests}
-use Rattle.ffv1_pool.proofs.RisingSets.{rising_rest}
-use Rattle.ffv1_pool.proofs.ItemsRise.{items-rising}
-use Rattle.ffv1_pool.proofs.EntrySteps.{or_cases}
+use Rattle.ffv1_holding.specs.Sets as set
+use Rattle.ffv1_holding.specs.SliceOrder.{bytes_cmp, bytes_total, bytes_antisymmetric}
+use Rattle.ffv1_holding.specs.Rising.{IsRising}
+use Rattle.ffv1_holding.specs.Contents.{AreDigests}
+use Rattle.ffv1_holding.proofs.RisingSets.{rising_rest}
+use Rattle.ffv1_holding.proofs.ItemsRise.{items-rising}
+use Rattle.ffv1_holding.proofs.EntrySteps.{or_cases}
 use Rattle.ffv1_hold.specs.Inner.Merging.{digests_union}
 use Rattle.ffv1_hold.proofs.DigestSets.{has, digest_tie, rising_cons, same_digests}
 

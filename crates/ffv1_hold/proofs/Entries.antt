@@ -6,7 +6,7 @@ use Rattle.ffv1_hold.specs.declared.file_fault.HoldFileFault.TheVariants as faul
 use Rattle.ffv1_hold.specs.declared.version.Version.{Version}
 use Rattle.ffv1_hold.specs.declared.version.Version.TheVariants.{First, Second}
 use Rattle.ffv1_range.specs.Setup.{SetupValue}
-use Rattle.ffv1_pool.specs.SliceOrder.{Entry}
+use Rattle.ffv1_holding.specs.SliceOrder.{Entry}
 use Rattle.ffv1_hold.specs.FileEntries.{last_of, AreEntries}
 use Rattle.ffv1_hold.specs.HoldingText.{FileEntry, slice_text, text_after_slice, body_text, entry_text, entries_text}
 use Rattle.ffv1_devices.specs.Logs.{ReadLog}

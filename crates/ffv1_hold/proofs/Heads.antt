@@ -8,11 +8,11 @@ use Rattle.ffv1_range.specs.declared.fault.SetupFault.TheVariants.{Memory as no_
 use Rattle.ffv1_range.specs.SetupFaults.{FirstSetupFault}
 use Rattle.ffv1_hold.specs.declared.file_fault.HoldFileFault.{HoldFileFault}
 use Rattle.ffv1_hold.specs.declared.file_fault.HoldFileFault.TheVariants as faults
-use Rattle.ffv1_pool.specs.Reels.{Reel}
+use Rattle.ffv1_holding.specs.Reels.{Reel}
 use Rattle.ffv1_hold.specs.declared.version.Version.{Version}
 use Rattle.ffv1_hold.specs.declared.version.Version.TheVariants.{First, Second}
 use Rattle.ffv1_hold.specs.HoldingText.{name, version_number, magic, be4, sized_record, head_text, entries_text, file_entries, IsStated}
-use Rattle.ffv1_pool.specs.Contents.{Contents, IsHolding}
+use Rattle.ffv1_holding.specs.Contents.{Contents, IsHolding}
 use Rattle.ffv1_devices.specs.Logs.{ReadLog}
 use Rattle.ffv1_hold.specs.Reading.{Refuses}
 use Rattle.ffv1_hold.specs.Inner.Reading.{TakesText, ReadsText}

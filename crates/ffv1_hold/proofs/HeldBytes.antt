@@ -7,7 +7,7 @@ use Rattle.std.specs.declared.cmp.Ordering.TheVariants.{Less, Equal, Greater}
 use Rattle.std.proofs.lemmas.Bool.{cases_lt}
 use Rattle.std.proofs.lemmas.List.{take_all, drop_all, take-append-le, drop-append-le, length-replicate, take_at, drop-drop}
 use borrow.Rule.Slice.PartMut.{put_mid}
-use Rattle.ffv1_pool.specs.SliceOrder.{bytes_cmp}
+use Rattle.ffv1_holding.specs.SliceOrder.{bytes_cmp}
 
 -- ---- how they compare
 

@@ -6,16 +6,16 @@ use Rattle.std.specs.Ordering.{is_eq, eq_by_cmp, ordering_reverse}
 use Rattle.std.specs.declared.cmp.Ordering.TheVariants.{Less}
 use Rattle.std.proofs.lemmas.List.{map-append, get_or-map, length-map}
 use Rattle.std.proofs.lemmas.Bool.{false_from_ne_true}
-use Rattle.ffv1_pool.specs.Sets as set
-use Rattle.ffv1_pool.specs.SliceOrder.{Entry, with_each, bytes_cmp, entry_cmp, origin_cmp, entries_total, entries_antisymmetric, origins_total, origins_antisymmetric}
-use Rattle.ffv1_pool.specs.Rising.{IsRising}
-use Rattle.ffv1_pool.specs.TileSets.{digests_in}
-use Rattle.ffv1_pool.specs.Contents.{Contents, IsHolding, IsEntryOf, digests_of, with_entry, joined, IsSameReel}
-use Rattle.ffv1_pool.specs.Reels.{Reel}
-use Rattle.ffv1_pool.proofs.RisingSets.{rising_rest, contains_item, items-empty}
-use Rattle.ffv1_pool.proofs.ItemsRise.{items-rising, items-insert_last}
-use Rattle.ffv1_pool.proofs.EntrySteps.{or_cases, all-insert, all-union}
-use Rattle.ffv1_pool.proofs.OriginSteps.{held_union, whole_union, held_each, whole_each}
+use Rattle.ffv1_holding.specs.Sets as set
+use Rattle.ffv1_holding.specs.SliceOrder.{Entry, with_each, bytes_cmp, entry_cmp, origin_cmp, entries_total, entries_antisymmetric, origins_total, origins_antisymmetric}
+use Rattle.ffv1_holding.specs.Rising.{IsRising}
+use Rattle.ffv1_holding.specs.TileSets.{digests_in}
+use Rattle.ffv1_holding.specs.Contents.{Contents, IsHolding, IsEntryOf, digests_of, with_entry, joined, IsSameReel}
+use Rattle.ffv1_holding.specs.Reels.{Reel}
+use Rattle.ffv1_holding.proofs.RisingSets.{rising_rest, contains_item, items-empty}
+use Rattle.ffv1_holding.proofs.ItemsRise.{items-rising, items-insert_last}
+use Rattle.ffv1_holding.proofs.EntrySteps.{or_cases, all-insert, all-union}
+use Rattle.ffv1_holding.proofs.OriginSteps.{held_union, whole_union, held_each, whole_each}
 use Rattle.ffv1_hold.specs.declared.version.Version.{Version}
 use Rattle.ffv1_hold.specs.declared.version.Version.TheVariants.{First, Second}
 use Rattle.ffv1_hold.specs.HoldingText.{FileEntry, origins_limit, file_entries, IsStated}

@@ -3,8 +3,8 @@ use Rattle.std.proofs.Common.{◌≡◌, ℕ, ◌+◌, ◌*◌, List, [], ◌∷
 use mathlib.Core.Bool.{true≢false}
 use Rattle.std.specs.List.{AllByRecursion}
 use Rattle.std.specs.Ordering.{eq_by_cmp}
-use Rattle.ffv1_pool.specs.SliceOrder.{Entry, bytes_cmp}
-use Rattle.ffv1_pool.proofs.EntrySteps.{or_cases}
+use Rattle.ffv1_holding.specs.SliceOrder.{Entry, bytes_cmp}
+use Rattle.ffv1_holding.proofs.EntrySteps.{or_cases}
 use Rattle.ffv1_hold.specs.declared.version.Version.TheVariants.{Second}
 use Rattle.ffv1_hold.specs.HoldingText.{FileEntry, slice_text, origins_text, entry_text}
 use Rattle.ffv1_hold.specs.FileEntries.{IsDigest, AreOrigins}

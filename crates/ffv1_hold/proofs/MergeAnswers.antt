@@ -6,8 +6,8 @@ use Rattle.std.proofs.KnownBytes.{Consumes-nil, Appends-nil}
 use Rattle.ffv1_bits.specs.Limits.{file_limit}
 use Rattle.ffv1_hold.specs.declared.version.Version.{Version}
 use Rattle.ffv1_hold.specs.declared.version.Version.TheVariants.{Second}
-use Rattle.ffv1_pool.specs.Reels.{Reel}
-use Rattle.ffv1_pool.specs.Contents.{Contents, IsSameReel, joined}
+use Rattle.ffv1_holding.specs.Reels.{Reel}
+use Rattle.ffv1_holding.specs.Contents.{Contents, IsSameReel, joined}
 use Rattle.ffv1_hold.specs.declared.file_fault.HoldFileFault.{HoldFileFault}
 use Rattle.ffv1_hold.specs.declared.file_fault.HoldFileFault.TheVariants as faults
 use Rattle.ffv1_hold.specs.HoldingText.{be4, magic, sized_record, head_text, entries_text, begun_text, file_entries, file_text, holding_text, IsStated}

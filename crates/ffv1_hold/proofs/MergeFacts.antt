@@ -6,13 +6,13 @@ use Rattle.std.specs.Ordering.{eq_by_cmp, is_eq}
 use Rattle.std.specs.Cmp.{tied_itself}
 use Rattle.std.proofs.lemmas.List.{map-append}
 use Rattle.std.proofs.lemmas.Bool.{or_left, or_right}
-use Rattle.ffv1_pool.specs.SliceOrder.{Entry, Origin, with_each, bytes_cmp, entry_cmp, origin_cmp, bytes_total, bytes_antisymmetric, entries_total, entries_antisymmetric, origins_total, origins_antisymmetric}
-use Rattle.ffv1_pool.specs.Sets as set
-use Rattle.ffv1_pool.specs.Reels.{Reel}
-use Rattle.ffv1_pool.specs.TileSets.{digests_in}
-use Rattle.ffv1_pool.specs.Contents.{Contents, IsHolding, AreDigests, digests_of}
-use Rattle.ffv1_pool.proofs.RisingSets.{union-insert, insert_present, items-from_list}
-use Rattle.ffv1_pool.proofs.EntrySteps.{or_cases}
+use Rattle.ffv1_holding.specs.SliceOrder.{Entry, Origin, with_each, bytes_cmp, entry_cmp, origin_cmp, bytes_total, bytes_antisymmetric, entries_total, entries_antisymmetric, origins_total, origins_antisymmetric}
+use Rattle.ffv1_holding.specs.Sets as set
+use Rattle.ffv1_holding.specs.Reels.{Reel}
+use Rattle.ffv1_holding.specs.TileSets.{digests_in}
+use Rattle.ffv1_holding.specs.Contents.{Contents, IsHolding, AreDigests, digests_of}
+use Rattle.ffv1_holding.proofs.RisingSets.{union-insert, insert_present, items-from_list}
+use Rattle.ffv1_holding.proofs.EntrySteps.{or_cases}
 use Rattle.ffv1_hold.specs.declared.version.Version.{Version}
 use Rattle.ffv1_hold.specs.declared.version.Version.TheVariants.{Second}
 use Rattle.ffv1_hold.specs.HoldingText.{FileEntry, head_text, entry_text, entries_text, begun_text, file_entries}

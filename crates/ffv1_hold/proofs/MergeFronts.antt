@@ -6,10 +6,10 @@ use Rattle.std.specs.Ordering.{eq_by_cmp}
 use Rattle.std.proofs.lemmas.List.{map-append}
 use Rattle.std.proofs.lemmas.Bool.{or_left}
 use Rattle.std.proofs.lemmas.List.Folds.{list_any-append}
-use Rattle.ffv1_pool.specs.SliceOrder.{Entry, Origin, entry_cmp}
-use Rattle.ffv1_pool.specs.Sets as set
-use Rattle.ffv1_pool.specs.Contents.{Contents, IsHolding, digests_of}
-use Rattle.ffv1_pool.proofs.EntrySteps.{or_cases}
+use Rattle.ffv1_holding.specs.SliceOrder.{Entry, Origin, entry_cmp}
+use Rattle.ffv1_holding.specs.Sets as set
+use Rattle.ffv1_holding.specs.Contents.{Contents, IsHolding, digests_of}
+use Rattle.ffv1_holding.proofs.EntrySteps.{or_cases}
 use Rattle.ffv1_hold.specs.HoldingText.{FileEntry, file_entries}
 use Rattle.ffv1_hold.proofs.DigestSets.{has, entry_tie, has-digests_in}
 use Rattle.ffv1_hold.proofs.HeldEntries.{stated, slices_back}

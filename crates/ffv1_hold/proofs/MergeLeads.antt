@@ -3,10 +3,10 @@ use Rattle.std.proofs.Common.{◌≡◌, ℕ, suc, ◌+◌, ◌<◌, ◌≤◌, 
 use Rattle.std.specs.Prelude.{◌⊎◌}
 use Rattle.std.specs.List.{AllByRecursion}
 use Rattle.std.specs.Io.KnownBytes.{Consumes, Appends}
-use Rattle.ffv1_pool.specs.SliceOrder.{Entry, entries_total}
-use Rattle.ffv1_pool.specs.Sets as set
-use Rattle.ffv1_pool.specs.Reels.{Reel, IsReel}
-use Rattle.ffv1_pool.specs.Contents.{Contents, IsHolding, digests_of}
+use Rattle.ffv1_holding.specs.SliceOrder.{Entry, entries_total}
+use Rattle.ffv1_holding.specs.Sets as set
+use Rattle.ffv1_holding.specs.Reels.{Reel, IsReel}
+use Rattle.ffv1_holding.specs.Contents.{Contents, IsHolding, digests_of}
 use Rattle.ffv1_hold.specs.declared.version.Version.{Version}
 use Rattle.ffv1_hold.specs.declared.version.Version.TheVariants.{Second}
 use Rattle.ffv1_hold.specs.HoldingText.{FileEntry, head_text, entry_text, body_text, entries_text, begun_text, file_entries, file_text, IsStated}
@@ -16,7 +16,7 @@ use Rattle.ffv1_hold.specs.FileFaults.{IsFileReel}
 use Rattle.ffv1_hold.specs.Leads.{LiesWhole, AreAllDigests, IsLeadOf}
 use Rattle.ffv1_hold.specs.MergedStreams.{IsFileOf, IsFileOfSome, StaysInLead}
 use Rattle.ffv1_hold.specs.Inner.Merging.{Facts, part, ReadsToNext}
-use Rattle.ffv1_pool.proofs.RisingSets.{contains_item}
+use Rattle.ffv1_holding.proofs.RisingSets.{contains_item}
 use Rattle.ffv1_hold.proofs.NumberTexts.{no_tag, rest_same}
 use Rattle.ffv1_hold.proofs.BodyTexts.{same_body}
 use Rattle.ffv1_hold.proofs.TextLaws.{entries_after, none_after, AreFitting, fitting_all, fitting_items, same_head, text_parts}

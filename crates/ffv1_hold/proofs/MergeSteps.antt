@@ -8,8 +8,8 @@ use Rattle.ffv1_bits.specs.Limits.{record_limit, file_limit}
 use Rattle.ffv1_range.specs.Setup.{SetupValue}
 use Rattle.ffv1_devices.specs.Writing.{WritesFront}
 use Rattle.ffv1_devices.proofs.Fronts.{front-append, front-after}
-use Rattle.ffv1_pool.specs.Reels.{Reel}
-use Rattle.ffv1_pool.specs.Contents.{Contents, IsHolding, AreDigests}
+use Rattle.ffv1_holding.specs.Reels.{Reel}
+use Rattle.ffv1_holding.specs.Contents.{Contents, IsHolding, AreDigests}
 use Rattle.ffv1_hold.specs.declared.file_fault.HoldFileFault.{HoldFileFault}
 use Rattle.ffv1_hold.specs.declared.file_fault.HoldFileFault.TheVariants as faults
 use Rattle.ffv1_hold.specs.declared.version.Version.{Version}

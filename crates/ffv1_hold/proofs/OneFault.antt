@@ -9,7 +9,7 @@ use Rattle.ffv1_range.proofs.SetupFacts.{one_setup_fault}
 use Rattle.ffv1_hold.specs.declared.file_fault.HoldFileFault.{HoldFileFault}
 use Rattle.ffv1_hold.specs.declared.file_fault.HoldFileFault.TheVariants as faults
 use Rattle.ffv1_hold.specs.declared.version.Version.{Version}
-use Rattle.ffv1_pool.specs.Reels.{Reel}
+use Rattle.ffv1_holding.specs.Reels.{Reel}
 use Rattle.ffv1_hold.specs.HoldingText.{FileEntry, be4, magic, sized_record, head_text, body_text, entries_text}
 use Rattle.ffv1_hold.specs.FileEntries.{last_of, AreEntries}
 use Rattle.ffv1_hold.specs.FileFaults.{EntryShows, ReelShows, MagicShows, FileShows}

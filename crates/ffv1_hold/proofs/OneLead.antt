@@ -9,9 +9,9 @@ use Rattle.std.proofs.lemmas.Bool.{cases_lt}
 use Rattle.std.proofs.lemmas.Nat.{from_be_bytes-to_be_bytes_2, from_be_bytes-to_be_bytes_4}
 use Rattle.std.proofs.Math.Seq.{take-append_seam, drop-append_seam}
 use Rattle.ffv1_bits.specs.Limits.{slice_limit}
-use Rattle.ffv1_pool.specs.SliceOrder.{Entry, bytes_cmp, bytes_total, bytes_antisymmetric}
-use Rattle.ffv1_pool.specs.Reels.{Reel}
-use Rattle.ffv1_pool.specs.Contents.{Contents, digests_of, joined}
+use Rattle.ffv1_holding.specs.SliceOrder.{Entry, bytes_cmp, bytes_total, bytes_antisymmetric}
+use Rattle.ffv1_holding.specs.Reels.{Reel}
+use Rattle.ffv1_holding.specs.Contents.{Contents, digests_of, joined}
 use Rattle.ffv1_hold.specs.declared.version.Version.{Version}
 use Rattle.ffv1_hold.specs.declared.version.Version.TheVariants.{Second}
 use Rattle.ffv1_hold.specs.HoldingText.{FileEntry, origins_limit, be2, be4, head_text, origins_text, body_text, entry_text, entries_text, file_entries, file_text}

@@ -3,10 +3,10 @@ use Rattle.std.proofs.Common.{◌≡◌, ℕ, zero, suc, ◌-◌, ◌<◌, ◌�
 use Rattle.std.specs.Ordering.{ordering_index}
 use Rattle.std.specs.declared.cmp.Ordering.{Ordering}
 use Rattle.std.specs.declared.cmp.Ordering.TheVariants.{Less, Equal, Greater}
-use Rattle.ffv1_pool.specs.SliceOrder.{bytes_cmp, bytes_total}
-use Rattle.ffv1_pool.specs.Rising.{IsRising}
-use Rattle.ffv1_pool.proofs.RisingSets.{rising_rest}
-use Rattle.ffv1_pool.proofs.ItemsRise.{rising-append, rising_one}
+use Rattle.ffv1_holding.specs.SliceOrder.{bytes_cmp, bytes_total}
+use Rattle.ffv1_holding.specs.Rising.{IsRising}
+use Rattle.ffv1_holding.proofs.RisingSets.{rising_rest}
+use Rattle.ffv1_holding.proofs.ItemsRise.{rising-append, rising_one}
 use Rattle.ffv1_hold.specs.declared.file_fault.HoldFileFault.{HoldFileFault}
 use Rattle.ffv1_hold.specs.declared.file_fault.HoldFileFault.TheVariants as faults
 use Rattle.ffv1_hold.specs.HoldingText.{origins_limit, be4, origins_text}

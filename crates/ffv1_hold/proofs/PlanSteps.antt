@@ -2,15 +2,15 @@
 use Rattle.std.proofs.Common.{◌≡◌, ℕ, Result, Ok, Err, IfOk, OnOk, List, [], ◌∷◌, ◌++◌, sym, ap, ◌∙◌, subst}
 use Rattle.std.proofs.lemmas.Result.{IfOk-weaker}
 use Rattle.ffv1_range.proofs.SetupFacts.{one_setup}
-use Rattle.ffv1_pool.specs.Reels.{Reel}
+use Rattle.ffv1_holding.specs.Reels.{Reel}
 use Rattle.ffv1_hold.specs.Headline.{IsReelOf}
-use Rattle.ffv1_pool.specs.Originals.{AreNear, HoldsExactly}
-use Rattle.ffv1_pool.proofs.ExactlyHeld.{near_exact}
-use Rattle.ffv1_pool.specs.TakeFaults.{AreShort}
-use Rattle.ffv1_pool.specs.HoldingParts.{contents, IsKept}
-use Rattle.ffv1_pool.specs.declared.holding.Holding.TheInside.{Inside}
-use Rattle.ffv1_pool.specs.Contents.{Contents, IsHolding, IsSameReel, with_found, with_copies, joined, holding_of}
-use Rattle.ffv1_pool.proofs.ContentsLaws.{with_found-holding_of, with_copies-holding_of, joined-holding_of}
+use Rattle.ffv1_holding.specs.Originals.{AreNear, HoldsExactly}
+use Rattle.ffv1_holding.proofs.ExactlyHeld.{near_exact}
+use Rattle.ffv1_holding.specs.TakeFaults.{AreShort}
+use Rattle.ffv1_holding.specs.HoldingParts.{contents, IsKept}
+use Rattle.ffv1_holding.specs.declared.holding.Holding.TheInside.{Inside}
+use Rattle.ffv1_holding.specs.Contents.{Contents, IsHolding, IsSameReel, with_found, with_copies, joined, holding_of}
+use Rattle.ffv1_holding.proofs.ContentsLaws.{with_found-holding_of, with_copies-holding_of, joined-holding_of}
 
 pub AreShort-both : (xs ys : List (List ℕ)) → AreShort xs → AreShort ys → AreShort (xs ++ ys)
 AreShort-both [] ys few more = more

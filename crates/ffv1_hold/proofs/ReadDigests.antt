@@ -7,15 +7,15 @@ use Rattle.std.specs.Io.KnownBytes.{Consumes}
 use Rattle.std.specs.Ordering.{is_eq, eq_by_cmp}
 use Rattle.std.specs.declared.cmp.Ordering.TheVariants.{Less}
 use Rattle.std.proofs.lemmas.Bool.{false_from_ne_true}
-use Rattle.ffv1_pool.specs.SliceOrder.{Entry, entry_cmp, entries_total, origins_total, origins_antisymmetric}
-use Rattle.ffv1_pool.specs.Sets as set
-use Rattle.ffv1_pool.specs.Rising.{IsRising}
-use Rattle.ffv1_pool.specs.Reels.{Reel}
-use Rattle.ffv1_pool.specs.TileSets.{digests_in}
-use Rattle.ffv1_pool.specs.Contents.{Contents, IsHolding, digests_of, joined}
-use Rattle.ffv1_pool.proofs.RisingSets.{rising_rest}
-use Rattle.ffv1_pool.proofs.ItemsRise.{items-rising}
-use Rattle.ffv1_pool.proofs.EntrySteps.{or_cases}
+use Rattle.ffv1_holding.specs.SliceOrder.{Entry, entry_cmp, entries_total, origins_total, origins_antisymmetric}
+use Rattle.ffv1_holding.specs.Sets as set
+use Rattle.ffv1_holding.specs.Rising.{IsRising}
+use Rattle.ffv1_holding.specs.Reels.{Reel}
+use Rattle.ffv1_holding.specs.TileSets.{digests_in}
+use Rattle.ffv1_holding.specs.Contents.{Contents, IsHolding, digests_of, joined}
+use Rattle.ffv1_holding.proofs.RisingSets.{rising_rest}
+use Rattle.ffv1_holding.proofs.ItemsRise.{items-rising}
+use Rattle.ffv1_holding.proofs.EntrySteps.{or_cases}
 use Rattle.ffv1_hold.specs.declared.version.Version.{Version}
 use Rattle.ffv1_hold.specs.declared.version.Version.TheVariants.{Second}
 use Rattle.ffv1_hold.specs.HoldingText.{FileEntry, entry_text, body_text, entries_text, begun_text, file_entries, IsStated}

@@ -7,10 +7,10 @@ use Rattle.ffv1_hold.specs.declared.file_fault.HoldFileFault.{HoldFileFault}
 use Rattle.ffv1_hold.specs.declared.file_fault.HoldFileFault.TheVariants as faults
 use Rattle.ffv1_hold.specs.declared.version.Version.{Version}
 use Rattle.ffv1_hold.specs.declared.version.Version.TheVariants.{First, Second}
-use Rattle.ffv1_pool.specs.Reels.{Reel, IsReel}
-use Rattle.ffv1_pool.specs.SliceOrder.{entry_cmp, origin_cmp}
-use Rattle.ffv1_pool.specs.Sets as set
-use Rattle.ffv1_pool.specs.Contents.{Contents, IsHolding, no_slices, with_entry}
+use Rattle.ffv1_holding.specs.Reels.{Reel, IsReel}
+use Rattle.ffv1_holding.specs.SliceOrder.{entry_cmp, origin_cmp}
+use Rattle.ffv1_holding.specs.Sets as set
+use Rattle.ffv1_holding.specs.Contents.{Contents, IsHolding, no_slices, with_entry}
 use Rattle.ffv1_hold.specs.HoldingText.{FileEntry, entries_text, file_entries, IsStated}
 use Rattle.ffv1_devices.specs.Logs.{ReadLog}
 use Rattle.ffv1_hold.specs.Inner.Reading.{TakesText}

@@ -2,13 +2,13 @@
 use Rattle.std.proofs.Common.{◌≡◌, ℕ, true, get_or, sym, ◌∙◌, arith}
 use Rattle.ffv1_range.proofs.SetupFacts.{setup_tiles}
 use Rattle.ffv1_slice.proofs.SliceFacts.{slice_in_grid}
-use Rattle.ffv1_pool.specs.Sets as set
-use Rattle.ffv1_pool.specs.SliceOrder.{bytes_total}
-use Rattle.ffv1_pool.specs.TileSets.{tile_slices}
-use Rattle.ffv1_pool.specs.Contents.{Contents, IsHolding}
+use Rattle.ffv1_holding.specs.Sets as set
+use Rattle.ffv1_holding.specs.SliceOrder.{bytes_total}
+use Rattle.ffv1_holding.specs.TileSets.{tile_slices}
+use Rattle.ffv1_holding.specs.Contents.{Contents, IsHolding}
 use Rattle.ffv1_hold.specs.Inner.Saving.{AreWithinLimit, AreWritable}
-use Rattle.ffv1_pool.proofs.RisingSets.{size-items, contains_item}
-use Rattle.ffv1_pool.proofs.Tiles.{contains-tile_slices}
+use Rattle.ffv1_holding.proofs.RisingSets.{size-items, contains_item}
+use Rattle.ffv1_holding.proofs.Tiles.{contains-tile_slices}
 
 -- the slices of one tile are within their limit
 pub tile_within_limit : (h : Contents) → AreWritable h → (t : ℕ) → AreWithinLimit (tile_slices h.slices t)

@@ -6,7 +6,7 @@ use Rattle.ffv1_range.specs.Setup.{SetupValue}
 use Rattle.ffv1_slice.specs.Slices.{IsSliceOf}
 use Rattle.ffv1_hold.specs.declared.file_fault.HoldFileFault.{HoldFileFault}
 use Rattle.ffv1_hold.specs.declared.file_fault.HoldFileFault.TheVariants as faults
-use Rattle.ffv1_pool.specs.SliceOrder.{Entry}
+use Rattle.ffv1_holding.specs.SliceOrder.{Entry}
 use Rattle.ffv1_hold.specs.HoldingText.{FileEntry, be2, be4, slice_text}
 use Rattle.ffv1_hold.specs.FileEntries.{Follows}
 use Rattle.ffv1_hold.specs.FileFaults.{IsPartOfSlice, IsWrong, SliceShows, IsEntryInPlace}

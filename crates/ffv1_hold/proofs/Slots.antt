@@ -4,8 +4,8 @@ use Rattle.std.proofs.lemmas.List.Concat.{flat_map-append}
 use Rattle.std.proofs.Math.Seq.{drop-cons}
 use Rattle.std.proofs.lemmas.List.{take_more}
 use Rattle.std.specs.List.{AllByRecursion}
-use Rattle.ffv1_pool.specs.SliceOrder.{Entry}
-use Rattle.ffv1_pool.specs.Reels.{Reel}
+use Rattle.ffv1_holding.specs.SliceOrder.{Entry}
+use Rattle.ffv1_holding.specs.Reels.{Reel}
 use Rattle.ffv1_hold.specs.declared.version.Version.{Version}
 use Rattle.ffv1_hold.specs.declared.version.Version.TheVariants.{Second}
 use Rattle.ffv1_hold.specs.HoldingText.{FileEntry, be2, be4, magic, slice_text, origins_text, body_text, entry_text, entries_text, sized_record, head_text}

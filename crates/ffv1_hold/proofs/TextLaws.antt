@@ -4,14 +4,14 @@ use Rattle.std.specs.List.{AllByRecursion}
 use Rattle.ffv1_bits.specs.Limits.{record_limit}
 use Rattle.ffv1_range.proofs.SetupFacts.{setup_small, setup_tiles}
 use Rattle.ffv1_slice.proofs.SliceFacts.{slice_in_grid}
-use Rattle.ffv1_pool.specs.Reels.{Reel, IsReel}
-use Rattle.ffv1_pool.specs.Contents.{Contents, IsHolding}
+use Rattle.ffv1_holding.specs.Reels.{Reel, IsReel}
+use Rattle.ffv1_holding.specs.Contents.{Contents, IsHolding}
 use Rattle.ffv1_hold.specs.declared.version.Version.{Version}
 use Rattle.ffv1_hold.specs.declared.version.Version.TheVariants.{First, Second}
 use Rattle.ffv1_hold.specs.HoldingText.{FileEntry, be4, magic, version_number, sized_record, head_text, body_text, entry_text, entries_text, file_entries, file_text, IsStated, IsTextOf}
 use Rattle.ffv1_hold.specs.FileEntries.{HasText, IsFileEntryOf}
 use Rattle.ffv1_hold.specs.FileFaults.{IsFileReel}
-use Rattle.ffv1_pool.proofs.Reels.{same_reel}
+use Rattle.ffv1_holding.proofs.Reels.{same_reel}
 use Rattle.ffv1_hold.proofs.NumberTexts.{same_front, same_back, no_tag, rest_same, number_same, after_number}
 use Rattle.ffv1_hold.proofs.DigestTexts.{has_text_after}
 use Rattle.ffv1_hold.proofs.BodyTexts.{same_body}

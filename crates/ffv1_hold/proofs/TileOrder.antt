@@ -10,15 +10,15 @@ use Rattle.std.proofs.lemmas.List.{get_or-map, length-map}
 use Rattle.std.proofs.lemmas.List.Folds.{list_any-append}
 use Rattle.std.proofs.Math.ListN.{get_or-append}
 use Rattle.std.proofs.Math.Seq.{get_or-append_right}
-use Rattle.ffv1_pool.specs.Sets as set
-use Rattle.ffv1_pool.specs.SliceOrder.{Entry, bytes_cmp, entry_cmp, entries_total, entries_antisymmetric}
-use Rattle.ffv1_pool.specs.Rising.{IsRising}
-use Rattle.ffv1_pool.specs.TileSets.{tile_slices}
-use Rattle.ffv1_pool.specs.Inner.TileSets.{tile_entries, entries_below}
-use Rattle.ffv1_pool.proofs.RisingSets.{items-from_list}
-use Rattle.ffv1_pool.proofs.ItemsRise.{items-rising, rising-append}
-use Rattle.ffv1_pool.proofs.Tiles.{any-same, any-other, contains-tile_slices}
-use Rattle.ffv1_pool.proofs.Lists.{flat_map-range_more}
+use Rattle.ffv1_holding.specs.Sets as set
+use Rattle.ffv1_holding.specs.SliceOrder.{Entry, bytes_cmp, entry_cmp, entries_total, entries_antisymmetric}
+use Rattle.ffv1_holding.specs.Rising.{IsRising}
+use Rattle.ffv1_holding.specs.TileSets.{tile_slices}
+use Rattle.ffv1_holding.specs.Inner.TileSets.{tile_entries, entries_below}
+use Rattle.ffv1_holding.proofs.RisingSets.{items-from_list}
+use Rattle.ffv1_holding.proofs.ItemsRise.{items-rising, rising-append}
+use Rattle.ffv1_holding.proofs.Tiles.{any-same, any-other, contains-tile_slices}
+use Rattle.ffv1_holding.proofs.Lists.{flat_map-range_more}
 
 -- one tile more
 entries_below-more : (slices : set.SetOf entry_cmp) (t : ℕ) → entries_below slices (t + 1) ≡ entries_below slices t ++ tile_entries slices t

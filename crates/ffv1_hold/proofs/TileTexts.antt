@@ -4,22 +4,22 @@ use mathlib.Core.Bool.{true≢false}
 use Rattle.std.specs.List.{list_any}
 use Rattle.std.specs.Ordering.{eq_by_cmp}
 use Rattle.ffv1_bits.specs.Limits.{record_limit, file_limit}
-use Rattle.ffv1_pool.proofs.EntrySteps.{or_cases}
+use Rattle.ffv1_holding.proofs.EntrySteps.{or_cases}
 use Rattle.std.proofs.lemmas.List.{get_or_default, get_or-map, length-map, map-append, take_more}
-use Rattle.ffv1_pool.specs.Sets as set
-use Rattle.ffv1_pool.specs.SliceOrder.{Entry, entry_cmp, bytes_total}
-use Rattle.ffv1_pool.specs.TileSets.{tile_slices}
-use Rattle.ffv1_pool.specs.Inner.TileSets.{tile_entries, entries_below}
-use Rattle.ffv1_pool.specs.Contents.{Contents, IsHolding, AreDigests, digests_of}
+use Rattle.ffv1_holding.specs.Sets as set
+use Rattle.ffv1_holding.specs.SliceOrder.{Entry, entry_cmp, bytes_total}
+use Rattle.ffv1_holding.specs.TileSets.{tile_slices}
+use Rattle.ffv1_holding.specs.Inner.TileSets.{tile_entries, entries_below}
+use Rattle.ffv1_holding.specs.Contents.{Contents, IsHolding, AreDigests, digests_of}
 use Rattle.ffv1_hold.specs.declared.version.Version.TheVariants.{Second}
 use Rattle.ffv1_hold.specs.HoldingText.{FileEntry, slice_text, origins_text, entry_text, head_text, entries_text, begun_text, file_entries, holding_text, IsStated, FitsInFile}
 use Rattle.ffv1_hold.specs.Inner.Merging.{digests_union}
 use Rattle.ffv1_hold.specs.Inner.Saving.{tile_file_entries, file_entries_below, entries_length}
-use Rattle.ffv1_pool.proofs.RisingSets.{size-items, contains_item}
-use Rattle.ffv1_pool.proofs.Tiles.{contains-tile_slices}
+use Rattle.ffv1_holding.proofs.RisingSets.{size-items, contains_item}
+use Rattle.ffv1_holding.proofs.Tiles.{contains-tile_slices}
 use Rattle.ffv1_hold.proofs.DigestUnions.{union-alone}
 use Rattle.ffv1_hold.proofs.Entries.{entry_text-of}
-use Rattle.ffv1_pool.proofs.Lists.{flat_map-range_more}
+use Rattle.ffv1_holding.proofs.Lists.{flat_map-range_more}
 use Rattle.ffv1_hold.proofs.HeldEntries.{stated, origins-digests_of}
 use Rattle.ffv1_hold.proofs.Slots.{entries_text-split, entries_text-cons, entries_text-none, length-entry_text}
 use Rattle.ffv1_hold.proofs.DigestSets.{entry_tie}

@@ -6,8 +6,8 @@ use Rattle.std.specs.FinMap.{IsAntisymmetric}
 use Rattle.std.specs.FinMap.Entries.{put, by_order}
 use Rattle.std.specs.declared.cmp.Ordering.{Ordering}
 use Rattle.std.specs.declared.cmp.Ordering.TheVariants.{Less, Equal, Greater}
-use Rattle.ffv1_pool.specs.Sets as set
-use Rattle.ffv1_pool.proofs.RisingSets.{union-insert, or_absorbed}
+use Rattle.ffv1_holding.specs.Sets as set
+use Rattle.ffv1_holding.proofs.RisingSets.{union-insert, or_absorbed}
 
 abbrev pub weight : {K : Type 0} → (K → ℕ) → List K → ℕ
 weight w [] = 0

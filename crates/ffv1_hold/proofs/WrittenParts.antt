@@ -1,8 +1,8 @@
 -- An entry, and a head, by the parts that are written.
 use Rattle.std.proofs.Common.{◌≡◌, ℕ, ◌∷◌, List, ◌++◌, length, ap, ◌∙◌, append_assoc, refl}
 use Rattle.std.specs.Int.{w32, to_be_bytes}
-use Rattle.ffv1_pool.specs.SliceOrder.{Entry}
-use Rattle.ffv1_pool.specs.Reels.{Reel}
+use Rattle.ffv1_holding.specs.SliceOrder.{Entry}
+use Rattle.ffv1_holding.specs.Reels.{Reel}
 use Rattle.ffv1_hold.specs.declared.version.Version.TheVariants.{Second}
 use Rattle.ffv1_hold.specs.HoldingText.{be2, be4, slice_text, origins_text, sized_record, head_text, magic}
 use Rattle.ffv1_hold.proofs.DigestTexts.{whole}

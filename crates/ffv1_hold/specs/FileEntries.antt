@@ -5,9 +5,9 @@ use Rattle.std.specs.declared.cmp.Ordering.{Ordering}
 use Rattle.std.specs.declared.cmp.Ordering.TheVariants.{Less}
 use Rattle.ffv1_bits.specs.Limits.{slice_limit}
 use Rattle.ffv1_range.specs.Setup.{SetupValue}
-use Rattle.ffv1_pool.specs.SliceOrder.{Entry, entry_cmp, bytes_cmp}
-use Rattle.ffv1_pool.specs.Rising.{IsRising}
-use Rattle.ffv1_pool.specs.Contents.{IsEntryOf, AreDigests}
+use Rattle.ffv1_holding.specs.SliceOrder.{Entry, entry_cmp, bytes_cmp}
+use Rattle.ffv1_holding.specs.Rising.{IsRising}
+use Rattle.ffv1_holding.specs.Contents.{IsEntryOf, AreDigests}
 use Rattle.ffv1_hold.specs.declared.version.Version.{Version}
 use Rattle.ffv1_hold.specs.declared.version.Version.TheVariants.{First, Second}
 use Rattle.ffv1_hold.specs.HoldingText.{FileEntry, origins_limit}

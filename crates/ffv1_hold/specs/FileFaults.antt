@@ -13,9 +13,9 @@ use Rattle.ffv1_hold.specs.declared.file_fault.HoldFileFault.{HoldFileFault}
 use Rattle.ffv1_hold.specs.declared.file_fault.HoldFileFault.TheVariants as faults
 use Rattle.ffv1_hold.specs.declared.version.Version.{Version}
 use Rattle.ffv1_hold.specs.declared.version.Version.TheVariants.{First, Second}
-use Rattle.ffv1_pool.specs.SliceOrder.{Entry}
-use Rattle.ffv1_pool.specs.Reels.{Reel, IsReel, WantsMemory}
-use Rattle.ffv1_pool.specs.Contents.{Contents, IsHolding, IsEntryOf}
+use Rattle.ffv1_holding.specs.SliceOrder.{Entry}
+use Rattle.ffv1_holding.specs.Reels.{Reel, IsReel, WantsMemory}
+use Rattle.ffv1_holding.specs.Contents.{Contents, IsHolding, IsEntryOf}
 use Rattle.ffv1_hold.specs.HoldingText.{TakesFile, FileEntry, origins_limit, magic, be2, be4, sized_record, head_text, slice_text, entries_text, IsTextOf}
 use Rattle.ffv1_hold.specs.Reading.{Refuses, StopsAt}
 use Rattle.ffv1_hold.specs.FileEntries.{last_of, Follows, FollowsDigest, IsDigest, AreOrigins, AreEntries}

@@ -1,8 +1,8 @@
 -- However the same copies are ordered, grouped or repeated, the holdings are equal, and so is all that is a function of a holding.
 use Rattle.std.specs.Prelude.{◌≡◌, ℕ, List}
 use Rattle.ffv1_range.specs.Setup.{IsSetupOf}
-use Rattle.ffv1_pool.specs.Reels.{Reel}
-use Rattle.ffv1_pool.specs.Contents.{Contents, holding_of, HasSameCopies}
+use Rattle.ffv1_holding.specs.Reels.{Reel}
+use Rattle.ffv1_holding.specs.Contents.{Contents, holding_of, HasSameCopies}
 
 -- the reel of a record and a size
 abbrev pub IsReelOf : List ℕ → ℕ → ℕ → Reel → Type 0

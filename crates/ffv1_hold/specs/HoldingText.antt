@@ -4,10 +4,10 @@ use Rattle.std.specs.List.{flat_map}
 use Rattle.std.specs.Io.KnownBytes.{Consumes}
 use Rattle.std.specs.Int.{w16, w32, to_be_bytes}
 use Rattle.ffv1_bits.specs.Limits.{record_limit, file_limit}
-use Rattle.ffv1_pool.specs.SliceOrder.{Entry}
-use Rattle.ffv1_pool.specs.Sets as set
-use Rattle.ffv1_pool.specs.Reels.{Reel}
-use Rattle.ffv1_pool.specs.Contents.{Contents, digests_of}
+use Rattle.ffv1_holding.specs.SliceOrder.{Entry}
+use Rattle.ffv1_holding.specs.Sets as set
+use Rattle.ffv1_holding.specs.Reels.{Reel}
+use Rattle.ffv1_holding.specs.Contents.{Contents, digests_of}
 use Rattle.ffv1_hold.specs.declared.origins.TheConstants.{ORIGINS_LIMIT}
 use Rattle.ffv1_hold.specs.declared.version.Version.{Version}
 use Rattle.ffv1_hold.specs.declared.version.Version.TheVariants.{First, Second}

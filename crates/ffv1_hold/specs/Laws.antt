@@ -1,13 +1,13 @@
 -- Laws of holding files, each the contract of a public function.
 use Rattle.std.specs.Prelude.{◌≡◌, ℕ, ◌++◌, ◌≤◌, List, length, Option}
 use Rattle.ffv1_bits.specs.Limits.{record_limit}
-use Rattle.ffv1_pool.specs.Contents.{Contents, IsHolding}
+use Rattle.ffv1_holding.specs.Contents.{Contents, IsHolding}
 use Rattle.ffv1_hold.specs.declared.file_fault.HoldFileFault.{HoldFileFault}
 use Rattle.ffv1_hold.specs.declared.version.Version.{Version}
 use Rattle.ffv1_hold.specs.HoldingText.{IsTextOf, FitsInFile, file_text}
 use Rattle.ffv1_hold.specs.Leads.{IsLeadOf}
 use Rattle.ffv1_hold.specs.FileFaults.{IsPartOfFile, IsHoldingText, FileShows, IsFaultOf}
-pub use Rattle.ffv1_pool.specs.Laws.{CopiesHoldTheOriginal, NearCopiesHoldTheOriginal, HeldIsFound, OriginIsACopy}
+pub use Rattle.ffv1_holding.specs.Laws.{CopiesHoldTheOriginal, NearCopiesHoldTheOriginal, HeldIsFound, OriginIsACopy}
 
 -- Two holdings with one text, of whatever version, are equal, and each holding has the text `holding_text` of version 2: so each
 -- meaning has exactly one of that version.

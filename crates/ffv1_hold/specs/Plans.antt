@@ -3,15 +3,15 @@ use Rattle.std.specs.Prelude.{◌≡◌, ◌⊎◌, ◌<◌, ℕ, List, [], ◌�
 use Rattle.ffv1_hold.specs.Headline.{IsReelOf}
 use Rattle.ffv1_range.specs.SetupFaults.{FirstSetupFault}
 use Rattle.ffv1_range.specs.declared.fault.SetupFault.TheVariants as setups
-use Rattle.ffv1_pool.specs.declared.fault.HoldFault.TheVariants as holds
+use Rattle.ffv1_holding.specs.declared.fault.HoldFault.TheVariants as holds
 use Rattle.ffv1_hold.specs.declared.file_fault.HoldFileFault.{HoldFileFault}
 use Rattle.ffv1_hold.specs.declared.file_fault.HoldFileFault.TheVariants as files
 use Rattle.ffv1_hold.specs.declared.plan.Plan.{Plan, New, Take', TakeAll', Join', Reread'}
 use Rattle.ffv1_hold.specs.declared.plan.PlanFault.{PlanFault}
 use Rattle.ffv1_hold.specs.declared.plan.PlanFault.TheVariants.{Setup, Hold, File}
-use Rattle.ffv1_pool.specs.Reels.{Reel}
-use Rattle.ffv1_pool.specs.Contents.{Contents, holding_of}
-use Rattle.ffv1_pool.specs.TakeFaults.{IsTakeFault, AreShort}
+use Rattle.ffv1_holding.specs.Reels.{Reel}
+use Rattle.ffv1_holding.specs.Contents.{Contents, holding_of}
+use Rattle.ffv1_holding.specs.TakeFaults.{IsTakeFault, AreShort}
 use Rattle.ffv1_hold.specs.Saving.{IsTooLong}
 
 abbrev pub copies_of : Plan → List (List ℕ)

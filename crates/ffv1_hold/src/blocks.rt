@@ -1,7 +1,7 @@
 //! Bytes that are read over others, block after block, and compared with them (own).
 ghost use Rattle.std.specs.Prelude.{◌≡◌, ◌+◌, ◌<◌, ◌≤◌, ◌++◌, length, take, drop, OnOk, IfOk};
 ghost use Rattle.ffv1_bits.specs.Limits.{file_limit};
-ghost use Rattle.ffv1_pool.specs.SliceOrder.{bytes_cmp};
+ghost use Rattle.ffv1_holding.specs.SliceOrder.{bytes_cmp};
 ghost use Rattle.ffv1_hold.specs.Inner.Reading.{ReadsText, IsShorter, Never};
 
 use crate::fields::read_field;

@@ -30,7 +30,7 @@ pub(crate) struct TileSlice {
 }
 
 impl Model for TileSlice {
-    ghost use Rattle.ffv1_pool.specs.SliceOrder.{Entry, coded_entry};
+    ghost use Rattle.ffv1_holding.specs.SliceOrder.{Entry, coded_entry};
 
     ghost Value = { Entry };
 
@@ -40,7 +40,7 @@ impl Model for TileSlice {
 }
 
 impl TileSlice {
-    ghost use Rattle.ffv1_pool.specs.SliceOrder.{entry_cmp};
+    ghost use Rattle.ffv1_holding.specs.SliceOrder.{entry_cmp};
 
     /// The order in a holding file: by tile, and then as byte slices compare.
     pub(crate) fn compare(&self, other: &TileSlice) -> Ordering
@@ -99,7 +99,7 @@ pub(crate) struct HeldSlice {
 
 impl Model for HeldSlice {
     ghost use Rattle.std.specs.Coded.{coded×, coded_list};
-    ghost use Rattle.ffv1_pool.specs.SliceOrder.{coded_entry, coded_bytes};
+    ghost use Rattle.ffv1_holding.specs.SliceOrder.{coded_entry, coded_bytes};
     ghost use Rattle.ffv1_hold.specs.HoldingText.{FileEntry};
 
     ghost Value = { FileEntry };

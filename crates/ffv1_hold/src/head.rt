@@ -13,7 +13,7 @@ use crate::number::{read_bytes, read_u32};
 use crate::version::Version;
 use ffv1_bits::RECORD_LIMIT;
 use ffv1_devices::Source;
-use ffv1_pool::Reel;
+use ffv1_holding::Reel;
 use ffv1_range::SetupFault;
 use std::alloc::Global;
 

@@ -14,7 +14,7 @@ use crate::file_fault::HoldFileFault;
 use crate::head::{read_magic, read_reel};
 use crate::version::Version;
 use ffv1_devices::{Source, next_byte};
-use ffv1_pool::Reel;
+use ffv1_holding::Reel;
 use ffv1_range::Setup;
 use std::alloc::Global;
 

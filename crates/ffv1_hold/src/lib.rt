@@ -23,7 +23,7 @@ pub use ffv1_devices::{
     FromRead, FromWrite, Sink, Source, ThroughWrite, WholeFault, WriteFailed, read_whole,
     write_field,
 };
-pub use ffv1_pool::{
+pub use ffv1_holding::{
     HoldFault, Holding, Join, JoinAllFault, RestoreFault, SliceSet, TakeAllFault, Taken, TileState,
     copies_hold_the_original, held_is_found, join_all, near_copies_hold_the_original,
     origin_is_a_copy,

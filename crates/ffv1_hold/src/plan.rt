@@ -1,12 +1,12 @@
 //! Plans (own): which copies are taken, in which order and grouping, which holdings are joined, and which go through a file.
 ghost use Rattle.std.specs.Prelude.{◌≡◌, ℕ, List, [], ◌∷◌, map, IfOk, IfErr, OnOk};
 ghost use Rattle.ffv1_range.specs.Setup.{IsSetupOf};
-ghost use Rattle.ffv1_pool.specs.TakeFaults.{AreShort};
-ghost use Rattle.ffv1_pool.specs.Contents.{holding_of, with_found, with_copies, joined, IsHolding, IsSameReel};
-ghost use Rattle.ffv1_pool.specs.declared.fault.HoldFault.TheVariants.{Memory};
+ghost use Rattle.ffv1_holding.specs.TakeFaults.{AreShort};
+ghost use Rattle.ffv1_holding.specs.Contents.{holding_of, with_found, with_copies, joined, IsHolding, IsSameReel};
+ghost use Rattle.ffv1_holding.specs.declared.fault.HoldFault.TheVariants.{Memory};
 ghost use Rattle.ffv1_hold.specs.declared.plan.PlanFault.TheVariants.{Hold, File};
 ghost use Rattle.ffv1_hold.specs.Saving.{IsTooLong};
-ghost use Rattle.ffv1_pool.specs.Originals.{AreNear, HoldsExactly};
+ghost use Rattle.ffv1_holding.specs.Originals.{AreNear, HoldsExactly};
 ghost use Rattle.ffv1_hold.specs.Plans.{copies_of, IsPlanFault, IsFaultOfCopy, IsFaultOfCopies, IsRereadFault, RereadsFit};
 ghost use Rattle.ffv1_hold.specs.Headline.{SameCopiesAreEqual};
 
@@ -14,7 +14,7 @@ use crate::file_fault::HoldFileFault;
 use crate::reading::read_hold;
 use crate::saving::write_hold;
 use ffv1_devices::{FromRead, FromWrite};
-use ffv1_pool::{HoldFault, Holding, Join, TakeAllFault};
+use ffv1_holding::{HoldFault, Holding, Join, TakeAllFault};
 use ffv1_range::SetupFault;
 use std::alloc::Global;
 

@@ -3,7 +3,7 @@ ghost use Rattle.std.specs.Prelude.{◌≡◌, ◌≤◌, [], ◌∷◌, ◌++�
 ghost use Rattle.std.specs.Io.KnownBytes.{IsAtEnd};
 ghost use Rattle.ffv1_bits.specs.Limits.{file_limit};
 ghost use Rattle.ffv1_hold.specs.Inner.Reading.{ReadsText};
-ghost use Rattle.ffv1_pool.specs.Contents.{Contents, IsEntryOf, IsHolding, AreDigests, no_slices, with_entry};
+ghost use Rattle.ffv1_holding.specs.Contents.{Contents, IsEntryOf, IsHolding, AreDigests, no_slices, with_entry};
 ghost use Rattle.ffv1_hold.specs.declared.version.Version.{Version};
 ghost use Rattle.ffv1_hold.specs.HoldingText.{entries_text, file_entries, file_text, IsStated, FitsInFile};
 ghost use Rattle.ffv1_hold.specs.FileFaults.{ReadsFile, IsPartOfEntries, EntriesShow, Answers};
@@ -13,7 +13,7 @@ use crate::entry::HeldSlice;
 use crate::file_fault::HoldFileFault;
 use crate::hold_reader::HoldReader;
 use ffv1_devices::Source;
-use ffv1_pool::Holding;
+use ffv1_holding::Holding;
 use std::alloc::Global;
 
 /// Reads a holding file of either version, to the end of the input. One of version 1 gives no origins.

@@ -1,12 +1,12 @@
 //! Writing a holding file (own).
 ghost use Rattle.std.specs.Prelude.{◌≡◌, ◌<◌, ◌≤◌, ◌↔◌, ◌++◌, ◌^◌, ◌∷◌, ◌+◌, ◌*◌, [], length, slice_index_or, IfSome, IfNone, IsErrOf, IsTrue};
 ghost use Rattle.ffv1_bits.specs.Limits.{slice_limit, record_limit, file_limit};
-ghost use Rattle.ffv1_pool.specs.Sets as set;
+ghost use Rattle.ffv1_holding.specs.Sets as set;
 ghost use Rattle.ffv1_devices.specs.Results.{WritesAll};
-ghost use Rattle.ffv1_pool.specs.TileSets.{tile_slices};
-ghost use Rattle.ffv1_pool.specs.Reels.{reel_tiles};
+ghost use Rattle.ffv1_holding.specs.TileSets.{tile_slices};
+ghost use Rattle.ffv1_holding.specs.Reels.{reel_tiles};
 ghost use Rattle.ffv1_hold.specs.HoldingText.{origins_limit, be2, be4, magic, head_text, slice_text, FileEntry, origins_text, entry_text, entries_text, file_entries, holding_text, IsStated, FitsInFile};
-ghost use Rattle.ffv1_pool.specs.Contents.{IsHolding, AreDigests};
+ghost use Rattle.ffv1_holding.specs.Contents.{IsHolding, AreDigests};
 ghost use Rattle.ffv1_hold.specs.Inner.Saving.{AreWithinLimit, AreWritable, tile_file_entries, entries_length};
 ghost use Rattle.ffv1_hold.specs.Saving.{SavesFile};
 ghost use Rattle.ffv1_hold.specs.Inner.Merging.{digests_union};
@@ -17,7 +17,7 @@ use crate::union::{union_count, write_union};
 use crate::version::Version;
 use ffv1_bits::{FILE_LIMIT, RECORD_LIMIT};
 use ffv1_devices::{Sink, WriteFailed, write_field, write_pair};
-use ffv1_pool::{Holding, Reel};
+use ffv1_holding::{Holding, Reel};
 
 /// Writes the holding file of a holding, of version 2.
 ///

@@ -2,7 +2,7 @@
 ghost use Rattle.std.specs.Prelude.{◌≡◌, ◌+◌, ◌^◌, ◌<◌, ◌≤◌, [], ◌∷◌, length, IfSome, IfNone};
 ghost use Rattle.std.specs.List.{flat_map};
 ghost use Rattle.ffv1_devices.specs.Results.{WritesAll};
-ghost use Rattle.ffv1_pool.specs.Contents.{AreDigests};
+ghost use Rattle.ffv1_holding.specs.Contents.{AreDigests};
 ghost use Rattle.ffv1_hold.specs.Inner.Merging.{digests_union};
 
 use ffv1_devices::{Sink, WriteFailed, write_field};

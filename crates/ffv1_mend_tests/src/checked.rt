@@ -1,8 +1,8 @@
 //! Configuration Records and frames of FLAC, and such frames as parts of elements.
 use ebml_crc::crc32;
 use ffv1_bits::remainder;
-use ffv1_frames::{LATER_SILENCE, ONE_TILE, SILENCE};
 use ffv1_mend::{Kind, Mended, MendedPart, Part, Sort, State, mend};
+use ffv1_test_frames::{LATER_SILENCE, ONE_TILE, SILENCE};
 use ffv1_weave::Check;
 use std::alloc::AllocError;
 

@@ -1,6 +1,6 @@
 //! An element of 500 bytes: its CRC-32, 8 bytes, a recorded frame as its part, and 150 bytes more.
-use ffv1_frames::RECORDED;
 use ffv1_mend::{Part, Sort};
+use ffv1_test_frames::RECORDED;
 
 /// Where the frame lies in the element.
 pub(crate) const FRAME: Part = Part {

@@ -8,7 +8,7 @@ use Rattle.ffv1_range.specs.Tiles.{GridValue, grid_of, tile_count, plane_count, 
 use Rattle.ffv1_slice.specs.Slices.{content_of}
 use Rattle.ffv1_plane.proofs.OneStuck.{one_answer}
 use Rattle.ffv1_plane.proofs.Pictures.{one_reading_is}
-use Rattle.ffv1_pool.specs.Standing.{Standing, missing, settled, disputed, tile_state}
+use Rattle.ffv1_holding.specs.Standing.{Standing, missing, settled, disputed, tile_state}
 use Rattle.ffv1_picture.specs.WholePicture.{Planes, covers, sample_in, sample_of_tile, greatest_sample, whole_sample, whole_plane}
 use Rattle.ffv1_picture.specs.Frames.{IsFrameOf}
 use Rattle.ffv1_picture.specs.PartialPictures.{IsShown}

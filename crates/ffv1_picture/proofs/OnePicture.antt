@@ -6,8 +6,8 @@ use Rattle.ffv1_range.specs.Tiles.{grid_of, tile_count}
 use Rattle.ffv1_slice.specs.Slices.{content_of}
 use Rattle.ffv1_plane.specs.Picture.{PictureValue}
 use Rattle.ffv1_plane.proofs.Pictures.{one_reading_is}
-use Rattle.ffv1_pool.specs.Contents.{Contents}
-use Rattle.ffv1_pool.specs.Standing.{Standing, missing, settled, disputed, tile_state}
+use Rattle.ffv1_holding.specs.Contents.{Contents}
+use Rattle.ffv1_holding.specs.Standing.{Standing, missing, settled, disputed, tile_state}
 use Rattle.ffv1_picture.specs.WholePicture.{Planes}
 use Rattle.ffv1_picture.specs.TilePictures.{IsPictureOfSlice}
 use Rattle.ffv1_picture.specs.Frames.{IsFrameOf}

@@ -4,9 +4,9 @@ use Rattle.std.specs.List.{flat_map, range_with_len, sum_by}
 use Rattle.std.proofs.lemmas.List.{take_more, append-nil}
 use Rattle.std.proofs.lemmas.Grind.{flat_map-append}
 use Rattle.std.proofs.lemmas.List.Sums.{sum_by-append}
-use Rattle.ffv1_pool.specs.Contents.{Contents}
-use Rattle.ffv1_pool.specs.Standing.{Standing, status_of, tile_state, IsLeastStatus}
-use Rattle.ffv1_pool.proofs.Lists.{range_more}
+use Rattle.ffv1_holding.specs.Contents.{Contents}
+use Rattle.ffv1_holding.specs.Standing.{Standing, status_of, tile_state, IsLeastStatus}
+use Rattle.ffv1_holding.proofs.Lists.{range_more}
 use Rattle.ffv1_picture.specs.ReportText.{least_status}
 
 -- ---- the least error_status

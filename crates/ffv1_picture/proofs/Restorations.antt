@@ -1,18 +1,18 @@
 -- What equal holdings have in common, and what copies of an original restore and show.
 use Rattle.std.proofs.Common.{◌≡◌, ℕ, List, [], get_or, None, Result, Ok, Err, IsOkAnd, Vec, Global, refl, sym, ap, subst, ◌∙◌, arith}
 use Rattle.ffv1_slice.specs.Slices.{IsOriginal}
-use Rattle.ffv1_pool.specs.Contents.{Contents, holding_of, HasSameCopies}
-use Rattle.ffv1_pool.proofs.ContentsLaws.{holding_of-same}
-use Rattle.ffv1_pool.specs.Standing.{Standing, settled, IsSettled, IsLeastUnsettled}
-use Rattle.ffv1_pool.specs.Originals.{AreNear, HoldsExactly}
+use Rattle.ffv1_holding.specs.Contents.{Contents, holding_of, HasSameCopies}
+use Rattle.ffv1_holding.proofs.ContentsLaws.{holding_of-same}
+use Rattle.ffv1_holding.specs.Standing.{Standing, settled, IsSettled, IsLeastUnsettled}
+use Rattle.ffv1_holding.specs.Originals.{AreNear, HoldsExactly}
 use Rattle.ffv1_hold.specs.Plans.{copies_of}
 use Rattle.ffv1_hold.specs.declared.plan.Plan.{Plan}
-use Rattle.ffv1_pool.specs.declared.restore.RestoreFault.{RestoreFault}
-use Rattle.ffv1_pool.specs.declared.restore.RestoreFault.TheVariants as refusals
+use Rattle.ffv1_holding.specs.declared.restore.RestoreFault.{RestoreFault}
+use Rattle.ffv1_holding.specs.declared.restore.RestoreFault.TheVariants as refusals
 use Rattle.ffv1_hold.proofs.PlanSteps.{one_reel}
 use Rattle.ffv1_range.specs.Setup.{SetupValue}
-use Rattle.ffv1_pool.proofs.ExactlyHeld.{exactly_held, near_are_copies}
-use Rattle.ffv1_pool.proofs.Restored.{settled_alone, restored_original}
+use Rattle.ffv1_holding.proofs.ExactlyHeld.{exactly_held, near_are_copies}
+use Rattle.ffv1_holding.proofs.Restored.{settled_alone, restored_original}
 use Rattle.ffv1_picture.specs.PartialPictures.{IsShown, IsPartialPicture}
 use Rattle.ffv1_picture.specs.Headline.{IsHoldingOfPlan, AreEqualInAll, IsRestored, IsPlanFor, ShowsSlices}
 use Rattle.ffv1_picture.specs.declared.partial.Partial.{Partial}

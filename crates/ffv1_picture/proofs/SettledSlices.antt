@@ -4,12 +4,12 @@ use Rattle.std.proofs.lemmas.Bool.{or_right}
 use Rattle.std.specs.List.{filter, list_any}
 use Rattle.std.specs.Ordering.{eq_by_cmp, is_eq}
 use Rattle.std.specs.Cmp.{tied_itself}
-use Rattle.ffv1_pool.specs.SliceOrder.{bytes_cmp, bytes_total}
-use Rattle.ffv1_pool.specs.Sets as set
-use Rattle.ffv1_pool.specs.TileSets.{tile_slices}
-use Rattle.ffv1_pool.specs.Contents.{Contents, IsHolding, IsEntryOf}
-use Rattle.ffv1_pool.specs.Standing.{settled, tile_state, standing_of_best, best_slices}
-use Rattle.ffv1_pool.proofs.Tiles.{contains-tile_slices}
+use Rattle.ffv1_holding.specs.SliceOrder.{bytes_cmp, bytes_total}
+use Rattle.ffv1_holding.specs.Sets as set
+use Rattle.ffv1_holding.specs.TileSets.{tile_slices}
+use Rattle.ffv1_holding.specs.Contents.{Contents, IsHolding, IsEntryOf}
+use Rattle.ffv1_holding.specs.Standing.{settled, tile_state, standing_of_best, best_slices}
+use Rattle.ffv1_holding.proofs.Tiles.{contains-tile_slices}
 
 only_best : (best : List (List ℕ)) (slice : List ℕ) → standing_of_best best ≡ settled slice → best ≡ slice ∷ []
 only_best [] slice is = absurd (cc)

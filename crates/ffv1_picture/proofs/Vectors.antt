@@ -3,7 +3,7 @@ use Rattle.std.proofs.Common.{◌≡◌, ℕ, true, List, [], ◌∷◌, Some, N
 use Rattle.std.specs.Prelude.{codes}
 use Rattle.std.specs.Fmt.{digits}
 use Rattle.ffv1_range.specs.Tiles.{GridValue}
-use Rattle.ffv1_pool.specs.Standing.{standing_of}
+use Rattle.ffv1_holding.specs.Standing.{standing_of}
 use Rattle.ffv1_picture.specs.WholePicture.{Planes, greatest_sample, whole_plane, whole_picture}
 use Rattle.ffv1_picture.specs.ReportText.{tile_words, count_words, hex_byte}
 

@@ -3,16 +3,16 @@ use Rattle.std.specs.Prelude.{◌≡◌, ◌≢◌, ℕ, ◌<◌, List, length, 
 use Rattle.std.specs.declared.alloc.Global.{Global}
 use Rattle.ffv1_range.specs.Setup.{SetupValue}
 use Rattle.ffv1_slice.specs.Slices.{IsOriginal}
-use Rattle.ffv1_pool.specs.Contents.{Contents, holding_of, digests_of}
-use Rattle.ffv1_pool.specs.Standing.{tile_state, restored_payload, AreSettled, IsLeastStatus}
-use Rattle.ffv1_pool.specs.Refusals.{IsRefusal}
-use Rattle.ffv1_pool.specs.Originals.{AreCopiesOfSlices}
+use Rattle.ffv1_holding.specs.Contents.{Contents, holding_of, digests_of}
+use Rattle.ffv1_holding.specs.Standing.{tile_state, restored_payload, AreSettled, IsLeastStatus}
+use Rattle.ffv1_holding.specs.Refusals.{IsRefusal}
+use Rattle.ffv1_holding.specs.Originals.{AreCopiesOfSlices}
 use Rattle.ffv1_hold.specs.HoldingText.{holding_text}
 use Rattle.ffv1_hold.specs.Headline.{IsReelOf}
 use Rattle.ffv1_hold.specs.Plans.{copies_of, IsCarriedOut, IsPlanFault}
 use Rattle.ffv1_hold.specs.declared.plan.Plan.{Plan}
-use Rattle.ffv1_pool.specs.declared.restore.RestoreFault.{RestoreFault}
-use Rattle.ffv1_pool.specs.declared.restore.RestoreFault.TheVariants as refusals
+use Rattle.ffv1_holding.specs.declared.restore.RestoreFault.{RestoreFault}
+use Rattle.ffv1_holding.specs.declared.restore.RestoreFault.TheVariants as refusals
 use Rattle.ffv1_picture.specs.WholePicture.{Planes}
 use Rattle.ffv1_picture.specs.TilePictures.{IsPictureOfSlice}
 use Rattle.ffv1_picture.specs.Frames.{IsFrameOf}

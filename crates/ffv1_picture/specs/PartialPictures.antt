@@ -3,9 +3,9 @@ use Rattle.std.specs.Prelude.{◌≡◌, ℕ, ◌<◌, List, length, Option, Som
 use Rattle.ffv1_range.specs.Setup.{SetupValue}
 use Rattle.ffv1_slice.specs.Slices.{content_of}
 use Rattle.ffv1_picture.specs.TilePictures.{SpellsPlanes, IsPictureOfSlice, IsUnreadable}
-use Rattle.ffv1_pool.specs.Reels.{reel_tiles}
-use Rattle.ffv1_pool.specs.Contents.{Contents}
-use Rattle.ffv1_pool.specs.Standing.{Standing, missing, settled, disputed, tile_state}
+use Rattle.ffv1_holding.specs.Reels.{reel_tiles}
+use Rattle.ffv1_holding.specs.Contents.{Contents}
+use Rattle.ffv1_holding.specs.Standing.{Standing, missing, settled, disputed, tile_state}
 use Rattle.ffv1_picture.specs.WholePicture.{Planes}
 use Rattle.ffv1_picture.specs.Frames.{IsFrameOf}
 use Rattle.ffv1_picture.specs.declared.frame.Frame.{Frame}

@@ -4,11 +4,11 @@ use Rattle.std.specs.Prelude.{ℕ, ◌/◌, ◌%◌, ◌==◌, ◌++◌, Bool, t
 use Rattle.std.specs.List.{flat_map, range_with_len}
 use Rattle.std.specs.Fmt.{decimal, digit_glyph}
 use Rattle.sha2.specs.Sha256.{sha256}
-use Rattle.ffv1_pool.specs.Sets as set
-use Rattle.ffv1_pool.specs.Reels.{reel_tiles}
-use Rattle.ffv1_pool.specs.TileSets.{tile_slices}
-use Rattle.ffv1_pool.specs.Contents.{Contents, digests_of}
-use Rattle.ffv1_pool.specs.Standing.{Standing, missing, settled, disputed, status_of, tile_state, restored_payload}
+use Rattle.ffv1_holding.specs.Sets as set
+use Rattle.ffv1_holding.specs.Reels.{reel_tiles}
+use Rattle.ffv1_holding.specs.TileSets.{tile_slices}
+use Rattle.ffv1_holding.specs.Contents.{Contents, digests_of}
+use Rattle.ffv1_holding.specs.Standing.{Standing, missing, settled, disputed, status_of, tile_state, restored_payload}
 
 -- a byte as two lower-case digits
 abbrev pub hex_byte : ℕ → List ℕ

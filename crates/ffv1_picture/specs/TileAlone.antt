@@ -2,8 +2,8 @@
 use Rattle.std.specs.Prelude.{◌≡◌, ◌≢◌, ◌+◌, ◌*◌, ◌<◌, ℕ, true, false, [], slice_index, slice_index_or}
 use Rattle.ffv1_range.specs.Setup.{IsInProfile}
 use Rattle.ffv1_range.specs.Tiles.{GridValue, grid_of, tile_count, plane_count, plane_rect, frame_rect}
-use Rattle.ffv1_pool.specs.Contents.{Contents}
-use Rattle.ffv1_pool.specs.Standing.{tile_state}
+use Rattle.ffv1_holding.specs.Contents.{Contents}
+use Rattle.ffv1_holding.specs.Standing.{tile_state}
 use Rattle.ffv1_picture.specs.WholePicture.{covers}
 use Rattle.ffv1_picture.specs.Frames.{planes_of}
 use Rattle.ffv1_picture.specs.PartialPictures.{IsPartialPicture}

@@ -1,7 +1,7 @@
 //! What can be shown of a holding (own).
 ghost use Rattle.std.specs.Prelude.{◌≡◌, IfOk, ◌<◌, List, Option};
 ghost use Rattle.ffv1_range.specs.Tiles.{grid_of};
-ghost use Rattle.ffv1_pool.specs.Reels.{reel_tiles};
+ghost use Rattle.ffv1_holding.specs.Reels.{reel_tiles};
 ghost use Rattle.ffv1_picture.specs.Inner.Drawing.{HasSizes};
 ghost use Rattle.ffv1_picture.specs.Frames.{planes_of, IsFrameOf};
 ghost use Rattle.ffv1_picture.specs.WholePicture.{Planes};

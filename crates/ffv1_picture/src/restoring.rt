@@ -1,9 +1,9 @@
 //! The whole way from copies to a restored frame (own).
 ghost use Rattle.std.specs.Prelude.{◌≡◌, ℕ, List, Option, IfOk, OnOk, IfErr, IsOkAnd, string_bytes};
-ghost use Rattle.ffv1_pool.specs.Contents.{Contents, HasSameCopies};
-ghost use Rattle.ffv1_pool.specs.Originals.{AreNear};
+ghost use Rattle.ffv1_holding.specs.Contents.{Contents, HasSameCopies};
+ghost use Rattle.ffv1_holding.specs.Originals.{AreNear};
 ghost use Rattle.ffv1_hold.specs.Plans.{copies_of, RereadsFit};
-ghost use Rattle.ffv1_pool.specs.TakeFaults.{AreShort};
+ghost use Rattle.ffv1_holding.specs.TakeFaults.{AreShort};
 ghost use Rattle.ffv1_hold.specs.declared.plan.Plan.{Plan};
 ghost use Rattle.ffv1_picture.specs.ReportText.{report_text};
 ghost use Rattle.ffv1_picture.specs.PartialPictures.{ArePicturesOf, IsPartialPicture};

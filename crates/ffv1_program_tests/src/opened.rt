@@ -4,8 +4,8 @@ ghost use Rattle.ffv1_words.specs.WordPaths.{IsPathOf};
 
 use crate::fakes::{FakeOutput, Fakes, Order};
 use ffv1_commands::{CliFault, run_take};
-use ffv1_frames::{FRAME, TWO_TILES};
 use ffv1_program::{out_word, run};
+use ffv1_test_frames::{FRAME, TWO_TILES};
 use ffv1_words::{Words, read_words};
 use std::alloc::Global;
 use std::test::Fail;

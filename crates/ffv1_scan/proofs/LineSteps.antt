@@ -1,10 +1,10 @@
 -- The ranges that lines are.
 use Rattle.std.proofs.Common.{◌≡◌, ◌≢◌, ℕ, ◌+◌, ◌≤◌, List, [], ◌∷◌, ◌++◌, length, arith, refl, sym, subst, ◌∙◌}
 use Rattle.std.specs.List.{AllByRecursion}
-use Rattle.ffv1_lists.specs.Numbers.{IsNumber}
-use Rattle.ffv1_lists.proofs.PartSteps.{one_parting, no_parting}
-use Rattle.ffv1_lists.proofs.NumberSteps.{one_value}
-use Rattle.ffv1_lists.proofs.WordSteps.{HasNoSpace-digits}
+use Rattle.ffv1_texts.specs.Numbers.{IsNumber}
+use Rattle.ffv1_texts.proofs.PartSteps.{one_parting, no_parting}
+use Rattle.ffv1_texts.proofs.NumberSteps.{one_value}
+use Rattle.ffv1_texts.proofs.WordSteps.{HasNoSpace-digits}
 use Rattle.ffv1_scan.specs.declared.ranges.ByteRange.{ByteRange}
 use Rattle.ffv1_scan.specs.Ranges.{IsRangeLine, AreRangeLines, Rises, ranges_end}
 

@@ -2,8 +2,8 @@
 -- file's start, and how many bytes it has.
 use Rattle.std.specs.Prelude.{ℕ, ◌≡◌, ◌+◌, ◌≤◌, List, [], ◌∷◌, ◌++◌, length}
 use Rattle.ffv1_bits.specs.Limits.{payload_limit}
-use Rattle.ffv1_lists.specs.Lines.{AreLines}
-use Rattle.ffv1_lists.specs.Numbers.{IsNumber}
+use Rattle.ffv1_texts.specs.Lines.{AreLines}
+use Rattle.ffv1_texts.specs.Numbers.{IsNumber}
 use Rattle.ffv1_scan.specs.declared.ranges.ByteRange.{ByteRange}
 use Rattle.ffv1_scan.specs.declared.ranges.RangesFault.{RangesFault}
 use Rattle.ffv1_scan.specs.declared.ranges.RangesFault.TheVariants as faults

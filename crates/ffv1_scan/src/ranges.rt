@@ -3,7 +3,7 @@ ghost use Rattle.std.specs.Prelude.{◌≡◌, ◌+◌, ◌≤◌, ◌↔◌, Is
 ghost use Rattle.ffv1_scan.specs.Ranges.{IsRangeLine, AreRanges, IsRangesFault};
 
 use ffv1_bits::PAYLOAD_LIMIT;
-use ffv1_lists::{first_line, read_number, split_at_byte};
+use ffv1_texts::{first_line, read_number, split_at_byte};
 use std::alloc::{AllocFailed, Global};
 
 /// A range of a file.

@@ -5,8 +5,8 @@ use Rattle.std.specs.Prelude.{IfOk, MatchBool}
 use Rattle.std.proofs.Common.{◌<◌, ◌⊎◌, inl, inr}
 use Rattle.std.proofs.lemmas.List.{length-map, length-append, length-replicate}
 use Rattle.std.proofs.lemmas.List.Sums.{fold-append}
-use Rattle.ffv1_lists.specs.Words.{AreWords}
-use Rattle.ffv1_lists.proofs.WordSteps.{words_are_one}
+use Rattle.ffv1_texts.specs.Words.{AreWords}
+use Rattle.ffv1_texts.proofs.WordSteps.{words_are_one}
 use Rattle.ffv1_mend.specs.declared.part.Part.{Part}
 use Rattle.ffv1_stretches.specs.Stretches.{StretchValue, FollowsStretch, ends_after, ends_of}
 use Rattle.ffv1_stretches.specs.Listed.{AreStretchWords, ArePartWords, IsNextPart, with_part, AreListed}

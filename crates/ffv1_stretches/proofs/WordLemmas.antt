@@ -4,7 +4,7 @@ use Rattle.std.specs.List.{AllZip}
 use Rattle.std.proofs.lemmas.List.{take_all, length-drop}
 use Rattle.std.specs.Prelude.{codes, ◌↔◌, Bool, IsTrue}
 use Rattle.std.proofs.lemmas.Str.Parse.{digit_from_value}
-use Rattle.ffv1_lists.specs.Numbers.{IsNumber}
+use Rattle.ffv1_texts.specs.Numbers.{IsNumber}
 use Rattle.ffv1_mend.specs.declared.kind.Kind.{Kind}
 use Rattle.ffv1_mend.specs.declared.kind.Kind.TheVariants.{Frame, Crc32, Record, Flac, Plain}
 use Rattle.ffv1_mend.specs.declared.part.Part.{Part}

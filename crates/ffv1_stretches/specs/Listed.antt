@@ -3,9 +3,9 @@ use Rattle.std.specs.Prelude.{ℕ, ◌+◌, ◌-◌, ◌≡◌, ◌<◌, ◌≤�
 use Rattle.std.specs.List.{AllZip, slice_get}
 use Rattle.std.specs.Option.{option_map_or}
 use Rattle.ffv1_bits.specs.Limits.{payload_limit}
-use Rattle.ffv1_lists.specs.Lines.{AreLines}
-use Rattle.ffv1_lists.specs.Words.{AreWords}
-use Rattle.ffv1_lists.specs.Numbers.{IsNumber}
+use Rattle.ffv1_texts.specs.Lines.{AreLines}
+use Rattle.ffv1_texts.specs.Words.{AreWords}
+use Rattle.ffv1_texts.specs.Numbers.{IsNumber}
 use Rattle.ffv1_mend.specs.declared.kind.Kind.{Kind}
 use Rattle.ffv1_mend.specs.declared.kind.Kind.TheVariants.{Frame, Crc32, Record, Flac, Plain}
 use Rattle.ffv1_mend.specs.declared.part.Part.{Part}

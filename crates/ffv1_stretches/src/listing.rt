@@ -8,7 +8,7 @@ ghost use Rattle.ffv1_stretches.specs.Inner.Ends.{end_of};
 use crate::ends::{End, first_ends, follow, next_ends};
 use crate::stretch::Stretch;
 use crate::words::{begins_part, next_part, read_stretch};
-use ffv1_lists::{first_line, words_of};
+use ffv1_texts::{first_line, words_of};
 use std::alloc::{AllocError, Global};
 
 /// Why a text lists no stretches.

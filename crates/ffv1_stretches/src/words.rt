@@ -4,15 +4,15 @@ ghost use Rattle.std.specs.List.{AllZip};
 ghost use Rattle.ffv1_mend.specs.declared.kind.Kind.{Kind};
 ghost use Rattle.ffv1_mend.specs.declared.part.Part.{Part};
 ghost use Rattle.ffv1_mend.specs.declared.part.Sort.{Sort};
-ghost use Rattle.ffv1_lists.specs.Numbers.{IsNumber};
+ghost use Rattle.ffv1_texts.specs.Numbers.{IsNumber};
 ghost use Rattle.ffv1_stretches.specs.Stretches.{StretchValue, HasPlace};
 ghost use Rattle.ffv1_stretches.specs.Listed.{kind_word, sort_words, IsPlaceWord, AreStretchWords, end_of_parts};
 ghost use Rattle.ffv1_stretches.specs.Inner.ListSteps.{IsStretchSize, BeginsPart, IsPartOf};
 
 use crate::stretch::Stretch;
 use ffv1_bits::PAYLOAD_LIMIT;
-use ffv1_lists::read_number;
 use ffv1_mend::{Kind, Part, Sort};
+use ffv1_texts::read_number;
 use std::alloc::{AllocError, Global};
 
 /// How many bytes an element's own CRC-32 takes, which no part has.

@@ -1,6 +1,6 @@
 //! Devices that move one byte at a time, and may fail.
 use ffv1_devices::FromWrite;
-use ffv1_frames::Narrow;
+use ffv1_test_frames::Narrow;
 use std::alloc::Global;
 use std::io;
 use std::io::{ErrorKind, Read};

@@ -1,7 +1,7 @@
 //! Passes over copies that are read to the end of their last stretch: what is made and printed.
 use crate::element::changed;
 use crate::pass::{Wanted, files_come_to, three_come_to};
-use ffv1_frames::{FRAME, LATER_SILENCE, LEFT_DAMAGED, ONE_TILE, RIGHT_DAMAGED, SILENCE};
+use ffv1_test_frames::{FRAME, LATER_SILENCE, LEFT_DAMAGED, ONE_TILE, RIGHT_DAMAGED, SILENCE};
 use std::alloc::Global;
 
 /// What is shown, a list, two copies, whether all is good, and what is made and printed.

@@ -1,6 +1,6 @@
 -- What `join` does with one holding file.
 use Rattle.std.specs.Prelude.{ℕ, ◌≡◌, ◌+◌, ◌++◌, List, Result, Ok, Err}
-use Rattle.ffv1_pool.specs.Contents.{Contents, IsSameReel, joined}
+use Rattle.ffv1_holding.specs.Contents.{Contents, IsSameReel, joined}
 use Rattle.ffv1_hold.specs.FileFaults.{ReadsHolding}
 use Rattle.ffv1_devices.specs.Logs.{ReadLog}
 use Rattle.ffv1_commands.specs.declared.fault.CliFault.{CliFault}

@@ -1,11 +1,11 @@
 -- How far a holding file is written, and that its parts are within their limits.
 use Rattle.std.specs.Prelude.{ℕ, ◌≡◌, ◌+◌, ◌*◌, ◌<◌, ◌≤◌, true, List, [], ◌∷◌, length, map, slice_index_or}
 use Rattle.ffv1_bits.specs.Limits.{slice_limit}
-use Rattle.ffv1_pool.specs.SliceOrder.{Entry, bytes_cmp}
-use Rattle.ffv1_pool.specs.Sets as set
-use Rattle.ffv1_pool.specs.Reels.{reel_tiles}
-use Rattle.ffv1_pool.specs.Contents.{Contents, digests_of}
-use Rattle.ffv1_pool.specs.Inner.TileSets.{tile_entries, entries_below}
+use Rattle.ffv1_holding.specs.SliceOrder.{Entry, bytes_cmp}
+use Rattle.ffv1_holding.specs.Sets as set
+use Rattle.ffv1_holding.specs.Reels.{reel_tiles}
+use Rattle.ffv1_holding.specs.Contents.{Contents, digests_of}
+use Rattle.ffv1_holding.specs.Inner.TileSets.{tile_entries, entries_below}
 use Rattle.ffv1_hold.specs.HoldingText.{FileEntry}
 
 -- no slice passes its limit

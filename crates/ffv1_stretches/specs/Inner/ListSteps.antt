@@ -1,7 +1,7 @@
 -- How a line adds to stretches.
 use Rattle.std.specs.Prelude.{ℕ, ◌≡◌, ◌<◌, ◌≤◌, Bool, List, [], ◌∷◌, ◌++◌, MatchBool, length, map}
 use Rattle.ffv1_bits.specs.Limits.{payload_limit}
-use Rattle.ffv1_lists.specs.Numbers.{IsNumber}
+use Rattle.ffv1_texts.specs.Numbers.{IsNumber}
 use Rattle.ffv1_mend.specs.declared.part.Part.{Part}
 use Rattle.ffv1_stretches.specs.Stretches.{StretchValue, FollowsStretch, ends_after, ends_of}
 use Rattle.ffv1_stretches.specs.Inner.Ends.{end_of}

@@ -1,7 +1,7 @@
 use Rattle.std.proofs.Common.{◌++◌, ℕ, List, slice_index_or, sym, ap, ◌∙◌}
 use Rattle.std.proofs.lemmas.List.{get_or_default}
 use Rattle.std.specs.List.{flat_map, range_with_len}
-use Rattle.ffv1_pool.proofs.Lists.{flat_map-range_more}
+use Rattle.ffv1_holding.proofs.Lists.{flat_map-range_more}
 use Rattle.ffv1_picture.specs.declared.partial.TileOutcome.{TileOutcome}
 use Rattle.ffv1_picture.specs.declared.partial.TileOutcome.TheVariants.{Decoded, Missing}
 use Rattle.ffv1_commands.specs.PictureText.{outcome_line}

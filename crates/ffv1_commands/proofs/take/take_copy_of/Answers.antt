@@ -1,6 +1,6 @@
 use Rattle.std.proofs.Common.{ℕ, List, rules, subst}
 use Rattle.std.proofs.lemmas.Result.{err_from_is_err_and}
-use Rattle.ffv1_pool.specs.TakeFaults.{IsTakeFault}
+use Rattle.ffv1_holding.specs.TakeFaults.{IsTakeFault}
 use Rattle.ffv1_commands.proofs.TakeReported.{copy_untaken}
 use Rattle.ffv1_commands.proofs.take.take_copy_of.Goals as goal
 

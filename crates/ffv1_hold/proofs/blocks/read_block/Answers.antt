@@ -1,6 +1,6 @@
 use Rattle.std.proofs.Common.{◌≡◌, ◌+◌, ◌-◌, max, min, List, ℕ, length, take, drop, replicate, slice_range, ◌++◌, vec_len, inl, [], arith, rules, ap, ◌∙◌}
 use Rattle.std.proofs.lemmas.Result.{err_from_is_err_and}
-use Rattle.ffv1_pool.specs.SliceOrder.{bytes_cmp}
+use Rattle.ffv1_holding.specs.SliceOrder.{bytes_cmp}
 use Rattle.ffv1_hold.proofs.TextReads.{TakesText-nil, memory_stops}
 use Rattle.ffv1_hold.proofs.HeldBytes.{slice_range-grown, put_back}
 use Rattle.ffv1_hold.proofs.blocks.read_block.Goals as goal

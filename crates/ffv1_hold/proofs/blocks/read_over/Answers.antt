@@ -2,7 +2,7 @@ use Rattle.std.proofs.Common.{◌≡◌, ◌+◌, ◌++◌, length, take, drop, 
 use Rattle.std.proofs.lemmas.List.{length-take}
 use Rattle.std.specs.Ordering.{nat_cmp, ordering_then}
 use Rattle.std.proofs.lemmas.Result.{err_from_is_err_and}
-use Rattle.ffv1_pool.specs.SliceOrder.{bytes_cmp}
+use Rattle.ffv1_holding.specs.SliceOrder.{bytes_cmp}
 use Rattle.ffv1_hold.specs.Inner.Reading.{TakesText, IsShorter, Never}
 use Rattle.ffv1_hold.proofs.TextReads.{TakesText-nil, TakesText-trans, StopsAt-after}
 use Rattle.ffv1_hold.proofs.HeldBytes.{take-next, next_long, next_compares, all_compared}

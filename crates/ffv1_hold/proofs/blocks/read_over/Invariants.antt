@@ -1,6 +1,6 @@
 use Rattle.std.proofs.Common.{◌≡◌, ℕ, ◌≤◌, ◌-◌, List, ◌++◌, length, take, drop}
 use Rattle.std.specs.Ordering.{ordering_then}
-use Rattle.ffv1_pool.specs.SliceOrder.{bytes_cmp}
+use Rattle.ffv1_holding.specs.SliceOrder.{bytes_cmp}
 use Rattle.ffv1_hold.specs.Inner.Reading.{TakesText}
 use Rattle.ffv1_hold.proofs.blocks.read_over.Given as goal
 

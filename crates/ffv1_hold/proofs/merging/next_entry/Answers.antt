@@ -1,6 +1,6 @@
 use Rattle.std.proofs.Common.{Some, ap, sym, ◌∙◌, refl}
 use Rattle.std.specs.Ordering.{ordering_reverse}
-use Rattle.ffv1_pool.specs.SliceOrder.{entry_cmp, entries_total, entries_antisymmetric}
+use Rattle.ffv1_holding.specs.SliceOrder.{entry_cmp, entries_total, entries_antisymmetric}
 use Rattle.ffv1_hold.specs.HoldingText.{FileEntry}
 use Rattle.ffv1_hold.proofs.merging.next_entry.Goals as goal
 

@@ -1,6 +1,6 @@
 use Rattle.std.proofs.Common.{◌≡◌, ℕ, ◌+◌, ◌*◌, ◌++◌, List, length, ◌∷◌, arith, subst, ap, refl, ◌∙◌}
 use Rattle.std.proofs.lemmas.Result.{err_from_is_err_and}
-use Rattle.ffv1_pool.specs.SliceOrder.{Entry}
+use Rattle.ffv1_holding.specs.SliceOrder.{Entry}
 use Rattle.ffv1_hold.specs.declared.entry.HeldSlice.TheInside.{Inside}
 use Rattle.ffv1_hold.specs.declared.version.Version.TheVariants.{Second}
 use Rattle.ffv1_devices.specs.Writing.{WritesFront}

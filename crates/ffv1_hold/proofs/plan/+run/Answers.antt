@@ -2,10 +2,10 @@ use Rattle.std.proofs.Common.{◌≡◌, ℕ, List, Result, Ok, IfOk, IfErr, OnO
 use Rattle.std.specs.Result.{IsErrAnd}
 use Rattle.std.proofs.lemmas.Result.{IfOk-weaker, IfErr-weaker, on_ok_weaker, err_from_is_err_and}
 use Rattle.ffv1_range.specs.Setup.{IsSetupOf}
-use Rattle.ffv1_pool.specs.Reels.{Reel}
-use Rattle.ffv1_pool.specs.Contents.{Contents, holding_of, IsHolding, with_found, with_copies, joined}
-use Rattle.ffv1_pool.specs.Originals.{AreNear, HoldsExactly}
-use Rattle.ffv1_pool.specs.TakeFaults.{AreShort}
+use Rattle.ffv1_holding.specs.Reels.{Reel}
+use Rattle.ffv1_holding.specs.Contents.{Contents, holding_of, IsHolding, with_found, with_copies, joined}
+use Rattle.ffv1_holding.specs.Originals.{AreNear, HoldsExactly}
+use Rattle.ffv1_holding.specs.TakeFaults.{AreShort}
 use Rattle.ffv1_hold.specs.Headline.{IsReelOf}
 use Rattle.ffv1_hold.specs.Plans.{copies_of, IsCarriedOut, IsPlanFault, IsFaultOfCopy, IsFaultOfCopies, IsFaultOfFile, IsRereadFault, RereadsFit}
 use Rattle.ffv1_hold.specs.Saving.{IsTooLong}
@@ -13,8 +13,8 @@ use Rattle.ffv1_hold.specs.declared.file_fault.HoldFileFault.{HoldFileFault}
 use Rattle.ffv1_hold.specs.declared.plan.Plan.{Plan}
 use Rattle.ffv1_hold.specs.declared.plan.PlanFault.{PlanFault}
 use Rattle.ffv1_hold.specs.declared.plan.PlanFault.TheVariants.{Hold, Setup, File}
-use Rattle.ffv1_pool.specs.declared.fault.HoldFault.TheVariants.{Memory}
-use Rattle.ffv1_pool.proofs.ExactlyHeld.{near_exact}
+use Rattle.ffv1_holding.specs.declared.fault.HoldFault.TheVariants.{Memory}
+use Rattle.ffv1_holding.proofs.ExactlyHeld.{near_exact}
 use Rattle.ffv1_hold.proofs.PlanSteps.{after_same, after_found, after_copies, after_joined, AreShort-both, of_kept_reel, reel_on_same, one_reel, near_of_meaning}
 use Rattle.ffv1_hold.proofs.plan.+run.Goals as goal
 

@@ -1,7 +1,7 @@
 use Rattle.std.proofs.Common.{◌≡◌, Result, Err, refl}
 use Rattle.std.proofs.lemmas.Result.{err_from_is_err_and}
-use Rattle.ffv1_pool.specs.declared.fault.HoldFault.{HoldFault}
-use Rattle.ffv1_pool.specs.declared.fault.HoldFault.TheVariants.{OtherReel, PayloadTooLong, Memory}
+use Rattle.ffv1_holding.specs.declared.fault.HoldFault.{HoldFault}
+use Rattle.ffv1_holding.specs.declared.fault.HoldFault.TheVariants.{OtherReel, PayloadTooLong, Memory}
 use Rattle.ffv1_hold.proofs.PlanSteps.{kept_is_holding}
 use Rattle.ffv1_hold.proofs.plan.union_of.Goals as goal
 

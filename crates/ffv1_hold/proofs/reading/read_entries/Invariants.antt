@@ -2,7 +2,7 @@ use Rattle.std.proofs.Common.{◌≡◌, ◌-◌, ◌++◌, IfSome, IfNone}
 use Rattle.std.specs.Io.KnownBytes.{IsAtEnd}
 use Rattle.ffv1_bits.specs.Limits.{file_limit}
 use Rattle.ffv1_hold.specs.Inner.Reading.{TakesText}
-use Rattle.ffv1_pool.specs.Contents.{IsHolding}
+use Rattle.ffv1_holding.specs.Contents.{IsHolding}
 use Rattle.ffv1_hold.specs.HoldingText.{entries_text, file_entries, IsStated}
 use Rattle.ffv1_hold.specs.FileEntries.{last_of, Follows, IsFileEntryOf}
 use Rattle.ffv1_hold.specs.Inner.FileEntries.{next_text}

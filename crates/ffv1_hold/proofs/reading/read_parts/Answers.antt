@@ -1,8 +1,8 @@
 use Rattle.std.proofs.Common.{◌≤◌, [], ◌∷◌, ◌++◌, length, arith, inl, sym, subst, ap, ◌∙◌, append_assoc}
 use Rattle.std.proofs.lemmas.Result.{err_from_is_err_and}
 use Rattle.ffv1_bits.specs.Limits.{record_limit}
-use Rattle.ffv1_pool.specs.Reels.{Reel}
-use Rattle.ffv1_pool.specs.Contents.{Contents}
+use Rattle.ffv1_holding.specs.Reels.{Reel}
+use Rattle.ffv1_holding.specs.Contents.{Contents}
 use Rattle.ffv1_hold.specs.HoldingText.{head_text, entries_text, file_entries}
 use Rattle.ffv1_hold.specs.Inner.Reading.{TakesText}
 use Rattle.ffv1_hold.specs.FileFaults.{IsPartOfEntries, IsPartOfFile, FileIsWhole, EntriesShow, FileShows}

@@ -1,7 +1,7 @@
 use Rattle.std.proofs.Common.{◌≡◌, ◌+◌, length, arith, refl, sym, ap, ◌∙◌}
 use mathlib.Core.Bool.{true≢false}
 use Rattle.ffv1_hold.specs.declared.version.Version.TheVariants.{Second}
-use Rattle.ffv1_pool.specs.Reels.{Reel}
+use Rattle.ffv1_holding.specs.Reels.{Reel}
 use Rattle.ffv1_hold.specs.HoldingText.{entries_text, file_entries, holding_text}
 use Rattle.ffv1_hold.proofs.Slots.{length-text}
 use Rattle.ffv1_hold.proofs.saving.fits_in_file.Goals.{After-config-config, After-room_after}

@@ -1,7 +1,7 @@
 use Rattle.std.proofs.Common.{◌≡◌, ◌<◌, ◌++◌, ◌+◌, length, arith, sym, ap, ◌∙◌, length-append}
 use Rattle.ffv1_hold.specs.declared.version.Version.TheVariants.{Second}
-use Rattle.ffv1_pool.specs.Reels.{reel_tiles}
-use Rattle.ffv1_pool.specs.Inner.TileSets.{tile_entries}
+use Rattle.ffv1_holding.specs.Reels.{reel_tiles}
+use Rattle.ffv1_holding.specs.Inner.TileSets.{tile_entries}
 use Rattle.ffv1_hold.specs.Inner.Saving.{tile_file_entries, file_entries_below}
 use Rattle.ffv1_hold.specs.HoldingText.{entries_text}
 use Rattle.ffv1_hold.proofs.Slots.{entries_text-none}

@@ -1,9 +1,9 @@
 use Rattle.std.proofs.Common.{◌≡◌, ◌<◌, ◌+◌, ◌*◌, take, length, arith, ap, sym, ◌∙◌}
 use Rattle.std.proofs.lemmas.List.{take_all}
-use Rattle.ffv1_pool.specs.Sets as set
-use Rattle.ffv1_pool.specs.TileSets.{tile_slices}
-use Rattle.ffv1_pool.specs.Contents.{digests_of}
-use Rattle.ffv1_pool.proofs.RisingSets.{size-items}
+use Rattle.ffv1_holding.specs.Sets as set
+use Rattle.ffv1_holding.specs.TileSets.{tile_slices}
+use Rattle.ffv1_holding.specs.Contents.{digests_of}
+use Rattle.ffv1_holding.proofs.RisingSets.{size-items}
 use Rattle.ffv1_hold.specs.Inner.Saving.{tile_file_entries, entries_length}
 use Rattle.ffv1_hold.proofs.TileTexts.{own, entry_at, tile_count, entries_length-more, entries_length-part}
 use Rattle.ffv1_hold.proofs.saving.room_after_tile.Goals.{After-origins_at-origins}

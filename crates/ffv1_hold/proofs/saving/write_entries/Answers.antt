@@ -2,7 +2,7 @@ use Rattle.std.proofs.Common.{◌≡◌, ◌<◌, arith, sym, subst, ap, ◌∙�
 use Rattle.std.proofs.lemmas.Result.{err_from_is_err_and}
 use Rattle.ffv1_devices.specs.Logs.{Writes, StopsWriting}
 use Rattle.ffv1_devices.proofs.Steps.{Writes-nil, Writes-trans, StopsWriting-after, StopsWriting-of}
-use Rattle.ffv1_pool.specs.Reels.{reel_tiles}
+use Rattle.ffv1_holding.specs.Reels.{reel_tiles}
 use Rattle.ffv1_hold.specs.declared.version.Version.TheVariants.{Second}
 use Rattle.ffv1_hold.specs.Inner.Saving.{file_entries_below}
 use Rattle.ffv1_hold.specs.HoldingText.{entries_text}

@@ -1,5 +1,5 @@
 use Rattle.std.proofs.Common.{◌≡◌, ◌≤◌, ◌+◌, length}
-use Rattle.ffv1_pool.specs.Contents.{AreDigests}
+use Rattle.ffv1_holding.specs.Contents.{AreDigests}
 use Rattle.ffv1_hold.specs.Inner.Merging.{digests_union}
 use Rattle.ffv1_hold.proofs.union.union_count.Given as goal
 

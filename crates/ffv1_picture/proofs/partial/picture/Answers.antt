@@ -1,7 +1,7 @@
 use Rattle.std.proofs.Common.{◌≡◌, ◌∙◌, ◌+◌, List, sym, ap, subst, arith}
 use Rattle.std.proofs.lemmas.Result.{err_from_is_err_and}
 use Rattle.ffv1_range.specs.Tiles.{grid_of, tile_count}
-use Rattle.ffv1_pool.specs.Reels.{reel_tiles}
+use Rattle.ffv1_holding.specs.Reels.{reel_tiles}
 use Rattle.ffv1_picture.specs.declared.partial.Partial.{Partial}
 use Rattle.ffv1_picture.specs.PartialPictures.{ShowsTiles, IsPartialPicture}
 use Rattle.ffv1_picture.specs.declared.partial.TileOutcome.{TileOutcome}

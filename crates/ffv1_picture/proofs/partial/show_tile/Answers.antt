@@ -2,7 +2,7 @@ use Rattle.std.proofs.Common.{◌≡◌, ◌⊎◌, Some, None, sym, subst, ⊎_
 use Rattle.ffv1_range.specs.Setup.{SetupValue}
 use Rattle.ffv1_slice.specs.Slices.{content_of}
 use Rattle.ffv1_slice.proofs.SliceFacts.{slice_footer}
-use Rattle.ffv1_pool.specs.Standing.{Standing}
+use Rattle.ffv1_holding.specs.Standing.{Standing}
 use Rattle.ffv1_picture.specs.Inner.Drawing.{DrawsSlice}
 use Rattle.ffv1_picture.specs.PartialPictures.{IsShown}
 use Rattle.ffv1_picture.specs.declared.partial.TileOutcome.TheVariants.{Decoded, Fault}

@@ -1,8 +1,8 @@
 use Rattle.std.proofs.Common.{◌≡◌, ℕ, ◌+◌, ◌≤◌, cond, refl, sym, ap, ◌∙◌, arith, count_by}
 use Rattle.std.specs.List.{range_with_len}
-use Rattle.ffv1_pool.specs.Contents.{Contents}
-use Rattle.ffv1_pool.specs.Standing.{Standing, missing, settled, disputed, tile_state}
-use Rattle.ffv1_pool.specs.TileStates.{standing_shown}
+use Rattle.ffv1_holding.specs.Contents.{Contents}
+use Rattle.ffv1_holding.specs.Standing.{Standing, missing, settled, disputed, tile_state}
+use Rattle.ffv1_holding.specs.TileStates.{standing_shown}
 use Rattle.ffv1_picture.specs.ReportText.{is_settled, is_disputed, is_missing}
 use Rattle.ffv1_picture.specs.declared.reporting.Counts.{Counts}
 use Rattle.ffv1_picture.proofs.Reports.{with_tile}

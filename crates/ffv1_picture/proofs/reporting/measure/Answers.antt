@@ -3,10 +3,10 @@ use Rattle.std.proofs.lemmas.List.{append-nil, length-append}
 use Rattle.std.specs.List.{flat_map, range_with_len}
 use Rattle.sha2.specs.Hashers.{Holds256}
 use Rattle.sha2.specs.declared.Sha256.{Sha256}
-use Rattle.ffv1_pool.specs.Standing.{settled_bytes, tile_state}
-use Rattle.ffv1_pool.specs.TileStates.{standing_shown}
-use Rattle.ffv1_pool.proofs.Lists.{flat_map-range_more}
-use Rattle.ffv1_pool.proofs.Standings.{settled_bytes-none}
+use Rattle.ffv1_holding.specs.Standing.{settled_bytes, tile_state}
+use Rattle.ffv1_holding.specs.TileStates.{standing_shown}
+use Rattle.ffv1_holding.proofs.Lists.{flat_map-range_more}
+use Rattle.ffv1_holding.proofs.Standings.{settled_bytes-none}
 use Rattle.ffv1_picture.proofs.SettledSlices.{settled_entry}
 use Rattle.ffv1_picture.proofs.reporting.measure.Goals as goal
 use Rattle.ffv1_picture.proofs.reporting.measure.Goals.{in-Settled, in_default}

@@ -1,8 +1,8 @@
 use Rattle.std.proofs.Common.{◌≡◌, ◌++◌, ℕ, List, OnOk, string_bytes, sym, ap, subst, ◌∙◌}
 use Rattle.ffv1_slice.proofs.SliceFacts.{slice_footer}
-use Rattle.ffv1_pool.specs.TileSets.{tile_slices}
-use Rattle.ffv1_pool.specs.Standing.{settled, disputed}
-use Rattle.ffv1_pool.proofs.RisingSets.{size-items}
+use Rattle.ffv1_holding.specs.TileSets.{tile_slices}
+use Rattle.ffv1_holding.specs.Standing.{settled, disputed}
+use Rattle.ffv1_holding.proofs.RisingSets.{size-items}
 use Rattle.ffv1_picture.specs.ReportText.{slices_held, settled_words, disputed_words, tile_words, least_status}
 use Rattle.ffv1_picture.proofs.SettledSlices.{settled_entry}
 use Rattle.ffv1_picture.proofs.reporting.push_state.Goals as goal

@@ -1,6 +1,6 @@
 use Rattle.std.proofs.Common.{◌++◌, string_bytes, sym, ap, ◌∙◌, append_assoc}
 use Rattle.std.specs.List.{flat_map, range_with_len}
-use Rattle.ffv1_pool.proofs.Lists.{flat_map-range_more}
+use Rattle.ffv1_holding.proofs.Lists.{flat_map-range_more}
 use Rattle.ffv1_picture.specs.ReportText.{tile_lines}
 use Rattle.ffv1_picture.proofs.reporting.push_tiles.Goals as goal
 

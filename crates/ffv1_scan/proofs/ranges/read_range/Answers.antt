@@ -1,5 +1,5 @@
 use Rattle.std.proofs.Common.{arith}
-use Rattle.ffv1_lists.proofs.NumberSteps.{one_value}
+use Rattle.ffv1_texts.proofs.NumberSteps.{one_value}
 use Rattle.ffv1_scan.proofs.LineSteps.{no_range, range_numbers}
 use Rattle.ffv1_scan.proofs.ranges.read_range.Goals as goal
 

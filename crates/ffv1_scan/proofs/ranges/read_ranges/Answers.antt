@@ -1,7 +1,7 @@
 use Rattle.std.proofs.Common.{◌<◌, ◌++◌, ◌∷◌, [], length, arith, sym, ap, subst, ◌∙◌, append-nil, append_assoc}
 use Rattle.std.proofs.lemmas.Bool.Decides.{nat_tests}
-use Rattle.ffv1_lists.specs.Lines.{AreLines}
-use Rattle.ffv1_lists.proofs.LineSteps.{empty_lines, lines_of, lines_on}
+use Rattle.ffv1_texts.specs.Lines.{AreLines}
+use Rattle.ffv1_texts.proofs.LineSteps.{empty_lines, lines_of, lines_on}
 use Rattle.ffv1_scan.specs.Ranges.{AreRangeLines, Rises, ranges_end}
 use Rattle.ffv1_scan.proofs.LineSteps.{AreRangeLines-push, length-range_lines, Rises-push, ranges_end-push}
 use Rattle.ffv1_scan.proofs.ranges.read_ranges.Goals as goal

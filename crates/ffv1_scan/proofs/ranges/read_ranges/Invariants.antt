@@ -1,5 +1,5 @@
 use Rattle.std.proofs.Common.{◌≡◌, ◌+◌, ◌++◌, List, ℕ, length}
-use Rattle.ffv1_lists.specs.Lines.{AreLines}
+use Rattle.ffv1_texts.specs.Lines.{AreLines}
 use Rattle.ffv1_scan.specs.Ranges.{AreRangeLines, Rises, ranges_end}
 use Rattle.ffv1_scan.proofs.ranges.read_ranges.Given as goal
 

@@ -1,6 +1,6 @@
 use Rattle.std.proofs.Common.{◌≡◌, List, ℕ, Bor, true, false, refl, map, sym, ◌∙◌, subst}
 use Rattle.std.specs.Prelude.{IsTrue}
-use Rattle.ffv1_lists.specs.Words.{AreWords}
+use Rattle.ffv1_texts.specs.Words.{AreWords}
 use Rattle.ffv1_stretches.specs.Inner.ListSteps.{BeginsPart}
 use Rattle.ffv1_stretches.proofs.ListLemmas.{part_adds, stretch_adds, stretch_moves, stretch_counts}
 use Rattle.ffv1_stretches.proofs.WordLemmas.{now_of}

@@ -2,8 +2,8 @@ use Rattle.std.proofs.Common.{◌≡◌, ◌<◌, ◌++◌, ◌∷◌, [], ℕ, 
 use Rattle.std.specs.Prelude.{MatchBool}
 use Rattle.std.proofs.lemmas.Bool.Decides.{nat_tests}
 use Rattle.std.proofs.lemmas.List.{length-append}
-use Rattle.ffv1_lists.specs.Lines.{AreLines}
-use Rattle.ffv1_lists.proofs.LineSteps.{empty_lines, lines_of, lines_on}
+use Rattle.ffv1_texts.specs.Lines.{AreLines}
+use Rattle.ffv1_texts.proofs.LineSteps.{empty_lines, lines_of, lines_on}
 use Rattle.ffv1_stretches.specs.Listed.{AreListed}
 use Rattle.ffv1_stretches.specs.Inner.ListSteps.{IsListedTo, AddsLine}
 use Rattle.ffv1_stretches.proofs.ListLemmas.{listed_to_none, length-listed_none, line_shorter}

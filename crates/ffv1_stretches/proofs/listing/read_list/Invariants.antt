@@ -1,5 +1,5 @@
 use Rattle.std.proofs.Common.{◌≡◌, ◌+◌, ◌++◌, ◌≤◌, List, ℕ, length}
-use Rattle.ffv1_lists.specs.Lines.{AreLines}
+use Rattle.ffv1_texts.specs.Lines.{AreLines}
 use Rattle.ffv1_stretches.specs.Listed.{AreListed}
 use Rattle.ffv1_stretches.specs.Inner.ListSteps.{IsListedTo}
 use Rattle.ffv1_stretches.proofs.listing.read_list.Given as goal

@@ -1,6 +1,6 @@
 use Rattle.std.proofs.Common.{◌<◌, arith, ap, le_refl, refl, ◌∙◌}
 use Rattle.std.proofs.lemmas.Result.{err_from_is_err_and}
-use Rattle.ffv1_pool.specs.Reels.{Reel}
+use Rattle.ffv1_holding.specs.Reels.{Reel}
 use Rattle.ffv1_hold.proofs.JoinSteps.{AllGoOn-trans, OneStops-after, wrote, sink_stops, inside}
 use Rattle.ffv1_hold.proofs.MergeStarts.{full_stops, end_stops, union_written, union_within}
 use Rattle.ffv1_hold.proofs.merging.Merge.merge_after_heads.Goals as goal

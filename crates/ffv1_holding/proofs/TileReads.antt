@@ -1,0 +1,12 @@
+-- What the fields of a holding say of one tile.
+use Rattle.std.proofs.Common.{◌≡◌, ℕ, ◌<◌, ap, ◌∙◌, arith}
+use Rattle.ffv1_holding.specs.Reels.{reel_tiles}
+use Rattle.ffv1_holding.specs.Contents.{Contents}
+use Rattle.ffv1_holding.specs.HoldingParts.{contents, IsKept}
+use Rattle.ffv1_holding.specs.declared.holding.Holding.TheInside.{Inside}
+
+-- a place before the end of a loop over the tiles
+pub in_grid : (a : Inside) → IsKept a → (h : Contents) → contents a ≡ h → (t end : ℕ) → t < end → end ≡ a.held.tiles → t < reel_tiles h.reel
+in_grid a kept h is t end lt same =
+    let count : a.held.tiles ≡ reel_tiles h.reel = kept.tiles ∙ ap (λ (x : Contents). reel_tiles x.reel) is in
+    omega arith

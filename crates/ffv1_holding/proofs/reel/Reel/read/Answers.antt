@@ -1,0 +1,23 @@
+use Rattle.std.proofs.Common.{ℕ, List, Err, sym, ap, subst}
+use Rattle.std.proofs.lemmas.Result.{err_from_is_err_and}
+use Rattle.ffv1_range.specs.Setup.{IsSetupOf}
+use Rattle.ffv1_holding.proofs.Reels.{own_size}
+use Rattle.ffv1_holding.proofs.reel.Reel.read.Goals as goal
+
+sound : (c : goal.In_ok-setup) → IsSetupOf c.args.config.items c.in_ok-setup.setup.width c.in_ok-setup.setup.height c.in_ok-setup.setup
+sound c =
+    subst (λ (config : List ℕ). IsSetupOf config c.in_ok-setup.setup.width c.in_ok-setup.setup.height c.in_ok-setup.setup) c.deref.ensures.value
+    (own_size c.deref.result.now c.args.width c.args.height c.in_ok-setup.setup c.in_ok-setup.ensures.found)
+
+pub invariant_of-result : goal.invariant_of-result
+invariant_of-result c = sound c
+
+pub returns-clause-sound : goal.returns-clause-sound
+returns-clause-sound c = sound c
+
+pub returns-in_err-setup-clause-only : goal.returns-in_err-setup-clause-only
+returns-in_err-setup-clause-only c =
+    λ s is.
+    let p = err_from_is_err_and c.from_residual.result c.from_residual.ensures.1 in
+    rw (p.1, p.2)
+    (ap Err (c.in_err-setup.ensures.only s (subst (λ (config : List ℕ). IsSetupOf config c.args.width c.args.height s) (sym c.deref.ensures.value) is)))

@@ -1,0 +1,117 @@
+//! The slices held of one frame (own), under one configuration record (RFC 9043, section 4.3) and size.
+//!
+//! Here a holding is made and joined to others. Its other methods are in `take.rt`, which takes copies, `restore.rt`, which says
+//! how the tiles stand and restores the payload, and `origins.rt`, which says which copies gave a slice.
+ghost use Rattle.std.specs.Prelude.{◌≡◌, ◌⊎◌, IfOk, IfErr, OnErr};
+ghost use Rattle.ffv1_range.specs.Setup.{SetupValue, IsSetupOf};
+ghost use Rattle.ffv1_range.specs.SetupFaults.{FirstSetupFault};
+ghost use Rattle.ffv1_holding.specs.Contents.{no_slices, IsHolding};
+
+use crate::fault::HoldFault;
+use crate::joins::Join;
+use crate::pool::Pool;
+use crate::reel::Reel;
+use ffv1_range::{Setup, SetupFault};
+use std::alloc::{AllocError, Global};
+use std::marker::Model;
+
+/// The distinct slices that were found in copies of one frame, each with the SHA-256 digests of the whole copies that
+/// gave it.
+///
+/// Each is a slice of its tile in the frame's setup: its parity is right, and its header is one of the profile.
+#[derive(Drop)]
+pub struct Holding {
+    pub(crate) reel: Reel,
+    pub(crate) held: Pool,
+}
+
+impl Model for Holding {
+    ghost use Rattle.ffv1_holding.specs.Contents.{Contents, coded_contents};
+
+    ghost Value = { Contents };
+
+    ghost coded = { coded_contents };
+
+    ghost use Rattle.ffv1_holding.specs.HoldingParts.{contents, IsKept};
+
+    ghost view = { contents };
+
+    ghost invariant = { IsKept };
+}
+
+impl Holding {
+    /// A holding of no slices, for a configuration record and the size of its frames in samples.
+    ///
+    /// It is refused exactly as `Setup::read` refuses them, or with `Memory`.
+    pub fn new(alloc: Global, config: &[u8], width: u32, height: u32) -> Result<Holding, SetupFault>
+        ensures empty { IfOk result (λ h. h ≡ no_slices h.reel) }
+        ensures config { IfOk result (λ h. h.reel.config ≡ config.now) }
+        ensures setup { IfOk result (λ h. IsSetupOf config.now width height h.reel.setup) }
+
+        ensures only { (s : SetupValue) → IsSetupOf config.now width height s → OnErr result (result ≡ Err SetupFault.Memory) }
+        ensures fault { IfErr result (λ fault. (fault ≡ SetupFault.Memory) ⊎ FirstSetupFault config.now width height fault) }
+    {
+        let Ok(config) = Vec::from_slice(alloc, config) else {
+            return Err(SetupFault::Memory);
+        };
+        let reel = Reel::read(alloc, config, width, height)?;
+        let Ok(holding) = Holding::of_reel(alloc, reel) else {
+            return Err(SetupFault::Memory);
+        };
+        Ok(holding)
+    }
+
+    /// A holding of no slices, for a recording. The only refusal is Memory.
+    pub fn of_reel(alloc: Global, reel: Reel) -> Result<Holding, AllocError>
+        ensures { IfOk result (λ h. h ≡ no_slices reel) }
+    {
+        let held = Pool::new(alloc, reel.tiles())?;
+        Ok(Holding { reel, held })
+    }
+
+    /// The recording. It stays the same whatever is taken or joined.
+    pub fn reel(&self) -> &Reel
+        ensures value { result.now ≡ self.now.reel }
+        ensures sound { IsHolding self.now }
+    {
+        &self.reel
+    }
+
+    /// The setup that `Setup::read` gives for the record and the size. It stays the same whatever is taken or joined.
+    pub fn setup(&self) -> &Setup
+        ensures value { result.now ≡ self.now.reel.setup }
+        ensures sound { IsHolding self.now }
+    {
+        self.reel.setup()
+    }
+}
+
+impl Join for Holding {
+    ghost use Rattle.ffv1_holding.specs.Sets as set;
+    ghost use Rattle.ffv1_holding.specs.Contents.{IsSameReel, joined};
+    ghost use Rattle.ffv1_holding.specs.ContentsLaws.{joined_comm, joined_assoc, joined_again, joined_reel};
+
+    ghost joinable = { IsSameReel };
+
+    ghost union = { joined };
+
+    // The slices are counted, and not where they came from.
+    ghost size = { λ h. set.size h.slices };
+
+    fn join_with(&mut self, other: &Self) -> Result<usize, HoldFault> {
+        if !self.reel.is_same(&other.reel) {
+            return Err(HoldFault::OtherReel);
+        }
+        let before = self.held.size();
+        self.held.join(&other.held)?;
+        Ok(self.held.size() - before)
+    }
+
+    ghost commutes = { joined_comm };
+
+    ghost groups = { joined_assoc };
+
+    ghost repeats = { joined_again };
+
+    ghost stays_joinable = { joined_reel };
+}

@@ -1,0 +1,140 @@
+//! What the calls are made on: a recorded frame of 48 x 32 gray samples in four tiles, and two copies of it in each
+//! of which the slices of two tiles are damaged.
+use crate::buffer::Buffer;
+use ebml_crc::crc32;
+use ffv1_hold::{FromWrite, Holding, write_hold};
+use ffv1_test_frames::{RECORDED, RECORDED_RECORD};
+use std::alloc::Global;
+use std::io;
+use std::io::ErrorKind;
+
+/// The width and height of the frame, in samples.
+pub const SIZE: (u32, u32) = (48, 32);
+
+/// The frame with damage in tiles 0 and 2.
+pub fn first_copy() -> [u8; 336] {
+    let mut copy = RECORDED;
+    copy[39] ^= 1;
+    copy[209] ^= 1;
+    copy
+}
+
+/// The frame with damage in tiles 1 and 3.
+pub fn second_copy() -> [u8; 336] {
+    let mut copy = RECORDED;
+    copy[103] ^= 1;
+    copy[286] ^= 1;
+    copy
+}
+
+/// Two copies with damage in tile 3, each in another place of it.
+pub fn torn_copies() -> [[u8; 336]; 2] {
+    let (mut one, mut other) = (RECORDED, RECORDED);
+    one[230] ^= 1;
+    other[320] ^= 1;
+    [one, other]
+}
+
+/// The list of both as one stretch.
+pub const TORN_LIST: &[u8] = b"frame 336 1 0 0\n";
+
+/// An element that is its CRC-32, the frame from byte 6 on, and 78 bytes more.
+pub fn element() -> [u8; 420] {
+    let mut element = [0; 420];
+    element[0] = 0xBF;
+    element[1] = 0x84;
+    element[6..342].copy_from_slice(&RECORDED);
+    let crc = crc32(&element[6..]).to_le_bytes();
+    element[2..6].copy_from_slice(&crc);
+    element
+}
+
+/// Two copies of the element with damage in the frame's tile 3 and after the frame, each in other places.
+pub fn torn_elements() -> [[u8; 420]; 2] {
+    let (mut one, mut other) = (element(), element());
+    one[236] ^= 1;
+    one[345] ^= 1;
+    other[326] ^= 1;
+    other[415] ^= 1;
+    [one, other]
+}
+
+/// The holding of copies.
+pub fn holding_of(alloc: Global, copies: &[&[u8]]) -> io::Result<Holding> {
+    let refused = io::Error::from(ErrorKind::OutOfMemory);
+    let Ok(mut holding) = Holding::new(alloc, &RECORDED_RECORD, SIZE.0, SIZE.1) else {
+        return Err(refused);
+    };
+    match holding.take_all(copies) {
+        Ok(()) => Ok(holding),
+        Err(_) => Err(refused),
+    }
+}
+
+/// The file of a holding; no bytes where it could not be written.
+pub fn file_of(holding: &Holding) -> Buffer {
+    let mut sink = FromWrite::new(Buffer::new());
+    match write_hold(holding, &mut sink) {
+        Ok(()) => sink.into_inner(),
+        Err(_) => Buffer::new(),
+    }
+}
+
+/// The remainder of the file of a holding.
+pub fn remainder_of(holding: &Holding) -> u32 {
+    file_of(holding).remainder()
+}
+
+/// A holding, and its file.
+#[derive(Drop)]
+pub struct Held {
+    /// The holding.
+    pub holding: Holding,
+    /// Its file.
+    pub file: Buffer,
+}
+
+impl Held {
+    /// The holding of copies. It fails if an allocation fails.
+    fn new(alloc: Global, copies: &[&[u8]]) -> io::Result<Held> {
+        let holding = holding_of(alloc, copies)?;
+        let file = file_of(&holding);
+        Ok(Held { holding, file })
+    }
+}
+
+/// Holdings of each copy alone.
+#[derive(Drop)]
+pub struct Alone {
+    /// The holding of the first copy.
+    pub first: Held,
+    /// The holding of the second.
+    pub second: Held,
+}
+
+impl Alone {
+    /// The holdings of both copies. It fails if an allocation fails.
+    fn new(alloc: Global) -> io::Result<Alone> {
+        let first = Held::new(alloc, &[&first_copy()])?;
+        let second = Held::new(alloc, &[&second_copy()])?;
+        Ok(Alone { first, second })
+    }
+}
+
+/// Holdings of each copy alone, and of both.
+#[derive(Drop)]
+pub struct Stock {
+    /// The holdings of each copy alone.
+    pub alone: Alone,
+    /// The holding of both copies.
+    pub both: Held,
+}
+
+impl Stock {
+    /// All of it. It fails if an allocation fails.
+    pub fn new(alloc: Global) -> io::Result<Stock> {
+        let alone = Alone::new(alloc)?;
+        let both = Held::new(alloc, &[&first_copy(), &second_copy()])?;
+        Ok(Stock { alone, both })
+    }
+}

@@ -1,8 +1,0 @@
-use Rattle.ffv1_pool.proofs.Interleaves.{IsInterleaving}
-use Rattle.ffv1_pool.proofs.fresh.interleave.Given as goal
-
-abbrev pub invariant-loop-before : goal.invariant-loop-before
-invariant-loop-before g l = IsInterleaving l.fn.items l.held l.fresh l.before l.left l.items
-
-abbrev pub decreases-loop-before : goal.decreases-loop-before
-decreases-loop-before g l = l.before

@@ -1,8 +1,0 @@
-use Rattle.std.proofs.Common.{◌≡◌}
-use Rattle.std.specs.List.{flat_map, range_with_len}
-use Rattle.ffv1_pool.specs.Standing.{settled_bytes, tile_state}
-use Rattle.ffv1_pool.proofs.holding.Holding.joined_slices.Given as goal
-
--- the settled slices of the tiles passed so far
-abbrev pub invariant-loop-tile : goal.invariant-loop-tile
-invariant-loop-tile l = l.payload.items ≡ flat_map (λ tile. settled_bytes (tile_state l.self tile)) (range_with_len 0 l.tile)

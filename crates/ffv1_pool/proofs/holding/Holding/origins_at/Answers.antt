@@ -1,5 +1,0 @@
-use Rattle.std.proofs.Common.{rules}
-use Rattle.ffv1_pool.proofs.holding.Holding.origins_at.Goals as goal
-
-pub returns-clause-digests : goal.returns-clause-digests
-returns-clause-digests c = search rules

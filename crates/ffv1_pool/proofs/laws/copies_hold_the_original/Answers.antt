@@ -1,5 +1,0 @@
-use Rattle.ffv1_pool.proofs.ExactlyHeld.{exactly_held}
-use Rattle.ffv1_pool.proofs.laws.copies_hold_the_original.Goals as goal
-
-pub returns : goal.returns
-returns c reel payload slices copies original are = exactly_held reel slices copies are

@@ -1,5 +1,0 @@
-use Rattle.ffv1_pool.proofs.ExactlyHeld.{held_is_found}
-use Rattle.ffv1_pool.proofs.laws.held_is_found.Goals as goal
-
-pub returns : goal.returns
-returns c = held_is_found

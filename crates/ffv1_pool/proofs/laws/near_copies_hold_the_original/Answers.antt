@@ -1,5 +1,0 @@
-use Rattle.ffv1_pool.proofs.ExactlyHeld.{near_held}
-use Rattle.ffv1_pool.proofs.laws.near_copies_hold_the_original.Goals as goal
-
-pub returns : goal.returns
-returns c = near_held

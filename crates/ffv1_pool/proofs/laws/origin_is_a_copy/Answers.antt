@@ -1,5 +1,0 @@
-use Rattle.ffv1_pool.proofs.ExactlyHeld.{origin_is_a_copy}
-use Rattle.ffv1_pool.proofs.laws.origin_is_a_copy.Goals as goal
-
-pub returns : goal.returns
-returns c = origin_is_a_copy

@@ -1,6 +1,0 @@
-use Rattle.ffv1_pool.proofs.OneRows.{resized}
-use Rattle.ffv1_pool.proofs.pool.repeated.Goals as goal
-
-pub returns : goal.returns
-returns g c = resized c.resize.new.self.items c.new-items.result.items c.args.count _ _ c.in_ok-resize.ensures.items c.new-items.ensures.items
-    c.new-items.ensures.len

@@ -1,8 +1,0 @@
-use Rattle.std.proofs.Common.{arith}
-use Rattle.ffv1_pool.specs.SliceOrder.{bytes_total}
-use Rattle.ffv1_pool.specs.Inner.PoolEntries.{slice_in}
-use Rattle.ffv1_pool.proofs.RisingSets.{size_kept}
-use Rattle.ffv1_pool.proofs.shelf.Shelf.len.Goals as goal
-
-pub returns : goal.returns
-returns c = omega (arith, size_kept bytes_total (slice_in c.self.inside.bytes.now) c.self.inside.entries.now _ c.self.invariant.rising c.self.view_is)

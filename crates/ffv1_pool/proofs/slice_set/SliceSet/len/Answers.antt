@@ -1,7 +1,0 @@
-use Rattle.std.proofs.Common.{arith}
-use Rattle.ffv1_pool.specs.SliceOrder.{bytes_total}
-use Rattle.ffv1_pool.proofs.RisingSets.{size_kept}
-use Rattle.ffv1_pool.proofs.slice_set.SliceSet.len.Goals as goal
-
-pub returns : goal.returns
-returns c = omega (arith, c.len.ensures, size_kept bytes_total (λ v. v.items) c.self.inside.slices.items _ c.self.invariant c.self.view_is)
