@@ -115,9 +115,13 @@ fn writes_of_pair(
         writes: 0,
         bytes: 0,
     });
-    let answer = write_pair(&mut sink, &first, &second);
+    let returned = write_pair(&mut sink, &first, &second);
     let counting = sink.into_inner();
-    Ok(answer.is_ok().then_some((counting.writes, counting.bytes)))
+    Ok(
+        returned
+            .is_ok()
+            .then_some((counting.writes, counting.bytes)),
+    )
 }
 
 /// The lengths of two fields, and how many writes they are, of how many bytes.
@@ -139,8 +143,8 @@ fn two_fields_of_at_most_4096_bytes_are_one_write(rt: HostRuntime) {
 /// Whether bytes are written through a borrow of a list as these.
 fn is_written_as(alloc: Global, bytes: &[u8], wanted: &[u8]) -> bool {
     let mut written = Vec::new(alloc);
-    let answer = write_field(&mut ThroughWrite::new(&mut written), bytes);
-    answer.is_ok() && written.as_slice() == wanted
+    let returned = write_field(&mut ThroughWrite::new(&mut written), bytes);
+    returned.is_ok() && written.as_slice() == wanted
 }
 
 #[test]

@@ -242,13 +242,13 @@ fn holding_files(alloc: Global) -> Option<Files> {
 }
 
 /// Whether a command reports that this path was not read.
-fn is_unread(answer: &Result<(), CliFault>, path: Option<CommandPath>) -> bool {
-    matches!(answer, Err(CliFault::Read(reported)) if Some(*reported) == path)
+fn is_unread(returned: &Result<(), CliFault>, path: Option<CommandPath>) -> bool {
+    matches!(returned, Err(CliFault::Read(reported)) if Some(*reported) == path)
 }
 
 /// Whether a command reports that this path was not written.
-fn is_unwritten(answer: &Result<(), CliFault>, path: CommandPath) -> bool {
-    matches!(answer, Err(CliFault::Write(reported)) if *reported == path)
+fn is_unwritten(returned: &Result<(), CliFault>, path: CommandPath) -> bool {
+    matches!(returned, Err(CliFault::Write(reported)) if *reported == path)
 }
 
 /// Whether OUT has what a command may leave there where an input fails: nothing, or of `merge` a front of its file.
@@ -276,8 +276,8 @@ fn input_is_reported(
         Some(first_path)
     };
     let (mut out, mut printed) = (Output::new(alloc), Output::new(alloc));
-    let answer = run(alloc, command, first, second, &mut out, &mut printed);
-    is_unread(&answer, path)
+    let returned = run(alloc, command, first, second, &mut out, &mut printed);
+    is_unread(&returned, path)
         && is_left(command, files, &out.narrow.bytes)
         && printed.narrow.bytes.is_empty()
 }
@@ -321,14 +321,14 @@ fn ran_with_room(
     out.narrow.room = made;
     output.narrow.room = printed;
     let (first, second) = (Input::new(first), Input::new(second));
-    let answer = run(alloc, command, first, second, &mut out, &mut output);
-    (answer, out.narrow.bytes, output.narrow.bytes)
+    let returned = run(alloc, command, first, second, &mut out, &mut output);
+    (returned, out.narrow.bytes, output.narrow.bytes)
 }
 
 /// Whether an OUT that fails after so many bytes has just these, and nothing is printed.
 fn out_has_front(alloc: Global, command: Command, files: &Files, made: &[u8], room: usize) -> bool {
-    let (answer, front, printed) = ran_with_room(alloc, command, files, room, usize::MAX);
-    is_unwritten(&answer, CommandPath::Out)
+    let (returned, front, printed) = ran_with_room(alloc, command, files, room, usize::MAX);
+    is_unwritten(&returned, CommandPath::Out)
         && Some(front.as_slice()) == made.get(..room)
         && printed.is_empty()
 }
@@ -341,8 +341,8 @@ fn output_has_front(
     (made, printed): (&[u8], &[u8]),
     room: usize,
 ) -> bool {
-    let (answer, file, front) = ran_with_room(alloc, command, files, usize::MAX, room);
-    is_unwritten(&answer, CommandPath::StandardOutput)
+    let (returned, file, front) = ran_with_room(alloc, command, files, usize::MAX, room);
+    is_unwritten(&returned, CommandPath::StandardOutput)
         && file.as_slice() == made
         && Some(front.as_slice()) == printed.get(..room)
 }
@@ -374,10 +374,10 @@ fn output_without_front(
 
 /// The same of all outputs of a command.
 fn without_front(alloc: Global, command: Command, files: &Files) -> Option<usize> {
-    let (answer, made, printed) = ran_with_room(alloc, command, files, usize::MAX, usize::MAX);
+    let (returned, made, printed) = ran_with_room(alloc, command, files, usize::MAX, usize::MAX);
     let out = out_without_front(alloc, command, files, &made);
     let output = output_without_front(alloc, command, files, (&made, &printed));
-    if answer.is_ok() {
+    if returned.is_ok() {
         out.or(output)
     } else {
         Some(usize::MAX)
@@ -502,8 +502,8 @@ fn sixty_five_interruptions_in_a_row_are_reported(rt: HostRuntime) {
 fn endless_shows(alloc: Global, file: &[u8], fault: HoldFileFault) -> bool {
     let mut input = Input::endless(file);
     let (mut out, mut printed) = (Output::new(alloc), Output::new(alloc));
-    let answer = run_restore(alloc, &mut input, &mut out, &mut printed);
-    matches!(answer, Err(CliFault::HoldFile(reported)) if reported == fault)
+    let returned = run_restore(alloc, &mut input, &mut out, &mut printed);
+    matches!(returned, Err(CliFault::HoldFile(reported)) if reported == fault)
 }
 
 #[test]

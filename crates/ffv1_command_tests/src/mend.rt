@@ -98,7 +98,7 @@ impl Devices {
 /// What the command returned, made and printed.
 #[derive(Drop)]
 struct Ran {
-    answer: Result<bool, CliFault>,
+    returned: Result<bool, CliFault>,
     made: Vec<u8>,
     printed: Vec<u8>,
 }
@@ -113,9 +113,9 @@ fn run(alloc: Global, devices: Devices) -> Result<Ran, AllocError> {
         mut printed,
     } = devices;
     let copies = Vec::from_array(alloc, [first, second])?;
-    let answer = run_mend(alloc, &mut list, copies, &mut out, &mut printed);
+    let returned = run_mend(alloc, &mut list, copies, &mut out, &mut printed);
     Ok(Ran {
-        answer,
+        returned,
         made: out.narrow.bytes,
         printed: printed.narrow.bytes,
     })
@@ -128,13 +128,13 @@ fn has_left(ran: &Ran, (made, printed): (usize, usize)) -> bool {
 }
 
 /// Whether the command reports that this device failed.
-fn is_named(answer: &Result<bool, CliFault>, device: Device) -> bool {
+fn is_named(returned: &Result<bool, CliFault>, device: Device) -> bool {
     match device {
-        Device::List => matches!(answer, Err(CliFault::Read(CommandPath::List))),
-        Device::First => matches!(answer, Err(CliFault::Read(CommandPath::Copy(0)))),
-        Device::Second => matches!(answer, Err(CliFault::Read(CommandPath::Copy(1)))),
-        Device::Out => matches!(answer, Err(CliFault::Write(CommandPath::Out))),
-        Device::Printed => matches!(answer, Err(CliFault::Write(CommandPath::StandardOutput))),
+        Device::List => matches!(returned, Err(CliFault::Read(CommandPath::List))),
+        Device::First => matches!(returned, Err(CliFault::Read(CommandPath::Copy(0)))),
+        Device::Second => matches!(returned, Err(CliFault::Read(CommandPath::Copy(1)))),
+        Device::Out => matches!(returned, Err(CliFault::Write(CommandPath::Out))),
+        Device::Printed => matches!(returned, Err(CliFault::Write(CommandPath::StandardOutput))),
     }
 }
 
@@ -178,7 +178,7 @@ fn failure_is_named(alloc: Global, device: Device, room: usize) -> bool {
     let mut devices = Devices::new(alloc);
     devices.fail_after(device, room);
     match run(alloc, devices) {
-        Ok(ran) => is_named(&ran.answer, device) && has_left(&ran, left_after(device, room)),
+        Ok(ran) => is_named(&ran.returned, device) && has_left(&ran, left_after(device, room)),
         Err(_) => false,
     }
 }
@@ -214,9 +214,9 @@ fn interruptions_are_counted(alloc: Global, device: Device) -> bool {
     let failed = interrupted(alloc, device, 65);
     match (&passed, &failed) {
         (Ok(passed), Ok(failed)) => {
-            matches!(passed.answer, Ok(false))
+            matches!(passed.returned, Ok(false))
                 && has_left(passed, (27, 127))
-                && is_named(&failed.answer, device)
+                && is_named(&failed.returned, device)
                 && has_left(failed, left_after(device, 0))
         }
         _ => false,

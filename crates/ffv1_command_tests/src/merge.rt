@@ -30,13 +30,13 @@ fn file_of(alloc: Global, copies: &[&[u8]], width: u32) -> Option<Vec<u8>> {
 /// What two files come to as streams, and what was written.
 fn merged(alloc: Global, left: &[u8], right: &[u8]) -> (Result<(), HoldFileFault>, Vec<u8>) {
     let mut sink = FromWrite::new(Vec::new(alloc));
-    let answer = join_streams(
+    let returned = join_streams(
         alloc,
         &mut FromRead::new(left),
         &mut FromRead::new(right),
         &mut sink,
     );
-    (answer, sink.into_inner())
+    (returned, sink.into_inner())
 }
 
 /// The file of a holding that the one of a file is joined to, if there is one.
@@ -72,12 +72,12 @@ static COPIES: [&[&[u8]]; 5] = [
 /// Whether two files are refused as streams, and leave no file; or `None` where they leave one, or do not come to what `join`
 /// makes.
 fn is_refused(alloc: Global, left: &[u8], right: &[u8]) -> Option<bool> {
-    let (answer, file) = merged(alloc, left, right);
-    let is_right = match answer {
+    let (returned, file) = merged(alloc, left, right);
+    let is_right = match returned {
         Ok(()) => is_union(alloc, &file, left, right),
         Err(_) => read_back(alloc, &file).is_err(),
     };
-    is_right.then_some(answer.is_err())
+    is_right.then_some(returned.is_err())
 }
 
 /// Whether a file and each of those copies' files, and one of version 1, come to what `join` makes.
@@ -108,8 +108,10 @@ fn streams_come_to_what_join_makes(rt: HostRuntime) {
 
 /// Whether a cut file among two is reported, and what was written is a front of their union's file, without its end.
 fn is_cut_off(alloc: Global, left: &[u8], right: &[u8], union: &[u8]) -> bool {
-    let (answer, file) = merged(alloc, left, right);
-    answer == Err(HoldFileFault::Truncated) && file.len() < union.len() && union.starts_with(&file)
+    let (returned, file) = merged(alloc, left, right);
+    returned == Err(HoldFileFault::Truncated)
+        && file.len() < union.len()
+        && union.starts_with(&file)
 }
 
 /// Whether a cut of the first file at any place is reported beside the second file, as either input.
@@ -172,7 +174,7 @@ fn a_changed_byte_leaves_no_file(rt: HostRuntime) {
 fn has_front(alloc: Global, file: &[u8], right: &[u8], room: usize) -> bool {
     let mut sink = narrow_sink(alloc, room);
     let mut left = FromRead::new(file);
-    let answer = join_streams(alloc, &mut left, &mut FromRead::new(right), &mut sink);
+    let returned = join_streams(alloc, &mut left, &mut FromRead::new(right), &mut sink);
     let lead = if room < 91 {
         91
     } else if room < 145 {
@@ -180,7 +182,7 @@ fn has_front(alloc: Global, file: &[u8], right: &[u8], room: usize) -> bool {
     } else {
         146
     };
-    has_taken(sink, room, file) && answer == Err(HoldFileFault::Write) && left.taken() <= lead
+    has_taken(sink, room, file) && returned == Err(HoldFileFault::Write) && left.taken() <= lead
 }
 
 /// Whether sinks that fail, each after another number of bytes, have those fronts, and no more was read than is needed.
@@ -216,12 +218,12 @@ fn failed(
     });
     let mut whole = FromRead::new(other);
     let mut sink = FromWrite::new(Vec::new(alloc));
-    let answer = if is_second {
+    let returned = if is_second {
         join_streams(alloc, &mut whole, &mut failing, &mut sink)
     } else {
         join_streams(alloc, &mut failing, &mut whole, &mut sink)
     };
-    (answer, sink.into_inner())
+    (returned, sink.into_inner())
 }
 
 /// Whether the failure of a file among two is reported, and what was written is a front of their union's file, without its end.
@@ -232,8 +234,8 @@ fn is_failure_reported(
     union: &[u8],
     is_second: bool,
 ) -> bool {
-    let (answer, front) = failed(alloc, file, other, is_second);
-    answer == Err(HoldFileFault::Read) && front.as_slice() != union && union.starts_with(&front)
+    let (returned, front) = failed(alloc, file, other, is_second);
+    returned == Err(HoldFileFault::Read) && front.as_slice() != union && union.starts_with(&front)
 }
 
 /// Whether a failure of the first file at any place is reported beside the second file, as either input.
@@ -283,11 +285,11 @@ fn interrupted_streams_are_tried_again(rt: HostRuntime) {
 
 /// Whether a file is reported to be of another reel than that of frames of two samples, and nothing is written.
 fn is_of_other_reel(alloc: Global, file: &[u8]) -> bool {
-    let (answer, written) = match file_of(alloc, &[], 2) {
+    let (returned, written) = match file_of(alloc, &[], 2) {
         Some(other) => merged(alloc, file, &other),
         None => (Ok(()), Vec::new(alloc)),
     };
-    answer == Err(HoldFileFault::OtherReel) && written.is_empty()
+    returned == Err(HoldFileFault::OtherReel) && written.is_empty()
 }
 
 #[test]

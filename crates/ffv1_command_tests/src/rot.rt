@@ -10,7 +10,7 @@ use ffv1_vectors::{SUITE_NUMBERS, SuiteCase, SuiteTables, cut, suite_case, zero}
 use std::alloc::Global;
 
 /// Bytes that are cut at a place, or from a place on zeroed for eight bytes; the bytes themselves where there are not so many.
-fn rotten(alloc: Global, bytes: &[u8], place: usize, is_cut: bool) -> Option<Vec<u8>> {
+fn damaged(alloc: Global, bytes: &[u8], place: usize, is_cut: bool) -> Option<Vec<u8>> {
     if is_cut && place < bytes.len() {
         return cut(alloc, bytes, place).ok();
     }
@@ -69,60 +69,62 @@ fn holds_of_original(alloc: Global, made: &Made, holding: &Holding) -> bool {
     }
 }
 
-/// Whether a rotten payload is decoded exactly where it is the original.
-fn is_decoded_as_original(alloc: Global, made: &Made, rotten: &[u8]) -> bool {
+/// Whether a damaged payload is decoded exactly where it is the original.
+fn is_decoded_as_original(alloc: Global, made: &Made, damaged: &[u8]) -> bool {
     match Decoder::new(alloc, &made.record, made.size.0, made.size.1) {
         Ok(decoder) => {
-            decoder.decode_frame(rotten).is_ok() == (rotten == made.payload.as_slice())
+            decoder.decode_frame(damaged).is_ok() == (damaged == made.payload.as_slice())
         }
         Err(_) => false,
     }
 }
 
-/// Whether a rotten payload gives only slices of the original.
-fn gives_slices_of_original(alloc: Global, made: &Made, rotten: &[u8]) -> bool {
+/// Whether a damaged payload gives only slices of the original.
+fn gives_slices_of_original(alloc: Global, made: &Made, damaged: &[u8]) -> bool {
     let Ok(mut holding) = Holding::new(alloc, &made.record, made.size.0, made.size.1) else {
         return false;
     };
-    match holding.take(rotten) {
-        Ok(taken) => { taken.links <= rotten.len() / 8 && holds_of_original(alloc, made, &holding) }
+    match holding.take(damaged) {
+        Ok(taken) => {
+            taken.links <= damaged.len() / 8 && holds_of_original(alloc, made, &holding)
+        }
         Err(_) => false,
     }
 }
 
-/// Whether a rotten payload gives only slices of the original, and is decoded exactly where it is the original.
-fn payload_is_judged(alloc: Global, made: &Made, rotten: &[u8]) -> bool {
-    gives_slices_of_original(alloc, made, rotten) && is_decoded_as_original(alloc, made, rotten)
+/// Whether a damaged payload gives only slices of the original, and is decoded exactly where it is the original.
+fn payload_is_judged(alloc: Global, made: &Made, damaged: &[u8]) -> bool {
+    gives_slices_of_original(alloc, made, damaged) && is_decoded_as_original(alloc, made, damaged)
 }
 
-/// Whether a rotten record is refused by its length or its parity, unless nothing of it has changed.
-fn record_is_judged(alloc: Global, made: &Made, rotten: &[u8]) -> bool {
-    let fault = Setup::read(alloc, rotten, made.size.0, made.size.1).err();
-    if rotten == made.record.as_slice() {
+/// Whether a damaged record is refused by its length or its parity, unless nothing of it has changed.
+fn record_is_judged(alloc: Global, made: &Made, damaged: &[u8]) -> bool {
+    let fault = Setup::read(alloc, damaged, made.size.0, made.size.1).err();
+    if damaged == made.record.as_slice() {
         fault.is_none()
-    } else if rotten.len() < 6 {
+    } else if damaged.len() < 6 {
         fault == Some(SetupFault::TooShort)
     } else {
         fault == Some(SetupFault::Parity)
     }
 }
 
-/// Whether a fault is one that may be reported of a rotten holding file: that it is cut where it is shorter, else one of its
+/// Whether a fault is one that may be reported of a damaged holding file: that it is cut where it is shorter, else one of its
 /// bytes, if any has changed.
-fn is_reported_of(fault: HoldFileFault, file: &[u8], rotten: &[u8]) -> bool {
+fn is_reported_of(fault: HoldFileFault, file: &[u8], damaged: &[u8]) -> bool {
     match fault {
-        _ if rotten.len() < file.len() => fault == HoldFileFault::Truncated,
+        _ if damaged.len() < file.len() => fault == HoldFileFault::Truncated,
         HoldFileFault::Read | HoldFileFault::Memory | HoldFileFault::Write => false,
-        _ => rotten != file,
+        _ => damaged != file,
     }
 }
 
-/// Whether a rotten holding file is reported as cut, or for a fault of its bytes, or is the file of what is read of it:
+/// Whether a damaged holding file is reported as cut, or for a fault of its bytes, or is the file of what is read of it:
 /// nothing of it has changed, or a digest.
-fn file_is_judged(alloc: Global, file: &[u8], rotten: &[u8]) -> bool {
-    match read_hold(alloc, &mut FromRead::new(rotten)) {
-        Ok(holding) => is_file_of(alloc, &holding, rotten),
-        Err(fault) => is_reported_of(fault, file, rotten),
+fn file_is_judged(alloc: Global, file: &[u8], damaged: &[u8]) -> bool {
+    match read_hold(alloc, &mut FromRead::new(damaged)) {
+        Ok(holding) => is_file_of(alloc, &holding, damaged),
+        Err(fault) => is_reported_of(fault, file, damaged),
     }
 }
 
@@ -146,12 +148,12 @@ enum Part<'a> {
     File(&'a [u8]),
 }
 
-/// Whether a part of a frame is judged rightly where it is rotten.
-fn part_is_judged(alloc: Global, made: &Made, part: Part<'_>, rotten: &[u8]) -> bool {
+/// Whether a part of a frame is judged rightly where it is damaged.
+fn part_is_judged(alloc: Global, made: &Made, part: Part<'_>, damaged: &[u8]) -> bool {
     match part {
-        Part::Payload => payload_is_judged(alloc, made, rotten),
-        Part::Record => record_is_judged(alloc, made, rotten),
-        Part::File(file) => file_is_judged(alloc, file, rotten),
+        Part::Payload => payload_is_judged(alloc, made, damaged),
+        Part::Record => record_is_judged(alloc, made, damaged),
+        Part::File(file) => file_is_judged(alloc, file, damaged),
     }
 }
 
@@ -163,8 +165,8 @@ fn is_judged_everywhere(
     is_cut: bool,
 ) -> bool {
     for place in 0..bytes.len() {
-        let is_judged = match rotten(alloc, bytes, place, is_cut) {
-            Some(rotten) => part_is_judged(alloc, made, part, &rotten),
+        let is_judged = match damaged(alloc, bytes, place, is_cut) {
+            Some(damaged) => part_is_judged(alloc, made, part, &damaged),
             None => false,
         };
         if !is_judged {
@@ -225,6 +227,6 @@ fn count_all_judged(alloc: Global) -> usize {
 }
 
 #[test]
-fn rotten_bytes_are_judged(rt: HostRuntime) {
+fn damaged_bytes_are_judged(rt: HostRuntime) {
     assert!(rt; count_all_judged(rt.alloc()) == 1343);
 }

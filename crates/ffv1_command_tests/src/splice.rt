@@ -265,13 +265,13 @@ fn copies_of_another_length_are_reported(rt: HostRuntime) {
 fn reports(
     alloc: Global,
     (one, other): (&[u8], &[u8]),
-    answer: bool,
+    returned: bool,
     payload: &[u8],
     lines: &str,
 ) -> bool {
     let (mut out, mut printed) = (Vec::new(alloc), Vec::new(alloc));
-    let answered = run_splice(alloc, &mut [one, other], &mut out, &mut printed);
-    answered.ok() == Some(answer)
+    let returned = run_splice(alloc, &mut [one, other], &mut out, &mut printed);
+    returned.ok() == Some(returned)
         && out.as_slice() == payload
         && printed.as_slice() == lines.as_bytes()
 }
@@ -334,12 +334,12 @@ static REPORTED: [Reported; 7] = [
 
 /// Whether the command returns, writes and prints for two changed copies what the row has.
 fn reports_of_changed(alloc: Global, reported: &Reported) -> bool {
-    let &(one, other, answer, payload, lines) = reported;
+    let &(one, other, returned, payload, lines) = reported;
     let copies = (changed(one), changed(other));
     reports(
         alloc,
         (&copies.0, &copies.1),
-        answer,
+        returned,
         &changed(payload),
         lines,
     )
@@ -357,8 +357,8 @@ fn the_command_writes_and_reports_the_splice(rt: HostRuntime) {
 fn other_length_is_reported(alloc: Global) -> bool {
     let (mut out, mut printed) = (Vec::new(alloc), Vec::new(alloc));
     let mut copies = [RECORDED.as_slice(), &RECORDED[1..]];
-    let answered = run_splice(alloc, &mut copies, &mut out, &mut printed);
-    matches!(answered, Err(CliFault::Splice(CommandPath::Copy(1))))
+    let returned = run_splice(alloc, &mut copies, &mut out, &mut printed);
+    matches!(returned, Err(CliFault::Splice(CommandPath::Copy(1))))
         && out.is_empty()
         && printed.is_empty()
 }

@@ -64,8 +64,8 @@ fn file_of(alloc: Global, frame: &Made, mut copies: [&[u8]; 2]) -> Option<Vec<u8
 fn restores(alloc: Global, mut file: &[u8], wanted: &[u8]) -> bool {
     let mut payload: Vec<u8> = Vec::new(alloc);
     let mut printed: Vec<u8> = Vec::new(alloc);
-    let answer = run_restore(alloc, &mut file, &mut payload, &mut printed);
-    answer.is_ok() && payload.as_slice() == wanted
+    let returned = run_restore(alloc, &mut file, &mut payload, &mut printed);
+    returned.is_ok() && payload.as_slice() == wanted
 }
 
 /// Whether these samples are decoded of a frame.
@@ -74,7 +74,7 @@ fn decodes(alloc: Global, made: &Made, wanted: &[u8]) -> bool {
     let mut samples: Vec<u8> = Vec::new(alloc);
     let mut printed: Vec<u8> = Vec::new(alloc);
     let (width, height) = made.size;
-    let answer = run_decode(
+    let returned = run_decode(
         alloc,
         &mut record,
         width,
@@ -83,7 +83,7 @@ fn decodes(alloc: Global, made: &Made, wanted: &[u8]) -> bool {
         &mut samples,
         &mut printed,
     );
-    answer.is_ok() && samples.as_slice() == wanted
+    returned.is_ok() && samples.as_slice() == wanted
 }
 
 /// How many samples of a tile stand before that at a place of the plane, where the tile covers the place.
@@ -235,22 +235,22 @@ fn burst_at(alloc: Global, payload: &[u8], byte: usize) -> Option<Vec<u8>> {
 }
 
 /// A copy of a frame, with one more burst: in the content of this tile.
-fn hurt_more(alloc: Global, payload: &[u8], copy: &[u8], tile: usize) -> Option<Vec<u8>> {
+fn damaged_more(alloc: Global, payload: &[u8], copy: &[u8], tile: usize) -> Option<Vec<u8>> {
     let (start, _end) = place_of(payload, tile)?;
     burst_at(alloc, copy, start.wrapping_add(4))
 }
 
 /// A copy of a frame with a burst in the contents of these tiles.
-fn hurt_in(alloc: Global, payload: &[u8], tiles: &[usize]) -> Option<Vec<u8>> {
+fn damaged_in(alloc: Global, payload: &[u8], tiles: &[usize]) -> Option<Vec<u8>> {
     let mut copy = payload.to_vec(alloc).ok()?;
     for tile in tiles {
-        copy = hurt_more(alloc, payload, &copy, *tile)?;
+        copy = damaged_more(alloc, payload, &copy, *tile)?;
     }
     Some(copy)
 }
 
 /// A copy of a frame with a burst in the error status and the parity of tile 0.
-fn hurt_after_first(alloc: Global, payload: &[u8]) -> Option<Vec<u8>> {
+fn damaged_after_first(alloc: Global, payload: &[u8]) -> Option<Vec<u8>> {
     let (_start, end) = place_of(payload, 0)?;
     burst_at(alloc, payload, end.wrapping_sub(5))
 }
@@ -276,8 +276,8 @@ fn are_restored_in_turn(alloc: Global, frame: &Made, one: &[u8], three: &[u8]) -
 
 /// Whether a frame is restored of a copy with bursts in all tiles but the first, and of one with a burst in the first.
 fn bursts_are_restored(alloc: Global, frame: &Made) -> bool {
-    let one = hurt_in(alloc, &frame.payload, &[1, 2, 3]);
-    let three = hurt_after_first(alloc, &frame.payload);
+    let one = damaged_in(alloc, &frame.payload, &[1, 2, 3]);
+    let three = damaged_after_first(alloc, &frame.payload);
     match (&one, &three) {
         (Some(one), Some(three)) => are_restored_in_turn(alloc, frame, one, three),
         _ => false,
@@ -476,8 +476,8 @@ fn is_merged(alloc: Global, left: &[u8], right: &[u8], wanted: &[u8]) -> bool {
 
 /// Whether the files of a copy of a frame with bursts in tiles 0 and 3, and of one with bursts in the others are.
 fn halves_are_alike(alloc: Global, frame: &Made) -> bool {
-    let a = hurt_in(alloc, &frame.payload, &[0, 3]);
-    let b = hurt_in(alloc, &frame.payload, &[1, 2]);
+    let a = damaged_in(alloc, &frame.payload, &[0, 3]);
+    let b = damaged_in(alloc, &frame.payload, &[1, 2]);
     match (&a, &b) {
         (Some(a), Some(b)) => files_are_alike(alloc, frame, a, b),
         _ => false,

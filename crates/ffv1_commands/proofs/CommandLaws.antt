@@ -15,8 +15,8 @@ use Rattle.ffv1_hold.specs.HoldingText.{holding_text}
 use Rattle.ffv1_hold.specs.declared.version.Version.TheVariants.{Second}
 use Rattle.ffv1_holding.specs.Joins.{joined_all}
 use Rattle.ffv1_holding.specs.Originals.{AreCopiesOfSlices, HoldsExactly}
-use Rattle.ffv1_holding.specs.Standing.{restored_payload, IsLeastUnsettled}
-use Rattle.ffv1_hold.proofs.Answered.{refused_outside}
+use Rattle.ffv1_holding.specs.TileState.{restored_payload, IsLeastUnsettled}
+use Rattle.ffv1_hold.proofs.Returned.{refused_outside}
 use Rattle.ffv1_holding.proofs.ExactlyHeld.{exactly_held, near_are_copies}
 use Rattle.ffv1_hold.proofs.PlanSteps.{one_reel}
 use Rattle.ffv1_holding.proofs.Restored.{restored_original}
@@ -60,7 +60,7 @@ whole_inputs (c ∷ cs) (b ∷ bs) each =
 
 -- a file is that of one holding
 one_holding : (g h : Contents) (file : List ℕ) → IsHoldingFile (Some file) g → file ≡ holding_text h → HasFile h → g ≡ h
-one_holding g h file is text has = one_text g h file is.sound has.sound is.fits.record' has.fits.record'
+one_holding g h file is text has = one_text g h file is.well_formed has.well_formed is.fits.record' has.fits.record'
     (is.version, is.fits.stated, is.text) (Second, has.fits.stated, text)
 
 -- ---- a tree of commands
@@ -181,7 +181,7 @@ module _ (config : List ℕ) (width height : ℕ) (copies others : List (List �
 pub made_of_copies : MadeOfCopies
 made_of_copies config width height copies file is =
     let of : IsFileOf config width height copies file = made config width height copies file is in
-    (of.reel, of.of_record, record { version = Second; text = of.text; sound = of.has.sound; fits = of.has.fits })
+    (of.reel, of.of_record, record { version = Second; text = of.text; well_formed = of.has.well_formed; fits = of.has.fits })
 
 pub same_copies_make_one_holding : SameCopiesMakeOneHolding
 same_copies_make_one_holding config width height copies others file other h g is also same h_is g_is =
@@ -204,7 +204,7 @@ no_fault : (h : Contents) (file : List ℕ) → file ≡ holding_text h → HasF
     → IsHoldingFault (paths.Hold 0) (Some file) (faults.HoldFile fault) → ⊥
 no_fault h file text has fault stops =
     let own : IsFaultOf (holding_text h) fault = subst (λ (t : List ℕ). IsFaultOf t fault) text stops in
-    own.0 (refused_outside Second h has.sound has.fits fault own.1.0 own.1.1)
+    own.0 (refused_outside Second h has.well_formed has.fits fault own.1.0 own.1.1)
 
 module _ (config : List ℕ) (width height : ℕ) (setup : SetupValue) (copies : List (List ℕ)) (file original : List ℕ) (slices : List (List ℕ))
     (is_setup : IsSetupOf config width height setup) (is : IsFileOf config width height copies file)

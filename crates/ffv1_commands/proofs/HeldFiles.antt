@@ -21,7 +21,7 @@ module _ (a b : ReadLog) where
       record {
         version = read.file.version;
         text = Consumes-whole _ _ text (λ reported. reported ≡ text) read.file.taken read.at_end refl;
-        sound = read.sound;
+        well_formed = read.well_formed;
         fits = read.file.fits;
       }
 

@@ -7,7 +7,7 @@ use Rattle.ffv1_texts.proofs.LineSteps.{lines_are_one}
 use Rattle.ffv1_mend.specs.Laws.{IsVouched}
 use Rattle.ffv1_mend.specs.Mended.{MendedValue, is_good}
 use Rattle.ffv1_stretches.specs.Cells.{cells_of, versions_in}
-use Rattle.ffv1_stretches.specs.Laws.{AreOutcomes, IsReordered}
+use Rattle.ffv1_stretches.specs.Laws.{AreStretchMends, IsReordered}
 use Rattle.ffv1_stretches.specs.Lines.{mend_text}
 use Rattle.ffv1_stretches.specs.Listed.{AreListed, AreStretches, IsFirstBadLine}
 use Rattle.ffv1_stretches.specs.Passes.{bytes_of}
@@ -96,10 +96,10 @@ listed_made list copies made is =
       is.mended,
       listed,
       record {
-        outcomes = subst (λ files. AreOutcomes files is.stretches is.mended) whole kept.0;
+        outcomes = subst (λ files. AreStretchMends files is.stretches is.mended) whole kept.0;
         file = is.wrote;
         printed = is.printed ∙ sym kept.1 ∙ ap (λ files. mend_text 1 files is.stretches is.mended) whole;
-        answer = is.answer;
+        returned = is.returned;
       },
     )
 
@@ -116,7 +116,7 @@ any_order_makes_one_file list other_list copies others stretches reordered one o
     let (again, of_other) = listed_is_made other_list others reordered other other_listed other_makes in
     let same : again ≡ mended = sym (any_order_mends copies others stretches reordered mended again moved of_one.outcomes of_other.outcomes) in
     let alike = subst (λ all. IsMadeOfStretches others reordered all other) same of_other in
-    (of_one.file ∙ sym alike.file, of_one.answer ∙ sym alike.answer, (mended, of_one, alike))
+    (of_one.file ∙ sym alike.file, of_one.returned ∙ sym alike.returned, (mended, of_one, alike))
 
 -- ---- what is good
 
@@ -141,7 +141,7 @@ true_is_vouched list copies stretches made listed is reported =
       mended,
       of_made,
       all_good (λ stretch one. IsVouched stretch.kind (versions_in (cells_of copies stretch)) one.bytes) stretches mended
-          (good_stretches_are_vouched copies stretches mended of_made.outcomes) (sym of_made.answer ∙ reported),
+          (good_stretches_are_vouched copies stretches mended of_made.outcomes) (sym of_made.returned ∙ reported),
     )
 
 -- ---- the original
@@ -177,7 +177,7 @@ mend_gives_the_original list copies stretches mended originals listed outcomes h
   made = λ made is reported.
       let (own, of_made) = listed_is_made list copies stretches made listed is in
       let same : own ≡ mended = any_order_mends copies copies stretches stretches own mended (reordered_none copies stretches) of_made.outcomes outcomes in
-      let good = ap (list_all (λ (one : MendedValue). is_good one.state)) (sym same) ∙ sym of_made.answer ∙ reported in
+      let good = ap (list_all (λ (one : MendedValue). is_good one.state)) (sym same) ∙ sym of_made.returned ∙ reported in
       of_made.file ∙ ap (λ all. bytes_of all) same ∙ original_file_is_mended copies stretches mended originals outcomes have good;
   refused = only_devices list (map Some copies) stretches (subst (λ n. AreStretches n list stretches) (sym (length-map copies Some)) listed);
 }

@@ -179,7 +179,7 @@ module _ (a b : ReadLog) (old new : List ReadLog) (o o' p p' : WriteLog) where
       all = some stretches stretches all.files all.mended list (begin_all old new all.files all.read) all.mends;
       wrote = all.wrote.bytes';
       printed = all.printed.bytes';
-      answer = all.answer;
+      returned = all.returned;
     };
     err = tt;
     names = tt;

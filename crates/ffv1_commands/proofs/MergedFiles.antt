@@ -9,7 +9,7 @@ use Rattle.ffv1_hold.proofs.HeldEntries.{holding-joined}
 use Rattle.ffv1_hold.specs.HoldingText.{head_text, begun_text, file_text, holding_text}
 use Rattle.ffv1_hold.specs.declared.version.Version.TheVariants.{Second}
 use Rattle.ffv1_hold.specs.FileFaults.{IsOutside, IsFaultOf}
-use Rattle.ffv1_hold.specs.MergedStreams.{Inputs, InputRefuses, OneRefuses, MergeRefuses, EntriesPass, UnionPasses, ReadsAll, ReadsSoFar, ReadsOtherHeads, WritesUnion, WritesNoEnd, WritesFrontSoFar, AnswersOther, StreamBegins, BeginsWithPart}
+use Rattle.ffv1_hold.specs.MergedStreams.{Inputs, InputRefuses, OneRefuses, MergeRefuses, EntriesPass, UnionPasses, ReadsAll, ReadsSoFar, ReadsOtherHeads, WritesUnion, WritesNoEnd, WritesFrontSoFar, ReturnsOther, StreamBegins, BeginsWithPart}
 use Rattle.ffv1_hold.specs.MergeLogs.{Devices}
 use Rattle.ffv1_hold.specs.declared.file_fault.HoldFileFault.{HoldFileFault}
 use Rattle.ffv1_hold.specs.declared.file_fault.HoldFileFault.TheVariants as files
@@ -18,14 +18,14 @@ use Rattle.ffv1_hold.proofs.MergeStarts.{all_part}
 use Rattle.ffv1_commands.specs.Fault.{NamesPath, of_merge}
 use Rattle.ffv1_commands.specs.Paths.{IsMergePath}
 use Rattle.ffv1_commands.specs.Holdings.{IsHoldingFile}
-use Rattle.ffv1_commands.specs.MergeText.{MergesFiles, BeginsUnion, HeadsDiffer, IsFaultOfEither, IsMergeFault, LeavesEntries, MergeLeaves, AnswersOtherHeads, inputs_of, LeavesFront, ReportsMerge}
+use Rattle.ffv1_commands.specs.MergeText.{MergesFiles, BeginsUnion, HeadsDiffer, IsFaultOfEither, IsMergeFault, LeavesEntries, MergeLeaves, ReturnsOtherHeads, inputs_of, LeavesFront, ReportsMerge}
 use Rattle.ffv1_commands.specs.declared.fault.CliFault.{CliFault}
 
 holding_file : (old new : Option (List ℕ)) (h : Contents) → ReadsAll old new h → IsHoldingFile old h
 holding_file old new h a = record {
   version = a.file.version;
   text = Consumes-whole old new (file_text a.file.version h) (λ reported. reported ≡ file_text a.file.version h) a.file.taken a.at_end refl;
-  sound = a.sound;
+  well_formed = a.well_formed;
   fits = a.file.fits;
 }
 
@@ -44,7 +44,7 @@ module _ (i : Inputs) (w v : Option (List ℕ)) where
     left_file = holding_file _ _ u.left u.read.left_read;
     right_file = holding_file _ _ u.right u.read.right_read;
     same = u.read.same;
-    has_file = record { sound = holding-joined u.left u.right u.read.same u.read.left_read.sound u.read.right_read.sound; fits = u.fits };
+    has_file = record { well_formed = holding-joined u.left u.right u.read.same u.read.left_read.well_formed u.read.right_read.well_formed; fits = u.fits };
     written = u.written;
   }
 
@@ -154,11 +154,11 @@ module _ {T : Type 0} (old new : Devices) where
 
 -- ---- what the command returns
 
-outside_other : (f : HoldFileFault) → IsOutside f → AnswersOtherHeads (Err (of_merge f))
+outside_other : (f : HoldFileFault) → IsOutside f → ReturnsOtherHeads (Err (of_merge f))
 outside_other files.Read out = tt
 outside_other files.Memory out = tt
 outside_other fault out = absurd out
 
-pub answers_other_heads : (f : HoldFileFault) → AnswersOther (Err f) → AnswersOtherHeads (Err (of_merge f))
-answers_other_heads f (inl out) = outside_other f out
-answers_other_heads f (inr is) = subst (λ (g : HoldFileFault). AnswersOtherHeads (Err (of_merge g))) (sym is) refl
+pub returns_other_heads : (f : HoldFileFault) → ReturnsOther (Err f) → ReturnsOtherHeads (Err (of_merge f))
+returns_other_heads f (inl out) = outside_other f out
+returns_other_heads f (inr is) = subst (λ (g : HoldFileFault). ReturnsOtherHeads (Err (of_merge g))) (sym is) refl

@@ -3,7 +3,7 @@ use Rattle.std.proofs.Common.{◌≡◌, ℕ, List, length, Result, Ok, Err, inl
 use Rattle.ffv1_devices.specs.Logs.{ReadLog, WriteLog, Writes}
 use Rattle.ffv1_holding.specs.Contents.{Contents}
 use Rattle.ffv1_hold.specs.FileFaults.{ReadsHolding}
-use Rattle.ffv1_holding.specs.Standing.{AreSettled, restored_payload}
+use Rattle.ffv1_holding.specs.TileState.{AreSettled, restored_payload}
 use Rattle.ffv1_holding.specs.Refusals.{IsRefusal}
 use Rattle.ffv1_holding.specs.declared.restore.RestoreFault.{RestoreFault}
 use Rattle.ffv1_holding.specs.declared.restore.RestoreFault.TheVariants as refusals

@@ -61,13 +61,13 @@ module _ (a b c d : ReadLog) (x y : WriteLog) where
       some (Reads c d) (λ bytes went. begins c.remaining d.remaining bytes went.bytes') (Writes x y) (Appends x.contents y.contents) (λ text wrote. wrote.bytes') ranges front list scan
 
   pub scan_of_bytes : (r : Result Bool CliFault) → ScansDevices r a b c d x y → ScanOfBytes r a.remaining c.remaining x.contents y.contents
-  scan_of_bytes (Ok sound) (ranges, list, (scan, answer)) = record {
+  scan_of_bytes (Ok undamaged) (ranges, list, (scan, returned)) = record {
     ok = record {
       ranges = ranges;
       list' = list_of_bytes _ a b list;
       scan = reported_as ranges ranges (Reads c d) (InputBegins c.remaining) (Writes x y) (Appends x.contents y.contents)
           (λ bytes went. begins c.remaining d.remaining bytes went.bytes') (λ text wrote. wrote.bytes') scan;
-      answer = answer;
+      returned = returned;
     };
     err = tt;
   }

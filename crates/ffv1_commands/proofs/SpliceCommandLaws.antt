@@ -30,7 +30,7 @@ pub record IsMadeBy (copies : List (List ℕ)) (spliced : SplicedValue) (made : 
   pub is_splice : IsSpliceOf copies spliced
   pub file : made.file ≡ spliced.payload
   pub printed : made.printed ≡ splice_text spliced
-  pub answer : IsTrue made.answer ↔ IsGivenBack spliced
+  pub returned : IsTrue made.returned ↔ IsGivenBack spliced
 
 pub made_by : (copies : List (List ℕ)) (made : Made) → SplicesTo copies made → (spliced : SplicedValue) × IsMadeBy copies spliced made
 made_by copies made is = (
@@ -39,15 +39,15 @@ made_by copies made is = (
     is_splice = subst (λ (all : List (List ℕ)). IsSpliceOf all is.spliced) (sym (whole_inputs copies is.copies is.read)) is.is_splice;
     file = is.payload;
     printed = is.printed;
-    answer = is.given_back;
+    returned = is.given_back;
   },
 )
 
-same_answer : (a b : Bool) → (IsTrue a → IsTrue b) → (IsTrue b → IsTrue a) → a ≡ b
-same_answer true true on back = refl
-same_answer true false on back = sym (on refl)
-same_answer false true on back = back refl
-same_answer false false on back = refl
+same_result : (a b : Bool) → (IsTrue a → IsTrue b) → (IsTrue b → IsTrue a) → a ≡ b
+same_result true true on back = refl
+same_result true false on back = sym (on refl)
+same_result false true on back = back refl
+same_result false false on back = refl
 
 -- of one splice one is made
 one_made : (copies others : List (List ℕ)) (spliced : SplicedValue) (one other : Made) → IsMadeBy copies spliced one → IsMadeBy others spliced other
@@ -55,9 +55,9 @@ one_made : (copies others : List (List ℕ)) (spliced : SplicedValue) (one other
 one_made copies others spliced one other h k =
     let file : one.file ≡ other.file = h.file ∙ sym k.file in
     let printed : one.printed ≡ other.printed = h.printed ∙ sym k.printed in
-    let answer : one.answer ≡ other.answer =
-    same_answer one.answer other.answer (λ t. k.answer.1 (h.answer.0 t)) (λ t. h.answer.1 (k.answer.0 t)) in
-    λ i. record { file = file i; printed = printed i; answer = answer i }
+    let returned : one.returned ≡ other.returned =
+    same_result one.returned other.returned (λ t. k.returned.1 (h.returned.0 t)) (λ t. h.returned.1 (k.returned.0 t)) in
+    λ i. record { file = file i; printed = printed i; returned = returned i }
 
 pub same_copies_make_one_splice : SameCopiesMakeOneSplice
 same_copies_make_one_splice copies others one other same h k =
@@ -104,8 +104,8 @@ module _ (original : List ℕ) (copies : List (List ℕ)) (spliced : SplicedValu
   whole_made made by =
       let file : made.file ≡ original = by.file ∙ given.payload in
       let printed : made.printed ≡ (whole_of original).printed = by.printed ∙ original_text in
-      let answer : made.answer ≡ true = by.answer.1 is_given_back in
-      λ i. record { file = file i; printed = printed i; answer = answer i }
+      let returned : made.returned ≡ true = by.returned.1 is_given_back in
+      λ i. record { file = file i; printed = printed i; returned = returned i }
 
 -- copies of one length are refused by devices alone
 only_devices : (copies : List (List ℕ)) (size : ℕ) → ((i : ℕ) → i < length copies → length (get_or copies i []) ≡ size)
@@ -130,7 +130,7 @@ gives_if_true : (original : List ℕ) (copies : List (List ℕ)) → ((i : ℕ) 
 gives_if_true original copies one given = record {
   made = λ made is reported.
       let by = made_by copies made is in
-      by.1.file ∙ given by.0 by.1.is_splice (by.1.answer.0 reported);
+      by.1.file ∙ given by.0 by.1.is_splice (by.1.returned.0 reported);
   refused = only_devices copies (length original) one;
 }
 

@@ -39,9 +39,9 @@ length_refused copies out output f =
 module _ (copies : List (List ℕ)) (out out' output output' : WriteLog) (spliced : SplicedValue) (is : IsSpliceOf copies spliced) (file text : List ℕ)
     (whole : file ≡ spliced.payload) (lines : text ≡ splice_text spliced) where
   -- the splice and its lines were written
-  pub splices : (answer : Bool) → IsTrue answer ↔ IsGivenBack spliced → Writes out out' file → Writes output output' text
-      → WritesSplice copies out out' output output' answer
-  splices answer given wrote printed = record {
+  pub splices : (returned : Bool) → IsTrue returned ↔ IsGivenBack spliced → Writes out out' file → Writes output output' text
+      → WritesSplice copies out out' output output' returned
+  splices returned given wrote printed = record {
     spliced = spliced;
     is_splice = is;
     payload = subst (Writes out out') whole wrote;
@@ -105,7 +105,7 @@ module _ {C : Type 0} (remaining : C → Option (List ℕ)) (old new : List C) (
     refused_bytes fault stops = absurd stops
 
   pub splice_of_bytes : (r : Result Bool CliFault) → ReportsSplice remaining r old new out out' output output' → OfBytes r
-  splice_of_bytes (Ok answer) (copies, taken, wrote) = record {
+  splice_of_bytes (Ok returned) (copies, taken, wrote) = record {
     ok = record {
       copies = copies;
       spliced = wrote.spliced;

@@ -8,4 +8,4 @@ use Rattle.ffv1_commands.proofs.SpliceCommandLaws.{made_by}
 pub true_is_whole : TrueIsWhole
 true_is_whole copies made is reported =
     let by = made_by copies made is in
-    subst IsWholeFrame (sym by.1.file) (given_back_is_whole copies by.0 by.1.is_splice (by.1.answer.0 reported))
+    subst IsWholeFrame (sym by.1.file) (given_back_is_whole copies by.0 by.1.is_splice (by.1.returned.0 reported))

@@ -20,12 +20,12 @@ use Rattle.ffv1_commands.specs.declared.path.CommandPath.TheVariants as paths
 pub record IsHoldingFile (input : Option (List ℕ)) (h : Contents) : Type 0 where
   pub version : Version
   pub text : HasBytes input (file_text version h)
-  pub sound : IsHolding h
+  pub well_formed : IsHolding h
   pub fits : FitsInFile version h
 
 -- A holding that has a file of version 2: it is one, and it and its record are within their limits.
 pub record HasFile (h : Contents) : Type 0 where
-  pub sound : IsHolding h
+  pub well_formed : IsHolding h
   pub fits : FitsInFile Second h
 
 -- Why the file that is this path of the command gave no holding. A holding file's fault is that of the input's bytes.

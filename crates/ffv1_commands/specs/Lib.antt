@@ -42,7 +42,7 @@ pub use Rattle.ffv1_holding.specs.Originals
 pub use Rattle.ffv1_hold.specs.HoldingText
 pub use Rattle.ffv1_hold.specs.FileFaults
 pub use Rattle.ffv1_holding.specs.Joins
-pub use Rattle.ffv1_holding.specs.Standing
+pub use Rattle.ffv1_holding.specs.TileState
 pub use Rattle.ffv1_holding.specs.Refusals
 pub use Rattle.ffv1_hold.specs.Saving
 pub use Rattle.ffv1_plane.specs.Picture

@@ -61,7 +61,7 @@ pub record MendsFiles (list : Option (List ℕ)) (copies : List (Option (List �
   pub all : MendsSome list copies stretches stretches files mended
   pub wrote : Appends out_before out_after (bytes_of mended)
   pub printed : Appends printed_before printed_after (mend_text 1 files stretches mended)
-  pub answer : good ≡ list_all (λ one. is_good one.state) mended
+  pub returned : good ≡ list_all (λ one. is_good one.state) mended
 
 -- why the list of so many copies lists no stretches
 abbrev pub IsNoList : ℕ → Option (List ℕ) → CliFault → Type 0

@@ -85,20 +85,20 @@ MergeLeaves left right out_before out_after _ = LeavesEntries left right out_bef
 -- ---- what the command returns
 
 -- what it returns for the files of two holdings of one reel whose union is this
-abbrev pub AnswersFiles : Contents → Result (Unit {0}) CliFault → Type 0
-AnswersFiles union (Ok _) = Unit {0}
-AnswersFiles union (Err (faults.Read path)) = Unit {0}
-AnswersFiles union (Err (faults.Write path)) = Unit {0}
-AnswersFiles union (Err faults.Memory) = Unit {0}
-AnswersFiles union (Err (faults.HoldFile fault)) = (fault ≡ files.TooLong) × (file_limit < length (holding_text union))
-AnswersFiles union (Err _) = ⊥
+abbrev pub ReturnsFiles : Contents → Result (Unit {0}) CliFault → Type 0
+ReturnsFiles union (Ok _) = Unit {0}
+ReturnsFiles union (Err (faults.Read path)) = Unit {0}
+ReturnsFiles union (Err (faults.Write path)) = Unit {0}
+ReturnsFiles union (Err faults.Memory) = Unit {0}
+ReturnsFiles union (Err (faults.HoldFile fault)) = (fault ≡ files.TooLong) × (file_limit < length (holding_text union))
+ReturnsFiles union (Err _) = ⊥
 
 -- what it returns for inputs that begin with heads of two reels
-abbrev pub AnswersOtherHeads : Result (Unit {0}) CliFault → Type 0
-AnswersOtherHeads (Err (faults.HoldFile fault)) = fault ≡ files.OtherReel
-AnswersOtherHeads (Err (faults.Read path)) = Unit {0}
-AnswersOtherHeads (Err faults.Memory) = Unit {0}
-AnswersOtherHeads _ = ⊥
+abbrev pub ReturnsOtherHeads : Result (Unit {0}) CliFault → Type 0
+ReturnsOtherHeads (Err (faults.HoldFile fault)) = fault ≡ files.OtherReel
+ReturnsOtherHeads (Err (faults.Read path)) = Unit {0}
+ReturnsOtherHeads (Err faults.Memory) = Unit {0}
+ReturnsOtherHeads _ = ⊥
 
 -- ---- over the logs of the devices
 

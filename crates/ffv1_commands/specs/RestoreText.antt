@@ -4,7 +4,7 @@ use Rattle.std.specs.Fmt.{decimal}
 use Rattle.std.specs.Io.KnownBytes.{Appends}
 use Rattle.ffv1_devices.specs.Logs.{ReadLog, WriteLog, Writes}
 use Rattle.ffv1_holding.specs.Contents.{Contents}
-use Rattle.ffv1_holding.specs.Standing.{AreSettled, restored_payload}
+use Rattle.ffv1_holding.specs.TileState.{AreSettled, restored_payload}
 use Rattle.ffv1_holding.specs.Refusals.{IsRefusal}
 use Rattle.ffv1_hold.specs.FileFaults.{ReadsHolding}
 use Rattle.ffv1_holding.specs.declared.restore.RestoreFault.TheVariants as refusals

@@ -7,7 +7,7 @@ use Rattle.ffv1_devices.specs.Logs.{ReadLog, WriteLog}
 use Rattle.ffv1_scan.specs.declared.ranges.ByteRange.{ByteRange}
 use Rattle.ffv1_scan.specs.declared.scanning.ScanFault.TheVariants as scans
 use Rattle.ffv1_scan.specs.Ranges.{AreRanges, IsFirstWrong}
-use Rattle.ffv1_scan.specs.Verdicts.{is_sound}
+use Rattle.ffv1_scan.specs.Verdicts.{is_undamaged}
 use Rattle.ffv1_scan.specs.Scans.{ScansFront, ScansRanges}
 use Rattle.ffv1_commands.specs.Devices.{InputBegins, IsUnread, WritesFront}
 use Rattle.ffv1_commands.specs.Lists.{ReadsList, IsList}
@@ -40,8 +40,8 @@ StopsAtRange list_old list_new file_old file_new out_old out_new _ = ⊥
 
 -- All ranges were scanned; or the list gave none, and neither the file nor the output was touched; or the scan stopped at a range.
 abbrev pub ScansDevices : Result Bool CliFault → (list_old list_new file_old file_new : ReadLog) (out_old out_new : WriteLog) → Type 0
-ScansDevices (Ok sound) list_old list_new file_old file_new out_old out_new =
-    ScansListed list_old list_new (λ ranges. ScansRanges ranges (Ok sound) file_old file_new out_old out_new)
+ScansDevices (Ok undamaged) list_old list_new file_old file_new out_old out_new =
+    ScansListed list_old list_new (λ ranges. ScansRanges ranges (Ok undamaged) file_old file_new out_old out_new)
 ScansDevices (Err fault) list_old list_new file_old file_new out_old out_new =
     (IsFaultOfRanges list_old list_new fault × (file_new ≡ file_old) × (out_new ≡ out_old))
     ⊎ StopsAtRange list_old list_new file_old file_new out_old out_new fault
@@ -50,11 +50,11 @@ ScansDevices (Err fault) list_old list_new file_old file_new out_old out_new =
 
 -- The lines of all ranges were printed, each judged as its bytes alone, and the command returned whether each is whole, has a link and
 -- has all its links pass.
-pub record ScansFile (list file before after : Option (List ℕ)) (sound : Bool) : Type 0 where
+pub record ScansFile (list file before after : Option (List ℕ)) (undamaged : Bool) : Type 0 where
   pub ranges : List ByteRange
   pub list' : IsList (λ text. AreRanges text ranges) list
   pub scan : ScansFront ranges ranges (InputBegins file) (Appends before after)
-  pub answer : sound ≡ list_all is_sound scan.verdicts
+  pub returned : undamaged ≡ list_all is_undamaged scan.verdicts
 
 -- The ranges of a front were judged, and this was printed.
 pub record ScansSome (list file : Option (List ℕ)) (Prints : List ℕ → Type 0) : Type 0 where

@@ -16,11 +16,11 @@ use Rattle.ffv1_commands.specs.declared.fault.CliFault.{CliFault}
 pub record Made : Type 0 where
   pub file : List ℕ
   pub printed : List ℕ
-  pub answer : Bool
+  pub returned : Bool
 
 -- The command makes this of copies with these bytes.
 abbrev pub SplicesTo : List (List ℕ) → Made → Type 0
-SplicesTo copies made = SplicesCopies (map Some copies) (Some []) (Some made.file) (Some []) (Some made.printed) made.answer
+SplicesTo copies made = SplicesCopies (map Some copies) (Some []) (Some made.file) (Some []) (Some made.printed) made.returned
 
 -- the line of a link that is settled
 abbrev pub settled_line : LinkValue → List ℕ
@@ -28,7 +28,7 @@ settled_line link = standing_line (record { start = link.start; end = link.start
 
 -- The original itself, a settled line for each of its links from its end, and `end whole`.
 abbrev pub whole_of : List ℕ → Made
-whole_of original = record { file = original; printed = flat_map settled_line (links_of original) ++ codes "end whole\n"; answer = true }
+whole_of original = record { file = original; printed = flat_map settled_line (links_of original) ++ codes "end whole\n"; returned = true }
 
 -- The command makes the original of the copies, and is refused only by a device or because memory ran out.
 pub record GiveOnly (copies : List (List ℕ)) (original : List ℕ) : Type 0 where
@@ -38,7 +38,7 @@ pub record GiveOnly (copies : List (List ℕ)) (original : List ℕ) : Type 0 wh
 
 -- Where the command returns `true`, it made the original of the copies; and it is refused only by a device or because memory ran out.
 pub record GiveOnlyIfTrue (copies : List (List ℕ)) (original : List ℕ) : Type 0 where
-  pub made : (made : Made) → SplicesTo copies made → made.answer ≡ true → made.file ≡ original
+  pub made : (made : Made) → SplicesTo copies made → made.returned ≡ true → made.file ≡ original
   pub refused : (out_before out_after printed_before printed_after : Option (List ℕ)) (fault : CliFault)
       → SpliceStops (map Some copies) out_before out_after printed_before printed_after fault → IsOfDevices fault
 
@@ -77,4 +77,4 @@ SpliceGivesNearWovenCopies =
 
 -- Where it returns `true`, the file is a whole frame.
 abbrev pub TrueIsWhole : Type 0
-TrueIsWhole = (copies : List (List ℕ)) (made : Made) → SplicesTo copies made → made.answer ≡ true → IsWholeFrame made.file
+TrueIsWhole = (copies : List (List ℕ)) (made : Made) → SplicesTo copies made → made.returned ≡ true → IsWholeFrame made.file

@@ -22,14 +22,14 @@ abbrev pub splice_text : SplicedValue → List ℕ
 splice_text spliced = flat_map standing_line spliced.places ++ front_line spliced.front
 
 -- The splice of all copies was written, and then its lines were printed.
-pub record SplicesCopies (inputs : List (Option (List ℕ))) (out_before out_after printed_before printed_after : Option (List ℕ)) (answer : Bool) : Type 0 where
+pub record SplicesCopies (inputs : List (Option (List ℕ))) (out_before out_after printed_before printed_after : Option (List ℕ)) (returned : Bool) : Type 0 where
   pub copies : List (List ℕ)
   pub spliced : SplicedValue
   pub read : AreWholeInputs inputs copies
   pub is_splice : IsSpliceOf copies spliced
   pub payload : Appends out_before out_after spliced.payload
   pub printed : Appends printed_before printed_after (splice_text spliced)
-  pub given_back : IsTrue answer ↔ IsGivenBack spliced
+  pub given_back : IsTrue returned ↔ IsGivenBack spliced
 
 -- ---- faults
 
@@ -71,12 +71,12 @@ LaterCopiesKept old new _ = Unit {0}
 -- ---- over the logs of the devices
 
 -- The splice of the copies and then its lines were written.
-pub record WritesSplice (copies : List (List ℕ)) (out_old out_new output_old output_new : WriteLog) (answer : Bool) : Type 0 where
+pub record WritesSplice (copies : List (List ℕ)) (out_old out_new output_old output_new : WriteLog) (returned : Bool) : Type 0 where
   pub spliced : SplicedValue
   pub is_splice : IsSpliceOf copies spliced
   pub payload : Writes out_old out_new spliced.payload
   pub printed : Writes output_old output_new (splice_text spliced)
-  pub given_back : IsTrue answer ↔ IsGivenBack spliced
+  pub given_back : IsTrue returned ↔ IsGivenBack spliced
 
 -- what stopped the command once all copies were read: one of another length, Memory, or writing
 abbrev pub SpliceRefuses : List (List ℕ) → (out_old out_new output_old output_new : WriteLog) → CliFault → Type 0
@@ -92,8 +92,8 @@ SpliceRefuses copies out_old out_new output_old output_new _ = ⊥
 -- command stopped after that.
 abbrev pub ReportsSplice : {C : Type 0} → (C → Option (List ℕ)) → Result Bool CliFault → (copies_old copies_new : List C)
     → (out_old out_new output_old output_new : WriteLog) → Type 0
-ReportsSplice remaining (Ok answer) copies_old copies_new out_old out_new output_old output_new =
-    (copies : List (List ℕ)) × AreTaken (map remaining copies_old) copies × WritesSplice copies out_old out_new output_old output_new answer
+ReportsSplice remaining (Ok returned) copies_old copies_new out_old out_new output_old output_new =
+    (copies : List (List ℕ)) × AreTaken (map remaining copies_old) copies × WritesSplice copies out_old out_new output_old output_new returned
 ReportsSplice remaining (Err fault) copies_old copies_new out_old out_new output_old output_new =
     (StopsAtCopy FileStops remaining copies_old copies_new fault × BothKept out_old out_new output_old output_new)
     ⊎ ((copies : List (List ℕ)) × AreTaken (map remaining copies_old) copies × SpliceRefuses copies out_old out_new output_old output_new fault)

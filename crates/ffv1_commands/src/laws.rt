@@ -18,7 +18,7 @@ pub fn same_copies_make_one_file()
 /// every slice found in the copies is the original's for its tile, and each tile's is found in some copy, `restore`
 /// of the file writes the original byte for byte, or is refused by a device or because memory ran out, and `picture` of
 /// it shows what the original's slices spell. So it is where all copies differ from the original only within 32 bits
-/// of each slice, its size field unhurt, and each of its slices is intact in one of them.
+/// of each slice, its size field undamaged, and each of its slices is intact in one of them.
 pub fn commands_restore_the_original()
     ensures original { CommandsRestoreTheOriginal }
     ensures near { CommandsRestoreNearCopies }
@@ -33,7 +33,7 @@ pub fn same_copies_make_one_splice()
 /// Where each slice with content that passes its parity and ends at an end of an original is the original's there, and
 /// each of the original's slices is found so in some copy, `splice` writes the original byte for byte, prints that each
 /// of its slices is settled, and returns `true`; or it is refused by a device or because memory ran out. So it is where all
-/// copies differ from the original only within 32 bits of each slice, its size field unhurt, and each of its slices is
+/// copies differ from the original only within 32 bits of each slice, its size field undamaged, and each of its slices is
 /// intact in one of them.
 pub fn splice_gives_the_original()
     ensures original { SpliceGivesTheOriginal }

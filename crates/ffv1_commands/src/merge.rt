@@ -7,7 +7,7 @@ ghost use Rattle.ffv1_hold.specs.declared.version.Version.{Version};
 ghost use Rattle.ffv1_hold.specs.MergedStreams.{IsFileOf, BeginsWithHead, WritesAtMost};
 ghost use Rattle.ffv1_commands.specs.Fault.{NamesPath};
 ghost use Rattle.ffv1_commands.specs.Paths.{IsMergePath};
-ghost use Rattle.ffv1_commands.specs.MergeText.{MergesFiles, IsMergeFault, MergeLeaves, AnswersFiles, AnswersOtherHeads, ReportsMerge};
+ghost use Rattle.ffv1_commands.specs.MergeText.{MergesFiles, IsMergeFault, MergeLeaves, ReturnsFiles, ReturnsOtherHeads, ReportsMerge};
 
 use crate::fault::{CliFault, of_merge};
 use crate::path::CommandPath;
@@ -36,9 +36,9 @@ pub fn run_merge<R: Read, Q: Read, O: Write>(
     ensures most { WritesAtMost (O.contents out.old) (O.contents out.new) file_limit }
 
     ensures only { (v w : Version) (g h : Contents) → IsSameReel g h → IsFileOf (R.remaining left.old) v g → IsFileOf (Q.remaining right.old) w h
-        → AnswersFiles (joined g h) result }
+        → ReturnsFiles (joined g h) result }
     ensures other { (g h : Reel) → BeginsWithHead (R.remaining left.old) g → BeginsWithHead (Q.remaining right.old) h → ¬ (g ≡ h)
-        → AnswersOtherHeads result }
+        → ReturnsOtherHeads result }
     ensures untouched { IsErrOf result (CliFault.HoldFile HoldFileFault.OtherReel) → out.new ≡ out.old }
     ensures names { IfErr result (NamesPath IsMergePath) }
 {
@@ -63,9 +63,9 @@ pub fn merge_of<R: Source, Q: Source, O: Sink>(
     ensures most { WritesAtMost (O.log out.old).contents (O.log out.new).contents file_limit }
 
     ensures only { (v w : Version) (g h : Contents) → IsSameReel g h → IsFileOf (R.log left.old).remaining v g → IsFileOf (Q.log right.old).remaining w h
-        → AnswersFiles (joined g h) result }
+        → ReturnsFiles (joined g h) result }
     ensures other { (g h : Reel) → BeginsWithHead (R.log left.old).remaining g → BeginsWithHead (Q.log right.old).remaining h → ¬ (g ≡ h)
-        → AnswersOtherHeads result }
+        → ReturnsOtherHeads result }
     ensures untouched { IsErrOf result (CliFault.HoldFile HoldFileFault.OtherReel) → out.new ≡ out.old }
 {
     match join_streams(alloc, left, right, out) {

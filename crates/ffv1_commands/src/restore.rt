@@ -1,7 +1,7 @@
 //! The command `restore`: writes the frame payload that a holding file restores (own).
 ghost use Rattle.std.specs.Prelude.{◌≡◌, IfOk, IfErr, OnOk, string_bytes};
 ghost use Rattle.ffv1_holding.specs.Refusals.{IsRefusal};
-ghost use Rattle.ffv1_holding.specs.Standing.{AreSettled, restored_payload};
+ghost use Rattle.ffv1_holding.specs.TileState.{AreSettled, restored_payload};
 ghost use Rattle.ffv1_commands.specs.Fault.{NamesPath};
 ghost use Rattle.ffv1_commands.specs.Paths.{IsHoldPath};
 ghost use Rattle.ffv1_commands.specs.Devices.{UnlessWriting};

@@ -59,7 +59,7 @@ pub fn scan_of<R: Source, F: Source, W: Sink>(
 {
     let list = reported_ranges(alloc, ranges)?;
     match scan(alloc, list.as_slice(), file, output) {
-        Ok(sound) => Ok(sound),
+        Ok(undamaged) => Ok(undamaged),
         Err(ScanFault::Read) => Err(CliFault::Read(CommandPath::File)),
         Err(ScanFault::Write) => Err(CliFault::Write(CommandPath::StandardOutput)),
         Err(ScanFault::Memory) => Err(CliFault::Memory),

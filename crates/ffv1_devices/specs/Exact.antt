@@ -3,7 +3,7 @@ use Rattle.std.specs.Prelude.{ℕ, ◌≡◌, ◌+◌, ◌<◌, ◌≤◌, ◌�
 use Rattle.std.specs.Io.KnownBytes.{IsAtEnd}
 use Rattle.ffv1_devices.specs.declared.exact.NextFault.{NextFault}
 use Rattle.ffv1_devices.specs.declared.exact.NextFault.TheVariants as faults
-use Rattle.ffv1_devices.specs.declared.exact.TheConstants.{PIECE}
+use Rattle.ffv1_devices.specs.declared.exact.TheConstants.{BLOCK}
 use Rattle.ffv1_devices.specs.Logs.{ReadLog, Reads, BreaksOff}
 
 -- these bytes were read, and then the source ended or was given up
@@ -32,7 +32,7 @@ ReadsNext size (Err faults.Memory) room old new = (bytes : List ℕ) × Reads ol
 
 -- the size of a block: room is made for at least so many bytes at once
 abbrev pub block : ℕ
-block = PIECE
+block = BLOCK
 
 -- Room for bytes that are read grew as they came, from one length to another: it is as long as it was, or these bytes came and it has
 -- at most as many more than they are, or a block more. Whatever size is claimed, it takes no more.

@@ -8,7 +8,7 @@ use crate::streams::Source;
 use std::alloc::AllocError;
 
 /// Room for at least so many bytes is made at once.
-const PIECE: usize = 65536;
+const BLOCK: usize = 65536;
 
 /// A source failed, or ended, before all bytes came.
 #[derive(Clone, Copy, Debug, PartialEq, Eq)]
@@ -74,7 +74,7 @@ pub fn pass_over<S: Source>(source: &mut S, count: u64, room: &mut [u8]) -> Resu
 }
 
 /// Makes room after the bytes that came, of so many in all, and returns where it ends. What lies there is used first; a growth is by
-/// as many bytes as came, or by `PIECE`, whichever is more. Memory is taken for all of them, though no more lie there than may come: so
+/// as many bytes as came, or by `BLOCK`, whichever is more. Memory is taken for all of them, though no more lie there than may come: so
 /// the bytes need not move again where a little more is read the next time.
 fn next_room(room: &mut Vec<u8>, filled: usize, size: usize) -> Result<usize, AllocError>
     requires some { filled < size }
@@ -86,8 +86,8 @@ fn next_room(room: &mut Vec<u8>, filled: usize, size: usize) -> Result<usize, Al
     ensures grown { vec_len room.new ≤ max (vec_len room.old) (filled + max filled block) }
 {
     if room.len() == filled {
-        let more = filled.max(PIECE).min(size - filled);
-        room.reserve_exact(filled.max(PIECE))?;
+        let more = filled.max(BLOCK).min(size - filled);
+        room.reserve_exact(filled.max(BLOCK))?;
         room.resize(filled + more, 0)?;
     }
     Ok(room.len().min(size))

@@ -23,8 +23,8 @@ fn written(file: &mut impl Write, bytes: &[u8]) -> Result<usize, ErrorKind> {
 }
 
 /// What was returned, or the kind of the error.
-fn kind_of<T: Drop>(answer: io::Result<T>) -> Result<T, ErrorKind> {
-    match answer {
+fn kind_of<T: Drop>(returned: io::Result<T>) -> Result<T, ErrorKind> {
+    match returned {
         Ok(value) => Ok(value),
         Err(error) => Err(error.kind()),
     }

@@ -1,7 +1,7 @@
 //! Slices of which one bit is wrong in all versions.
 use crate::parity::with_parity;
 use crate::weave::{Damage, version_of};
-use ffv1_weave::{Check, MOST_REPAIRS, Outcome, repair, vote, weave};
+use ffv1_weave::{Check, MOST_REPAIRS, WeaveResult, repair, vote, weave};
 use std::alloc::{AllocError, Global};
 
 /// A call that puts a slice together of its versions, or tries what may be one where no combination of them is.
@@ -28,12 +28,12 @@ pub(crate) enum Reported {
 }
 
 /// What comes of weaving, in the words of the other calls; or what else is reported.
-fn woven(outcome: Outcome) -> Result<Option<(Vec<u8>, usize)>, Reported> {
+fn woven(outcome: WeaveResult) -> Result<Option<(Vec<u8>, usize)>, Reported> {
     match outcome {
-        Outcome::Woven(bytes, count) => Ok(Some((bytes, count))),
-        Outcome::Disputed => Err(Reported::Disputed),
-        Outcome::Missing(count) => Err(Reported::Missing(count)),
-        Outcome::TooMany => Err(Reported::TooMany),
+        WeaveResult::Woven(bytes, count) => Ok(Some((bytes, count))),
+        WeaveResult::Disputed => Err(Reported::Disputed),
+        WeaveResult::Missing(count) => Err(Reported::Missing(count)),
+        WeaveResult::TooMany => Err(Reported::TooMany),
     }
 }
 
@@ -51,12 +51,12 @@ fn reported_of(
     {
         return Ok(Reported::Uneven);
     }
-    let answer = match call {
+    let returned = match call {
         Call::Weave => woven(weave(alloc, Check::Slice, versions)?),
         Call::Repair => Ok(repair(alloc, versions)?),
         Call::Vote => Ok(vote(alloc, versions)?),
     };
-    Ok(match answer {
+    Ok(match returned {
         Ok(Some((bytes, count))) if bytes.as_slice() == slice => Reported::Slice(count),
         Ok(Some(_)) => Reported::Other,
         Ok(None) => Reported::Nothing,

@@ -66,8 +66,8 @@ static FIRST_CODES: [(&[u8], bool, Result<i32, CodeFault>); 11] = [
 #[test]
 fn codes_of_the_first_state(rt: HostRuntime) {
     for &(bytes, level, code) in &FIRST_CODES {
-        let answer = VlcState::start().decode(&mut Bits::new(bytes), level);
-        assert!(rt; answer == code);
+        let returned = VlcState::start().decode(&mut Bits::new(bytes), level);
+        assert!(rt; returned == code);
     }
 }
 

@@ -14,7 +14,7 @@ pub mod TextLaws
 pub mod FaultLaws
 pub mod OneFault
 pub mod Unfinished
-pub mod Answered
+pub mod Returned
 pub mod OneInput
 pub mod Heads
 pub mod Entries
@@ -28,13 +28,13 @@ pub mod SavedTiles
 pub mod PlanSteps
 pub mod Weights
 pub mod MergeFacts
-pub mod MergeLeads
+pub mod MergeReadLimits
 pub mod ReadDigests
-pub mod OneLead
+pub mod OneReadLimit
 pub mod MergeSteps
 pub mod MergeStarts
 pub mod MergeFronts
-pub mod MergeAnswers
+pub mod MergeResults
 pub mod JoinSteps
 pub mod JoinedEntries
 pub mod TextVectors

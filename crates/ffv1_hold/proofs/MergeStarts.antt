@@ -22,7 +22,7 @@ use Rattle.ffv1_hold.specs.FileEntries.{last_of, Follows, IsFileEntryOf}
 use Rattle.ffv1_hold.specs.Inner.FileEntries.{next_text}
 use Rattle.ffv1_hold.specs.FileFaults.{IsFileReel, IsPartOfEntry, EntryShows}
 use Rattle.ffv1_hold.specs.Inner.FileFaults.{EndIsWhole}
-use Rattle.ffv1_hold.specs.Leads.{LiesWhole, AreAllDigests}
+use Rattle.ffv1_hold.specs.ReadLimits.{LiesWhole, AreAllDigests}
 use Rattle.ffv1_hold.specs.MergedStreams.{StreamBegins, InputRefuses, OneRefuses, ShowsNoFault, ReadsAll, ReadsPart, ReadsSoFar, UnionPasses, WritesUnion, WritesAtMost}
 use Rattle.ffv1_hold.specs.Inner.Merging.{Start, inputs_from, Facts, part, no_facts, both, FollowsAll, IsPassed, IsReadUpTo, ReadsToNext, IsOpened, Stands, Stops, Ends}
 use Rattle.ffv1_hold.proofs.Slots.{entries_text-none, length-head_text}
@@ -47,7 +47,7 @@ begun-both_none r = ap (λ x. begun_text Second (part r x)) both-none ∙ begun-
 pub first_passed : (old new : Option (List ℕ)) (v : Version) (r : Reel) (place : ℕ) → IsFileReel r → Takes old new 0 place (head_text v r)
     → IsPassed old new v r no_facts place None
 first_passed old new v r place is t = record {
-  sound = holding_none r is.reel;
+  well_formed = holding_none r is.reel;
   stated = stated_none v r;
   text = subst (Takes old new 0 place) (sym (begun-none v r)) t;
   last' = sym (ap last_of (entries-none r));
@@ -95,7 +95,7 @@ head_after : (old new beside : Option (List ℕ)) (v : Version) (r : Reel) (done
     → ReadsToNext v r old new beside done
 head_after old new beside v r done is taken = record {
   facts = no_facts;
-  sound = holding_none r is.reel;
+  well_formed = holding_none r is.reel;
   stated = stated_none v r;
   whole = λ u h other file other_file. subst (AllByRecursion (LiesWhole (AreAllDigests h other) r done)) (sym (entries-none r)) tt;
   more = [];
@@ -195,7 +195,7 @@ module _ (s : Start) (q : Reel) (l0 r0 w0 : Option (List ℕ)) (lp rp : ℕ) (o 
 -- ---- after the last entries
 
 pub all_part : (old new : Option (List ℕ)) (h : Contents) → ReadsAll old new h → ReadsPart old new h
-all_part old new h a = part_read old new a.file.version h a.sound a.file.fits.record' a.file.fits.stated (0 ∷ []) a.file.taken
+all_part old new h a = part_read old new a.file.version h a.well_formed a.file.fits.record' a.file.fits.stated (0 ∷ []) a.file.taken
 
 module _ (s : Start) (left right sink : Option (List ℕ)) (room : ℕ) (e : Ends s left right sink room) where
   abbrev all : Facts
@@ -213,11 +213,11 @@ module _ (s : Start) (left right sink : Option (List ℕ)) (room : ℕ) (e : End
   right_begins_all : StreamBegins s.right (head_text e.read.right_read.file.version s.reel)
   right_begins_all = head_begins _ _ _ (part s.reel e.rights) (0 ∷ []) e.read.right_read.file.taken
 
-  all_sound : IsHolding (part s.reel all)
-  all_sound = holding-joined (part s.reel e.lefts) (part s.reel e.rights) refl e.read.left_read.sound e.read.right_read.sound
+  all_well_formed : IsHolding (part s.reel all)
+  all_well_formed = holding-joined (part s.reel e.lefts) (part s.reel e.rights) refl e.read.left_read.well_formed e.read.right_read.well_formed
 
   all_stated : IsStated Second (part s.reel all)
-  all_stated = stated_begun (part s.reel all) all_sound (omega (arith, e.room_left))
+  all_stated = stated_begun (part s.reel all) all_well_formed (omega (arith, e.room_left))
 
   union_length : length (holding_text (part s.reel all)) ≡ length (begun_text Second (part s.reel all)) + 1
   union_length = length-append (begun_text Second (part s.reel all)) (0 ∷ [])
@@ -226,7 +226,7 @@ module _ (s : Start) (left right sink : Option (List ℕ)) (room : ℕ) (e : End
   whole_shows_none old new x a = record {
     seen = file_text a.file.version (part s.reel x);
     taken = a.file.taken;
-    sound = inr (part s.reel x, a.sound, a.file.fits.record', (a.file.version, a.file.fits.stated, refl));
+    well_formed = inr (part s.reel x, a.well_formed, a.file.fits.record', (a.file.version, a.file.fits.stated, refl));
   }
 
   -- there is no room for the end tag
@@ -257,9 +257,9 @@ module _ (s : Start) (left right sink : Option (List ℕ)) (room : ℕ) (e : End
       (begun ++ w.done) (Appends-trans s.sink sink new begun w.done e.written w.written)
       (omega (arith, e.room_left, some, ap length w.split, length-append w.done w.rest, length-append begun w.done))
       (stays_beside s.reel e.is _ _ _ _ _ _ e.lefts e.rights all None None left_read right_read (within-left e.lefts e.rights) tt tt
-      (left_gives s.reel e.lefts e.rights) all_sound all_stated w.done)
+      (left_gives s.reel e.lefts e.rights) all_well_formed all_stated w.done)
       (stays_beside s.reel e.is _ _ _ _ _ _ e.rights e.lefts all None None right_read left_read (within-right e.lefts e.rights) tt tt
-      (right_gives s.reel e.lefts e.rights) all_sound all_stated w.done)
+      (right_gives s.reel e.lefts e.rights) all_well_formed all_stated w.done)
 
   -- it was written
   pub union_written : (new : Option (List ℕ)) → 1 ≤ room → Appends sink new (0 ∷ []) → WritesUnion (inputs_from s left right) s.sink new
@@ -267,7 +267,7 @@ module _ (s : Start) (left right sink : Option (List ℕ)) (room : ℕ) (e : End
     left = part s.reel e.lefts;
     right = part s.reel e.rights;
     read = e.read;
-    fits = fits_within (part s.reel all) all_sound (e.is.fits, omega (arith, e.room_left, some, union_length));
+    fits = fits_within (part s.reel all) all_well_formed (e.is.fits, omega (arith, e.room_left, some, union_length));
     written = Appends-trans s.sink sink new (begun_text Second (part s.reel all)) (0 ∷ []) e.written w;
   }
 

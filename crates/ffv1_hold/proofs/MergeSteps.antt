@@ -47,17 +47,17 @@ pub passed : (old new : Option (List ℕ)) (v : Version) (r : Reel) (f : Facts) 
 passed old new v r f place e h =
     let digests = digests_in_version v e.1 h.entry.origins in
     record {
-      sound = holding-with_entry (part r f) e.0 e.1 h.sound h.entry.slice digests.each;
-      stated = stated-with_entry (part r f) e.0 e.1 h.after v h.sound h.entry.origins h.stated;
-      text = subst (Takes old new 0 place) (sym (begun-with v r f e h.sound digests.rising h.after)) h.text;
-      last' = sym (last-with v r f e h.sound digests.rising h.after);
+      well_formed = holding-with_entry (part r f) e.0 e.1 h.well_formed h.entry.slice digests.each;
+      stated = stated-with_entry (part r f) e.0 e.1 h.after v h.well_formed h.entry.origins h.stated;
+      text = subst (Takes old new 0 place) (sym (begun-with v r f e h.well_formed digests.rising h.after)) h.text;
+      last' = sym (last-with v r f e h.well_formed digests.rising h.after);
     }
 
 pub advanced : (old now new : Option (List ℕ)) (v w : Version) (r : Reel) (f : Facts) (from to : ℕ) (last next : Option FileEntry) (setup : SetupValue)
     → w ≡ v → setup ≡ r.setup → IsPassed old now v r f from last → Takes now new from to (next_text w next) → IfSome next (IsFileEntryOf w setup)
     → IfSome next (λ e. Follows last e.0) → IfNone next (IsAtEnd new) → IsReadUpTo old new v r f to next
 advanced old now new v w r f from to last next setup version same p text entry follows end = record {
-  sound = p.sound;
+  well_formed = p.well_formed;
   stated = p.stated;
   text = Takes-trans _ _ _ _ _ _ _ _ p.text (subst (λ (u : Version). Takes now new from to (next_text u next)) version text);
   entry = subst (λ (x : SetupValue). IfSome next (IsFileEntryOf v x)) same (subst (λ (u : Version). IfSome next (IsFileEntryOf u setup)) version entry);
@@ -74,9 +74,9 @@ begun-split : (v : Version) (r : Reel) (f : Facts) (x : List ℕ) → begun_text
 begun-split v r f x = append_assoc (head_text v r) (entries_text v (file_entries (part r f))) x
 
 begun-is_part : (v : Version) (r : Reel) (f : Facts) → IsFileReel r → IsHolding (part r f) → IsStated v (part r f) → IsPartOfFile (begun_text v (part r f))
-begun-is_part v r f is sound stated =
+begun-is_part v r f is well_formed stated =
     subst IsPartOfFile (sym (begun-split v r f []) ∙ append-nil (begun_text v (part r f)))
-    (file_from_entries_part v r is _ (part_of_entries v r.setup (file_entries (part r f)) (are_entries v (part r f) sound stated) [] (inl refl)))
+    (file_from_entries_part v r is _ (part_of_entries v r.setup (file_entries (part r f)) (are_entries v (part r f) well_formed stated) [] (inl refl)))
 
 -- an entry that is refused is a fault of the file
 pub input_refuses : (old now new : Option (List ℕ)) (v w : Version) (r : Reel) (f : Facts) (place : ℕ) (last : Option FileEntry) (setup : SetupValue)
@@ -84,13 +84,13 @@ pub input_refuses : (old now new : Option (List ℕ)) (v w : Version) (r : Reel)
     → Refuses (IsPartOfEntry w setup last) EndIsWhole (EntryShows w setup last) now new place fault → InputRefuses old new fault
 input_refuses old now new v w r f place last setup fault version same is p refused =
     let es = file_entries (part r f) in
-    let entries = are_entries v (part r f) p.sound p.stated in
+    let entries = are_entries v (part r f) p.well_formed p.stated in
     Refuses-after (IsPartOfEntry w setup last) IsPartOfFile EndIsWhole FileIsWhole (EntryShows w setup last) FileShows old now new 0 place
     (begun_text v (part r f)) fault p.text refused
     (λ x h. subst IsPartOfFile (sym (begun-split v r f x)) (file_from_entries_part v r is _ (part_of_entries v r.setup es entries x
     (subst (λ (l : Option FileEntry). IsPartOfEntry v r.setup l x) p.last' (subst (λ (y : SetupValue). IsPartOfEntry v y last x) same
     (subst (λ (u : Version). IsPartOfEntry u setup last x) version h))))))
-    (λ g x h. subst (FileIsWhole g) (sym (begun-split v r f x)) (file_from_whole_entries v r is g _ (part r f, x, p.sound, p.stated, refl, refl, h)))
+    (λ g x h. subst (FileIsWhole g) (sym (begun-split v r f x)) (file_from_whole_entries v r is g _ (part r f, x, p.well_formed, p.stated, refl, refl, h)))
     (λ g x h. subst (FileShows g) (sym (begun-split v r f x)) (file_from_entries_fault v r is g _
     (entries_show v r.setup es entries g x (subst (λ (l : Option FileEntry). EntryShows v r.setup l g x) p.last'
     (subst (λ (y : SetupValue). EntryShows v y last g x) same (subst (λ (u : Version). EntryShows u setup last g x) version h))))))
@@ -100,7 +100,7 @@ pub passed_shows_none : (old new : Option (List ℕ)) (v : Version) (r : Reel) (
 passed_shows_none old new v r f place last is p = record {
   seen = begun_text v (part r f);
   taken = p.text.taken;
-  sound = inl (begun-is_part v r f is p.sound p.stated);
+  well_formed = inl (begun-is_part v r f is p.well_formed p.stated);
 }
 
 pub held_shows_none : (old new : Option (List ℕ)) (v : Version) (r : Reel) (f : Facts) (place : ℕ) (next : Option FileEntry) → IsFileReel r
@@ -108,22 +108,22 @@ pub held_shows_none : (old new : Option (List ℕ)) (v : Version) (r : Reel) (f 
 held_shows_none old new v r f place None is h = record {
   seen = begun_text v (part r f) ++ 0 ∷ [];
   taken = h.text.taken;
-  sound = inr (part r f, h.sound, is.fits, (v, h.stated, refl));
+  well_formed = inr (part r f, h.well_formed, is.fits, (v, h.stated, refl));
 }
 held_shows_none old new v r f place (Some e) is h = passed_shows_none old new v r (with_file_entry f e) place (Some e) is (passed old new v r f place e h)
 
 pub part_read : (old new : Option (List ℕ)) (v : Version) (h : Contents) → IsHolding h → length h.reel.config ≤ record_limit → IsStated v h → (more : List ℕ)
     → Consumes old new (begun_text v h ++ more) → ReadsPart old new h
-part_read old new v h sound fits stated more taken = record { sound = sound; record' = fits; version = v; stated = stated; more = more; taken = taken }
+part_read old new v h well_formed fits stated more taken = record { well_formed = well_formed; record' = fits; version = v; stated = stated; more = more; taken = taken }
 
 pub held_part : (old new : Option (List ℕ)) (v : Version) (r : Reel) (f : Facts) (place : ℕ) (next : Option FileEntry) → IsFileReel r
     → IsReadUpTo old new v r f place next → ReadsPart old new (part r f)
-held_part old new v r f place next is h = part_read old new v (part r f) h.sound is.fits h.stated (next_text v next) h.text.taken
+held_part old new v r f place next is h = part_read old new v (part r f) h.well_formed is.fits h.stated (next_text v next) h.text.taken
 
 pub passed_part : (old new : Option (List ℕ)) (v : Version) (r : Reel) (f : Facts) (place : ℕ) (last : Option FileEntry) → IsFileReel r
     → IsPassed old new v r f place last → ReadsPart old new (part r f)
 passed_part old new v r f place last is p =
-    part_read old new v (part r f) p.sound is.fits p.stated [] (subst (Consumes old new) (sym (append-nil (begun_text v (part r f)))) p.text.taken)
+    part_read old new v (part r f) p.well_formed is.fits p.stated [] (subst (Consumes old new) (sym (append-nil (begun_text v (part r f)))) p.text.taken)
 
 pub taken_begins : (old new : Option (List ℕ)) (bytes more : List ℕ) → Consumes old new (bytes ++ more) → StreamBegins old bytes
 taken_begins None new bytes more t = tt
@@ -135,7 +135,7 @@ whole_begins old new bytes t = taken_begins old new bytes [] (subst (Consumes ol
 
 pub part_begins : (old new : Option (List ℕ)) (h : Contents) → ReadsPart old new h → BeginsWithPart old h
 part_begins old new h p = record {
-  sound = p.sound;
+  well_formed = p.well_formed;
   record' = p.record';
   version = p.version;
   stated = p.stated;
@@ -211,11 +211,11 @@ module _ (s : Start) (left right sink : Option (List ℕ)) (lp rp room : ℕ) (l
   abbrev all : Facts
   all = both st.lefts st.rights
 
-  all_sound : IsHolding (part s.reel all)
-  all_sound = holding-joined (part s.reel st.lefts) (part s.reel st.rights) refl st.left_held.sound st.right_held.sound
+  all_well_formed : IsHolding (part s.reel all)
+  all_well_formed = holding-joined (part s.reel st.lefts) (part s.reel st.rights) refl st.left_held.well_formed st.right_held.well_formed
 
   all_stated : IsStated Second (part s.reel all)
-  all_stated = stated_begun (part s.reel all) all_sound (omega (arith, st.room_left))
+  all_stated = stated_begun (part s.reel all) all_well_formed (omega (arith, st.room_left))
 
   left_at : (e : FileEntry) → ln ≡ Some e → IsReadUpTo s.left left s.left_version s.reel st.lefts lp (Some e)
   left_at e is = subst (λ (n : Option FileEntry). IsReadUpTo s.left left s.left_version s.reel st.lefts lp n) is st.left_held
@@ -289,7 +289,7 @@ module _ (s : Start) (left right sink : Option (List ℕ)) (lp rp room : ℕ) (l
 
   text_after : (w : FileEntry) → AreDigests w.1 → Follows (last_of (file_entries (part s.reel all))) w.0 → (more : Facts) → more ≡ with_file_entry all w
       → begun_text Second (part s.reel more) ≡ begun_text Second (part s.reel all) ++ entry_text Second w
-  text_after w up follows more is = ap (λ x. begun_text Second (part s.reel x)) is ∙ begun-with Second s.reel all w all_sound up follows
+  text_after w up follows more is = ap (λ x. begun_text Second (part s.reel x)) is ∙ begun-with Second s.reel all w all_well_formed up follows
 
   turned_text : (e : FileEntry) (others : List (List ℕ)) (t : Turned s left right all e others)
       → begun_text Second (part s.reel (both t.lefts t.rights)) ≡ begun_text Second (part s.reel all) ++ entry_text Second (with_digests e others)
@@ -343,9 +343,9 @@ module _ (s : Start) (left right sink : Option (List ℕ)) (lp rp room : ℕ) (l
       stops_writing (inputs_from s left right) s.reel st.reel s.left_version s.right_version left_head right_head s.sink new left_shows_none right_shows_none
       front done written (omega (arith, st.room_left, fits, ap length w.split, length-append w.done w.rest, length-append begun w.done))
       (stays_beside s.reel st.reel _ _ _ _ s.left_version s.right_version st.lefts st.rights all ln rn left_read right_read
-      (within-left st.lefts st.rights) st.left_after st.right_after (left_gives s.reel st.lefts st.rights) all_sound all_stated w.done)
+      (within-left st.lefts st.rights) st.left_after st.right_after (left_gives s.reel st.lefts st.rights) all_well_formed all_stated w.done)
       (stays_beside s.reel st.reel _ _ _ _ s.right_version s.left_version st.rights st.lefts all rn ln right_read left_read
-      (within-right st.lefts st.rights) st.right_after st.left_after (right_gives s.reel st.lefts st.rights) all_sound all_stated w.done)
+      (within-right st.lefts st.rights) st.right_after st.left_after (right_gives s.reel st.lefts st.rights) all_well_formed all_stated w.done)
 
   -- the entry could not be written
   pub entry_stops : (new : Option (List ℕ)) (e : FileEntry) (others : List (List ℕ)) (o : Ordering) (f : HoldFileFault) → IsTurn ln rn e others o
@@ -406,9 +406,9 @@ module _ (s : Start) (left right sink : Option (List ℕ)) (lp rp room : ℕ) (l
       right_held = right_held;
       written = now_written;
       left_after = subst (λ x. FollowsAll s.reel x ln') (sym t.union)
-          (after-more s.reel all written_entry ln' all_sound (union-rises e.1 others) t.follows left_follows);
+          (after-more s.reel all written_entry ln' all_well_formed (union-rises e.1 others) t.follows left_follows);
       right_after = subst (λ x. FollowsAll s.reel x rn') (sym t.union)
-          (after-more s.reel all written_entry rn' all_sound (union-rises e.1 others) t.follows right_follows);
+          (after-more s.reel all written_entry rn' all_well_formed (union-rises e.1 others) t.follows right_follows);
       room_left = now_left;
     }
 
@@ -484,7 +484,7 @@ module _ (s : Start) (left right sink : Option (List ℕ)) (lp rp room : ℕ) (l
 all_read : (old new : Option (List ℕ)) (v : Version) (r : Reel) (f : Facts) (place : ℕ) → IsFileReel r → IsReadUpTo old new v r f place None
     → ReadsAll old new (part r f)
 all_read old new v r f place is h = record {
-  sound = h.sound;
+  well_formed = h.well_formed;
   file = record {
     version = v;
     fits = record { stated = h.stated; record' = is.fits; text = omega (arith, h.text.moved, h.text.within) };

@@ -9,7 +9,7 @@ use Rattle.ffv1_hold.specs.declared.file_fault.HoldFileFault.TheVariants as faul
 use Rattle.ffv1_hold.specs.Reading.{Refuses, StopsIn}
 use Rattle.ffv1_hold.specs.FileFaults.{IsPartOfFile, IsHoldingText, FileIsWhole, FileShows, IsOutside, IsFaultOf}
 use Rattle.ffv1_hold.proofs.FaultLaws.{text_none, text_whole}
-use Rattle.ffv1_hold.proofs.Answered.{taken_front, taken_all}
+use Rattle.ffv1_hold.proofs.Returned.{taken_front, taken_all}
 use Rattle.ffv1_hold.proofs.OneFault.{one_fault}
 use Rattle.ffv1_hold.proofs.Unfinished.{part_shows_none}
 
@@ -24,7 +24,7 @@ record IsShown (input : List ℕ) (f : HoldFileFault) : Type 0 where
   within : length seen ≤ file_limit
 
 -- the whole input is unfinished
-record IsCutOff (input : List ℕ) (f : HoldFileFault) : Type 0 where
+record FooterGivesOff (input : List ℕ) (f : HoldFileFault) : Type 0 where
   is : f ≡ faults.Truncated
   unfinished : IsPartOfFile input
   within : length input ≤ file_limit
@@ -49,7 +49,7 @@ record IsAfterText (input : List ℕ) (f : HoldFileFault) : Type 0 where
   within : length seen ≤ file_limit
 
 abbrev Kinds : List ℕ → HoldFileFault → Type 0
-Kinds input f = IsShown input f ⊎ (IsCutOff input f ⊎ (IsOverLimit input f ⊎ IsAfterText input f))
+Kinds input f = IsShown input f ⊎ (FooterGivesOff input f ⊎ (IsOverLimit input f ⊎ IsAfterText input f))
 
 shown_kind : (input : List ℕ) (f : HoldFileFault) (left : Option (List ℕ)) → StopsIn (FileShows f) (Some input) left 0 → Kinds input f
 shown_kind input f left r =
@@ -108,7 +108,7 @@ module _ (input : List ℕ) (f g : HoldFileFault) where
   shown_both : IsShown input f → IsShown input g → f ≡ g
   shown_both a b = one_fault f g a.seen b.seen a.rest b.rest (sym a.split ∙ b.split) a.shown b.shown
 
-  shown_not_cut : IsShown input f → IsCutOff input g → ⊥
+  shown_not_cut : IsShown input f → FooterGivesOff input g → ⊥
   shown_not_cut a b = part_shows_none f input a.seen a.rest a.split b.unfinished a.shown
 
   shown_within : IsShown input f → IsOverLimit input g → ⊥
@@ -122,10 +122,10 @@ module _ (input : List ℕ) (f g : HoldFileFault) where
       let h = b.whole in
       text_none h.3.0 h.0 h.1 h.2 h.3.1 b.rest a.seen a.rest f (sym (ap (λ q. q ++ b.rest) h.3.2) ∙ sym b.split ∙ a.split) a.shown
 
-  cut_within : IsCutOff input f → IsOverLimit input g → ⊥
+  cut_within : FooterGivesOff input f → IsOverLimit input g → ⊥
   cut_within a b = omega (arith, a.within, b.at_limit, ap length b.split, length-append b.seen (b.more ∷ b.rest))
 
-  cut_before : IsCutOff input f → IsAfterText input g → ⊥
+  cut_before : FooterGivesOff input f → IsAfterText input g → ⊥
   cut_before a b = text_apart b.seen input b.rest b.whole b.split a.unfinished
 
   over_before : IsOverLimit input f → IsAfterText input g → ⊥

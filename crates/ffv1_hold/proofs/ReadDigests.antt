@@ -22,7 +22,7 @@ use Rattle.ffv1_hold.specs.HoldingText.{FileEntry, entry_text, body_text, entrie
 use Rattle.ffv1_hold.specs.FileEntries.{IsFileEntryOf, file_entry_cmp}
 use Rattle.ffv1_hold.specs.Inner.FileEntries.{next_text}
 use Rattle.ffv1_hold.specs.FileFaults.{IsFileReel}
-use Rattle.ffv1_hold.specs.Leads.{AreAllDigests}
+use Rattle.ffv1_hold.specs.ReadLimits.{AreAllDigests}
 use Rattle.ffv1_hold.specs.MergedStreams.{IsFileOf, IsFileOfSome, ReadsAll}
 use Rattle.ffv1_hold.specs.Inner.Merging.{Facts, part, both, IsReadUpTo, FollowsAll, ReadsToNext}
 use Rattle.ffv1_hold.proofs.DigestSets.{has, entry_tie, has-digests_in, digests_rise, same_digests}
@@ -32,7 +32,7 @@ use Rattle.ffv1_hold.proofs.TextLaws.{entries_after, AreFitting, fitting_all}
 use Rattle.ffv1_hold.proofs.Slots.{entries_text-cons, entries_text-none}
 use Rattle.ffv1_hold.proofs.TileTexts.{own}
 use Rattle.ffv1_hold.proofs.MergeFacts.{IsWithin, own_digests}
-use Rattle.ffv1_hold.proofs.MergeLeads.{front_entries, rest_entries, all_lie_whole}
+use Rattle.ffv1_hold.proofs.MergeReadLimits.{front_entries, rest_entries, all_lie_whole}
 
 -- ---- the digests that entries give
 
@@ -87,17 +87,17 @@ rising_back (x ∷ xs) rest up = rising_back xs rest (rising_rest file_entry_cmp
 
 -- An input was read up to these entries, and after them the next one, or the end.
 pub record IsReadTo (old new : Option (List ℕ)) (v : Version) (r : Reel) (f : Facts) (next : Option FileEntry) : Type 0 where
-  pub sound : IsHolding (part r f)
+  pub well_formed : IsHolding (part r f)
   pub stated : IsStated v (part r f)
   pub entry : IfSome next (IsFileEntryOf v r.setup)
   pub taken : Consumes old new (begun_text v (part r f) ++ next_text v next)
 
 pub held_read : (old new : Option (List ℕ)) (v : Version) (r : Reel) (f : Facts) (place : ℕ) (next : Option FileEntry) → IsReadUpTo old new v r f place next
     → IsReadTo old new v r f next
-held_read old new v r f place next h = record { sound = h.sound; stated = h.stated; entry = h.entry; taken = h.text.taken }
+held_read old new v r f place next h = record { well_formed = h.well_formed; stated = h.stated; entry = h.entry; taken = h.text.taken }
 
 pub all_read_to : (old new : Option (List ℕ)) (r : Reel) (f : Facts) (a : ReadsAll old new (part r f)) → IsReadTo old new a.file.version r f None
-all_read_to old new r f a = record { sound = a.sound; stated = a.file.fits.stated; entry = tt; taken = a.file.taken }
+all_read_to old new r f a = record { well_formed = a.well_formed; stated = a.file.fits.stated; entry = tt; taken = a.file.taken }
 
 -- what follows the entries that were read, the next one and others, gives no digests of a slice before it
 rest_states_none : (w : Version) (r : Reel) → IsFileReel r → (e : Entry) (rest : List FileEntry) (bytes : List ℕ) (next : Option FileEntry)
@@ -117,11 +117,11 @@ digests_read : (v w : Version) (h : Contents) (r : Reel) (is : IsFileReel r) (ol
     → IsReadTo old new w r f next → (e : Entry) → IfSome next (λ n. entry_cmp e n.0 ≡ Less) → digests_of h e ≡ digests_of (part r f) e
 digests_read v w h r is old new f next file read e below =
     let some = file_entries (part r f) in
-    let left = rest_entries v w h r is old new file f (next_text w next) read.sound read.stated read.taken in
-    let up = rising_back some left.rest (subst (IsRising file_entry_cmp) left.split (are_entries v h file.sound file.fits.stated).rising) in
-    sym (stated_digests h file.sound e) ∙ ap (λ (es : List FileEntry). stated_in es e) left.split
+    let left = rest_entries v w h r is old new file f (next_text w next) read.well_formed read.stated read.taken in
+    let up = rising_back some left.rest (subst (IsRising file_entry_cmp) left.split (are_entries v h file.well_formed file.fits.stated).rising) in
+    sym (stated_digests h file.well_formed e) ∙ ap (λ (es : List FileEntry). stated_in es e) left.split
     ∙ stated_front some left.rest e (rest_states_none w r is e left.rest left.bytes next read.entry below left.fits up left.text)
-    ∙ stated_digests (part r f) read.sound e
+    ∙ stated_digests (part r f) read.well_formed e
 
 -- ---- both
 
@@ -183,11 +183,11 @@ module _ (r : Reel) (is : IsFileReel r) (old new beside now : Option (List ℕ))
       (digests_read other_file.0 w k r is beside now g also other_file.1 other_read e (after_each r all also also_follows e there))
 
   pub stays_beside : IsHolding (part r all) → IsStated Second (part r all) → (rest : List ℕ) → ReadsToNext v r old new beside (begun_text Second (part r all) ++ rest)
-  stays_beside sound stated rest = record {
+  stays_beside well_formed stated rest = record {
     facts = f;
-    sound = read.sound;
+    well_formed = read.well_formed;
     stated = read.stated;
-    whole = λ u h other file other_file. all_lie_whole r f all sound stated inside rest (AreAllDigests h other) (are_all u h other file other_file);
+    whole = λ u h other file other_file. all_lie_whole r f all well_formed stated inside rest (AreAllDigests h other) (are_all u h other file other_file);
     more = next_text v next;
     next = inr (next, refl, read.entry);
     taken = read.taken;

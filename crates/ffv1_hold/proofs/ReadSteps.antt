@@ -33,7 +33,7 @@ digests_in_version Second ds are = are.0
 -- These entries were read, from the place i on up to j, and the last of them is known.
 pub record AreRead (v : Version) (reel : Reel) (old new : ReadLog) (i j : ℕ) (h : Contents) (last : Option FileEntry) : Type 0 where
   pub text : TakesText old new i j (entries_text v (file_entries h))
-  pub sound : IsHolding h
+  pub well_formed : IsHolding h
   pub stated : IsStated v h
   pub reel' : h.reel ≡ reel
   pub last' : last ≡ last_of (file_entries h)
@@ -58,7 +58,7 @@ none_read v a i h last within is none at =
     let entries = ap file_entries none ∙ entries-none h.reel in
     record {
       text = subst (TakesText a a i i) (sym (ap (entries_text v) entries ∙ entries_text-none v)) (TakesText-nil a i within);
-      sound = subst IsHolding (sym none) (holding_none h.reel is);
+      well_formed = subst IsHolding (sym none) (holding_none h.reel is);
       stated = subst (IsStated v) (sym none) (stated_none v h.reel);
       reel' = refl;
       last' = at ∙ sym (ap last_of entries);
@@ -80,7 +80,7 @@ module _ (v : Version) (reel : Reel) (a b : ReadLog) (i j : ℕ) (h grown : Cont
       record {
         text = subst (TakesText a b i j) (ap (λ (n : Option FileEntry). entries_text v (file_entries h) ++ next_text v n) at
             ∙ sym (ap (entries_text v) entries ∙ entries_text-push v (file_entries h) e)) text;
-        sound = subst IsHolding (sym added) (holding-with_entry h e.0 e.1 is own.slice digests.each);
+        well_formed = subst IsHolding (sym added) (holding-with_entry h e.0 e.1 is own.slice digests.each);
         stated = subst (IsStated v) (sym added) (stated-with_entry h e.0 e.1 follows v is entry.origins stated);
         reel' = ap (λ (x : Contents). x.reel) added ∙ same;
         last' = at ∙ sym (ap (λ (x : Contents). last_of (file_entries x)) added ∙ last-with_entry h e.0 e.1 follows is digests.rising);
@@ -88,7 +88,7 @@ module _ (v : Version) (reel : Reel) (a b : ReadLog) (i j : ℕ) (h grown : Cont
 
 module _ (v : Version) (reel : Reel) (a b : ReadLog) (i j : ℕ) (h : Contents) (last : Option FileEntry) (read : AreRead v reel a b i j h last) where
   entries : AreEntries v reel.setup (file_entries h)
-  entries = subst (λ (r : Reel). AreEntries v r.setup (file_entries h)) read.reel' (are_entries v h read.sound read.stated)
+  entries = subst (λ (r : Reel). AreEntries v r.setup (file_entries h)) read.reel' (are_entries v h read.well_formed read.stated)
 
   -- what comes after them is refused, under the same version and setup
   pub next_refused : (w : Version) (x : SetupValue) → w ≡ v → x ≡ reel.setup → (c : ReadLog) (f : HoldFileFault)
@@ -100,7 +100,7 @@ module _ (v : Version) (reel : Reel) (a b : ReadLog) (i j : ℕ) (h : Contents) 
       (EntriesShow v reel.setup) a b c i j (entries_text v es) read.text f refused
       (λ s part. part_of_entries v reel.setup es entries s (subst (λ (l : Option FileEntry). IsPartOfEntry v reel.setup l s) read.last'
       (subst (λ (y : SetupValue). IsPartOfEntry v y last s) same (subst (λ (u : Version). IsPartOfEntry u x last s) version part))))
-      (λ f s whole. (h, s, read.sound, read.stated, read.reel', refl, whole))
+      (λ f s whole. (h, s, read.well_formed, read.stated, read.reel', refl, whole))
       (λ f s shown. entries_show v reel.setup es entries f s (subst (λ (l : Option FileEntry). EntryShows v reel.setup l f s) read.last'
       (subst (λ (y : SetupValue). EntryShows v y last f s) same (subst (λ (u : Version). EntryShows u x last f s) version shown))))
 

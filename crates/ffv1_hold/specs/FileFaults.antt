@@ -161,13 +161,13 @@ abbrev pub IsFaultOf : List ℕ → HoldFileFault → Type 0
 IsFaultOf input f = (¬ IsOutside f) × ((left : Option (List ℕ)) × Refuses IsPartOfFile FileIsWhole FileShows (Some input) left 0 f)
 
 -- what is returned for the text of a holding
-abbrev pub Answers : Contents → Result Contents HoldFileFault → Type 0
-Answers h (Ok g) = g ≡ h
-Answers h (Err f) = IsOutside f
+abbrev pub Returns : Contents → Result Contents HoldFileFault → Type 0
+Returns h (Ok g) = g ≡ h
+Returns h (Err f) = IsOutside f
 
 -- A source was read to its end, and was the file of a holding.
 pub record ReadsHolding (old new : ReadLog) (h : Contents) : Type 0 where
-  pub sound : IsHolding h
+  pub well_formed : IsHolding h
   pub file : TakesFile old.remaining new.remaining h
   pub at_end : IsAtEnd new.remaining
   pub tries' : GoesOn old.tries new.tries

@@ -5,7 +5,7 @@ use Rattle.ffv1_holding.specs.Contents.{Contents, IsHolding}
 use Rattle.ffv1_hold.specs.declared.file_fault.HoldFileFault.{HoldFileFault}
 use Rattle.ffv1_hold.specs.declared.version.Version.{Version}
 use Rattle.ffv1_hold.specs.HoldingText.{IsTextOf, FitsInFile, file_text}
-use Rattle.ffv1_hold.specs.Leads.{IsLeadOf}
+use Rattle.ffv1_hold.specs.ReadLimits.{IsReadLimitOf}
 use Rattle.ffv1_hold.specs.FileFaults.{IsPartOfFile, IsHoldingText, FileShows, IsFaultOf}
 pub use Rattle.ffv1_holding.specs.Laws.{CopiesHoldTheOriginal, NearCopiesHoldTheOriginal, HeldIsFound, OriginIsACopy}
 
@@ -28,10 +28,10 @@ PartShowsNoFault = (part seen rest : List ℕ) (fault : HoldFileFault) → IsPar
 abbrev pub TextHasNoFault : Type 0
 TextHasNoFault = (v : Version) (h : Contents) → IsHolding h → FitsInFile v h → (fault : HoldFileFault) → ¬ IsFaultOf (file_text v h) fault
 
--- Each text, beside another holding or none, and each bytes that were written have exactly one lead.
-abbrev pub OneLead : Type 0
-OneLead = (v : Version) (h : Contents) (other : Option Contents) (bytes : List ℕ) → (lead : ℕ) × IsLeadOf v h other bytes lead
-    × ((also : ℕ) → IsLeadOf v h other bytes also → also ≡ lead)
+-- Each text, beside another holding or none, and each bytes that were written have exactly one read_limit.
+abbrev pub OneReadLimit : Type 0
+OneReadLimit = (v : Version) (h : Contents) (other : Option Contents) (bytes : List ℕ) → (read_limit : ℕ) × IsReadLimitOf v h other bytes read_limit
+    × ((also : ℕ) → IsReadLimitOf v h other bytes also → also ≡ read_limit)
 
 -- An input has one fault at most.
 abbrev pub OneFault : Type 0

@@ -3,7 +3,7 @@ pub mod Reading
 pub mod Saving
 pub mod FileEntries
 pub mod FileFaults
-pub mod Leads
+pub mod ReadLimits
 pub mod MergeLogs
 pub mod MergedStreams
 pub mod Laws
@@ -25,7 +25,7 @@ pub use Rattle.ffv1_holding.specs.Contents
 pub use Rattle.ffv1_holding.specs.ContentsLaws
 pub use Rattle.ffv1_holding.specs.HoldingParts
 pub use Rattle.ffv1_holding.specs.TakeFaults
-pub use Rattle.ffv1_holding.specs.Standing
+pub use Rattle.ffv1_holding.specs.TileState
 pub use Rattle.ffv1_holding.specs.TileStates
 pub use Rattle.ffv1_holding.specs.Refusals
 pub use Rattle.ffv1_holding.specs.Originals

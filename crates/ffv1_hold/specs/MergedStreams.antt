@@ -12,7 +12,7 @@ use Rattle.ffv1_hold.specs.declared.version.Version.TheVariants.{Second}
 use Rattle.ffv1_hold.specs.HoldingText.{head_text, begun_text, file_text, holding_text, IsStated, FitsInFile, TakesFile}
 use Rattle.ffv1_hold.specs.Reading.{Refuses}
 use Rattle.ffv1_hold.specs.FileFaults.{IsFileReel, IsPartOfFile, IsHoldingText, FileIsWhole, FileShows, IsOutside}
-use Rattle.ffv1_hold.specs.Leads.{IsLeadOf}
+use Rattle.ffv1_hold.specs.ReadLimits.{IsReadLimitOf}
 
 -- what both inputs have left, before and after
 pub record Inputs : Type 0 where
@@ -25,7 +25,7 @@ pub record Inputs : Type 0 where
 
 -- the input is the file of the holding, of this version
 pub record IsFileOf (input : Option (List ℕ)) (v : Version) (h : Contents) : Type 0 where
-  pub sound : IsHolding h
+  pub well_formed : IsHolding h
   pub fits : FitsInFile v h
   pub text : input ≡ Some (file_text v h)
 
@@ -36,7 +36,7 @@ IsFileOfSome input (Some h) = (v : Version) × IsFileOf input v h
 
 -- the input was read to its end, and was a file of the holding
 pub record ReadsAll (old new : Option (List ℕ)) (h : Contents) : Type 0 where
-  pub sound : IsHolding h
+  pub well_formed : IsHolding h
   pub file : TakesFile old new h
   pub at_end : IsAtEnd new
 
@@ -55,9 +55,9 @@ pub record WritesUnion (i : Inputs) (old new : Option (List ℕ)) : Type 0 where
   pub written : Appends old new (holding_text (joined left right))
 
 -- what is returned for two texts of one reel whose union is this
-abbrev pub AnswersUnion : Contents → Result (Unit {0}) HoldFileFault → Type 0
-AnswersUnion union (Ok _) = Unit {0}
-AnswersUnion union (Err f) = IsOutside f ⊎ ((f ≡ faults.Write) ⊎ ((f ≡ faults.TooLong) × (file_limit < length (holding_text union))))
+abbrev pub ReturnsUnion : Contents → Result (Unit {0}) HoldFileFault → Type 0
+ReturnsUnion union (Ok _) = Unit {0}
+ReturnsUnion union (Err f) = IsOutside f ⊎ ((f ≡ faults.Write) ⊎ ((f ≡ faults.TooLong) × (file_limit < length (holding_text union))))
 
 -- ---- heads
 
@@ -81,15 +81,15 @@ pub record BeginsWithHead (input : Option (List ℕ)) (r : Reel) : Type 0 where
   pub split : input ≡ Some (head_text version r ++ rest)
 
 -- what is returned for inputs that begin with heads of two reels
-abbrev pub AnswersOther : Result (Unit {0}) HoldFileFault → Type 0
-AnswersOther (Ok _) = ⊥
-AnswersOther (Err f) = IsOutside f ⊎ (f ≡ faults.OtherReel)
+abbrev pub ReturnsOther : Result (Unit {0}) HoldFileFault → Type 0
+ReturnsOther (Ok _) = ⊥
+ReturnsOther (Err f) = IsOutside f ⊎ (f ≡ faults.OtherReel)
 
 -- ---- entries so far
 
 -- The head and the entries of this holding were read, and perhaps more after them.
 pub record ReadsPart (old new : Option (List ℕ)) (h : Contents) : Type 0 where
-  pub sound : IsHolding h
+  pub well_formed : IsHolding h
   pub record' : length h.reel.config ≤ record_limit
   pub version : Version
   pub stated : IsStated version h
@@ -126,7 +126,7 @@ InputRefuses old new f = Refuses IsPartOfFile FileIsWhole FileShows old new 0 f
 pub record ShowsNoFault (old new : Option (List ℕ)) : Type 0 where
   pub seen : List ℕ
   pub taken : Consumes old new seen
-  pub sound : IsPartOfFile seen ⊎ IsHoldingText seen
+  pub well_formed : IsPartOfFile seen ⊎ IsHoldingText seen
 
 -- one input is refused, and what was taken of the other shows no fault
 abbrev pub OneRefuses : Inputs → HoldFileFault → Type 0
@@ -153,7 +153,7 @@ StreamBegins (Some input) bytes = (rest : List ℕ) × (input ≡ bytes ++ rest)
 
 -- The input begins with the head and the entries of this holding.
 pub record BeginsWithPart (input : Option (List ℕ)) (h : Contents) : Type 0 where
-  pub sound : IsHolding h
+  pub well_formed : IsHolding h
   pub record' : length h.reel.config ≤ record_limit
   pub version : Version
   pub stated : IsStated version h
@@ -185,11 +185,11 @@ pub record WritesAtMost (old new : Option (List ℕ)) (most : ℕ) : Type 0 wher
   pub written : Appends old new done
   pub few : length done ≤ most
 
--- The bytes `done` were written, and no more was taken of the holding's text than up to its lead over them, with the other holding's
+-- The bytes `done` were written, and no more was taken of the holding's text than up to its read_limit over them, with the other holding's
 -- digests.
-pub record StaysInLead (v : Version) (h : Contents) (other : Option Contents) (input_old input_new old new : Option (List ℕ)) : Type 0 where
+pub record StaysInReadLimit (v : Version) (h : Contents) (other : Option Contents) (input_old input_new old new : Option (List ℕ)) : Type 0 where
   pub done : List ℕ
   pub written : Appends old new done
   pub seen : List ℕ
   pub taken : Consumes input_old input_new seen
-  pub within : (lead : ℕ) → IsLeadOf v h other done lead → length seen ≤ lead
+  pub within : (read_limit : ℕ) → IsReadLimitOf v h other done read_limit → length seen ≤ read_limit

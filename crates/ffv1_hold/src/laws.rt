@@ -1,5 +1,5 @@
 //! Laws of holding files (own), as contracts of functions that do nothing.
-ghost use Rattle.ffv1_hold.specs.Laws.{OneText, OneLead, OneFault, OneShownFault, TextHasNoFault, TextShowsNoFault, PartShowsNoFault};
+ghost use Rattle.ffv1_hold.specs.Laws.{OneText, OneReadLimit, OneFault, OneShownFault, TextHasNoFault, TextShowsNoFault, PartShowsNoFault};
 
 /// Two holdings with one text, of whatever version, are equal. So each has exactly one of version 2, and one without
 /// origins exactly one of version 1.
@@ -22,7 +22,7 @@ pub fn one_fault()
 {}
 
 /// However far the text of a holding may be read where a write fails, that is one place: each text, beside another
-/// holding or none, and each bytes that were written have exactly one lead.
-pub fn one_lead()
-    ensures { OneLead }
+/// holding or none, and each bytes that were written have exactly one read_limit.
+pub fn one_read_limit()
+    ensures { OneReadLimit }
 {}

@@ -29,7 +29,7 @@ pub use ffv1_holding::{
     origin_is_a_copy,
 };
 pub use file_fault::HoldFileFault;
-pub use laws::{one_fault, one_lead, one_text, text_shows_no_fault};
+pub use laws::{one_fault, one_read_limit, one_text, text_shows_no_fault};
 pub use merging::join_streams;
 pub use plan::{Plan, PlanFault, run, same_copies};
 pub use reading::read_hold;

@@ -10,7 +10,7 @@ ghost use Rattle.ffv1_hold.specs.declared.version.Version.{Version};
 ghost use Rattle.ffv1_hold.specs.FileEntries.{IsFileEntryOf};
 ghost use Rattle.ffv1_hold.specs.Inner.Reading.{Takes};
 ghost use Rattle.ffv1_hold.specs.FileFaults.{IsFileReel};
-ghost use Rattle.ffv1_hold.specs.MergedStreams.{IsFileOf, IsFileOfSome, WritesUnion, AnswersUnion, BeginsWithHead, AnswersOther, MergeRefuses, WritesNoEnd, WritesFrontSoFar, WritesAtMost, StaysInLead};
+ghost use Rattle.ffv1_hold.specs.MergedStreams.{IsFileOf, IsFileOfSome, WritesUnion, ReturnsUnion, BeginsWithHead, ReturnsOther, MergeRefuses, WritesNoEnd, WritesFrontSoFar, WritesAtMost, StaysInReadLimit};
 ghost use Rattle.ffv1_hold.specs.Inner.Merging.{Start, AreVersions, inputs_from, IsOpened, Stands, Stops, MergeIsRefused, HeadsRefuse, Ends, IsTurn, IsWritten, with_digests};
 ghost use Rattle.ffv1_hold.specs.MergeLogs.{MergeWent};
 ghost use Rattle.ffv1_hold.specs.Inner.MergeLogs.{WritesEntry};
@@ -57,11 +57,11 @@ pub fn join_streams<R: Source, Q: Source, W: Sink>(
 
     // For such inputs the result is that, `Read`, `Write` or `Memory`, or `TooLong` where the union has no text.
     ensures only { (v w : Version) (g h : Contents) → IsSameReel g h → IsFileOf (R.log left.old).remaining v g → IsFileOf (Q.log right.old).remaining w h
-        → AnswersUnion (joined g h) result }
+        → ReturnsUnion (joined g h) result }
 
     // For inputs that begin with heads of two reels the result is `OtherReel`, `Read` or `Memory`.
     ensures other { (g h : Reel) → BeginsWithHead (R.log left.old).remaining g → BeginsWithHead (Q.log right.old).remaining h → ¬ (g ≡ h)
-        → AnswersOther result }
+        → ReturnsOther result }
     ensures untouched { IsErrOf result HoldFileFault.OtherReel → sink.new ≡ sink.old }
 
     // The bytes that were read show the fault, and it is the first: what was taken of the other input shows none.
@@ -72,14 +72,14 @@ pub fn join_streams<R: Source, Q: Source, W: Sink>(
       right_new = (Q.log right.new).remaining;
     })) }
 
-    // After `Write` no more was taken of an input that is a text than up to its lead: where the other one is a text too, with the
+    // After `Write` no more was taken of an input that is a text than up to its read_limit: where the other one is a text too, with the
     // digests of both.
-    ensures left_lead { (v : Version) (h : Contents) (other : Option Contents) → IsFileOf (R.log left.old).remaining v h
+    ensures left_read_limit { (v : Version) (h : Contents) (other : Option Contents) → IsFileOf (R.log left.old).remaining v h
         → IsFileOfSome (Q.log right.old).remaining other → IsErrOf result HoldFileFault.Write
-        → StaysInLead v h other (R.log left.old).remaining (R.log left.new).remaining (W.log sink.old).contents (W.log sink.new).contents }
-    ensures right_lead { (v : Version) (h : Contents) (other : Option Contents) → IsFileOf (Q.log right.old).remaining v h
+        → StaysInReadLimit v h other (R.log left.old).remaining (R.log left.new).remaining (W.log sink.old).contents (W.log sink.new).contents }
+    ensures right_read_limit { (v : Version) (h : Contents) (other : Option Contents) → IsFileOf (Q.log right.old).remaining v h
         → IsFileOfSome (R.log left.old).remaining other → IsErrOf result HoldFileFault.Write
-        → StaysInLead v h other (Q.log right.old).remaining (Q.log right.new).remaining (W.log sink.old).contents (W.log sink.new).contents }
+        → StaysInReadLimit v h other (Q.log right.old).remaining (Q.log right.new).remaining (W.log sink.old).contents (W.log sink.new).contents }
 
     // What was written: after `Write` a front of a text, after another refusal no end tag.
     ensures write { IsErrOf result HoldFileFault.Write → WritesFrontSoFar (record {

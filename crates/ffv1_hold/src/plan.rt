@@ -104,7 +104,7 @@ pub fn run(
     ensures config { IfOk result (λ h. h.reel.config ≡ config.now) }
     ensures setup { IfOk result (λ h. IsSetupOf config.now width height h.reel.setup) }
     ensures meaning { IfOk result (λ h. h ≡ holding_of h.reel (copies_of plan.now)) }
-    ensures sound { IfOk result IsHolding }
+    ensures well_formed { IfOk result IsHolding }
 
     // Where the plan's copies are near an original, with each of its slices intact in one of them, exactly its slices are held.
     ensures near { (original : List ℕ) (slices : List (List ℕ)) → IfOk result (λ h. AreNear h.reel.setup original slices (copies_of plan.now)
@@ -135,7 +135,7 @@ pub fn run(
 /// Takes a copy into a holding.
 fn with_copy(holding: Holding, copy: &[u8]) -> Result<Holding, PlanFault>
     ensures ok { IfOk result (λ h. h ≡ with_found holding copy.now) }
-    ensures sound { IfOk result IsHolding }
+    ensures well_formed { IfOk result IsHolding }
     ensures short { OnOk result (AreShort (copy.now ∷ [])) }
     ensures fault { IfErr result (IsFaultOfCopy copy.now) }
 {
@@ -147,7 +147,7 @@ fn with_copy(holding: Holding, copy: &[u8]) -> Result<Holding, PlanFault>
 /// Takes many copies into a holding, one after the other.
 fn with_all_copies(holding: Holding, copies: &[&[u8]]) -> Result<Holding, PlanFault>
     ensures ok { IfOk result (λ h. h ≡ with_copies holding (map (λ copy. copy.now) copies.now)) }
-    ensures sound { IfOk result IsHolding }
+    ensures well_formed { IfOk result IsHolding }
     ensures short { OnOk result (AreShort (map (λ copy. copy.now) copies.now)) }
     ensures fault { IfErr result (IsFaultOfCopies (map (λ copy. copy.now) copies.now)) }
 {
@@ -160,7 +160,7 @@ fn with_all_copies(holding: Holding, copies: &[&[u8]]) -> Result<Holding, PlanFa
 fn union_of(holding: Holding, other: Holding) -> Result<Holding, PlanFault>
     requires { IsSameReel holding other }
     ensures ok { IfOk result (λ h. h ≡ joined holding other) }
-    ensures sound { IfOk result IsHolding }
+    ensures well_formed { IfOk result IsHolding }
     ensures memory { IfErr result (λ fault. fault ≡ Hold Memory) }
 {
     let mut holding = holding;

@@ -6,7 +6,7 @@ ghost use Rattle.ffv1_hold.specs.Inner.Reading.{ReadsText};
 ghost use Rattle.ffv1_holding.specs.Contents.{Contents, IsEntryOf, IsHolding, AreDigests, no_slices, with_entry};
 ghost use Rattle.ffv1_hold.specs.declared.version.Version.{Version};
 ghost use Rattle.ffv1_hold.specs.HoldingText.{entries_text, file_entries, file_text, IsStated, FitsInFile};
-ghost use Rattle.ffv1_hold.specs.FileFaults.{ReadsFile, IsPartOfEntries, EntriesShow, Answers};
+ghost use Rattle.ffv1_hold.specs.FileFaults.{ReadsFile, IsPartOfEntries, EntriesShow, Returns};
 ghost use Rattle.ffv1_hold.specs.Inner.FileFaults.{EntriesAreWhole};
 
 use crate::entry::HeldSlice;
@@ -29,7 +29,7 @@ pub fn read_hold<R: Source>(alloc: Global, source: &mut R) -> Result<Holding, Ho
 
     // For an input that is such a text of a holding the result is that holding, `Read` or `Memory`.
     ensures only { (v : Version) (h : Contents) → IsHolding h → FitsInFile v h → (R.log source.old).remaining ≡ Some (file_text v h)
-        → Answers h result }
+        → Returns h result }
 {
     let mut reader = HoldReader::new();
     read_parts(alloc, source, &mut reader)
@@ -66,7 +66,7 @@ fn read_entries<R: Source>(
         (EntriesShow reader.old.version holding.old.reel.setup)
         (R.log source.old) (R.log source.new) reader.old.place reader.new.place result }
     ensures end { OnOk result (IsAtEnd (R.log source.new).remaining) }
-    ensures sound { OnOk result (IsHolding holding.new) }
+    ensures well_formed { OnOk result (IsHolding holding.new) }
     ensures stated { OnOk result (IsStated reader.old.version holding.new) }
     ensures reel { OnOk result (holding.new.reel ≡ holding.old.reel) }
 {

@@ -27,7 +27,7 @@ use ffv1_holding::{Holding, Reel};
 /// allocated.
 pub fn write_hold<W: Sink>(holding: &Holding, sink: &mut W) -> Result<(), HoldFileFault>
     ensures saved { SavesFile result holding.now (W.log sink.old) (W.log sink.new) }
-    ensures sound { IsHolding holding.now }
+    ensures well_formed { IsHolding holding.now }
     ensures untouched { IsErrOf result HoldFileFault.TooLong → sink.new ≡ sink.old }
 {
     if !fits_in_file(holding) {
@@ -159,7 +159,7 @@ fn reel_head(width: u32, height: u32, length: u32) -> [u8; 20]
 
 /// Whether record and text are within their limits.
 fn fits_in_file(holding: &Holding) -> bool
-    ensures sound { IsHolding holding.now }
+    ensures well_formed { IsHolding holding.now }
     ensures fits { IsTrue result ↔ ((length holding.now.reel.config ≤ record_limit) × (length (holding_text holding.now) ≤ file_limit)) }
 {
     let config = holding.reel().config();
@@ -175,7 +175,7 @@ fn fits_in_file(holding: &Holding) -> bool
 
 /// What is left of the room after the entries of all tiles, or `None` where they pass it.
 fn room_after(holding: &Holding, room: u32) -> Option<u32>
-    requires sound { IsHolding holding.now }
+    requires well_formed { IsHolding holding.now }
     requires entries { AreWritable holding.now }
     requires room { room ≤ file_limit }
     ensures some { IfSome result (λ left. left + length (entries_text Version.Second (file_entries holding.now)) ≡ room) }

@@ -2,7 +2,7 @@
 use Rattle.std.proofs.Common.{◌≡◌, ℕ, ◌+◌, ◌<◌, ◌≤◌, refl, [], ◌∷◌, List, length, get_or, Option, Some, None, MatchOption, sym, ap, ◌∙◌, inl, inr, arith}
 use Rattle.std.proofs.lemmas.Bool.{cases_order}
 use Rattle.std.proofs.lemmas.List.{get_or_default}
-use Rattle.ffv1_holding.specs.Standing.{IsLeastStatus, status_of}
+use Rattle.ffv1_holding.specs.TileState.{IsLeastStatus, status_of}
 
 pub record IsLeast (xs : List (List ℕ)) (place least : ℕ) : Type 0 where
   pub low : (i : ℕ) (d : List ℕ) → i < place → least ≤ status_of (get_or xs i d)

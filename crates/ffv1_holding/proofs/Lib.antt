@@ -30,7 +30,7 @@ pub mod Listing
 pub mod ContentsSteps
 pub mod Reels
 pub mod Leasts
-pub mod Standings
+pub mod TileStatesOf
 pub mod TileUnions
 pub mod HoldingSteps
 pub mod Found

@@ -1,13 +1,13 @@
--- Two copies of a frame, each with another slice hurt: together they hold the frame.
+-- Two copies of a frame, each with another slice damaged: together they hold the frame.
 use Rattle.std.proofs.Common.{◌≡◌, ℕ, zero, suc, ◌<◌, List, [], ◌∷◌, get_or, Contains, refl, subst, arith}
 use Rattle.ffv1_slice.specs.Near.{IsNear, IsIntactIn}
-use Rattle.ffv1_slice.proofs.NearVectors.{setup, frame, slices, hurt_frame, other_frame, is_original, near, other_near, first_intact, second_intact}
+use Rattle.ffv1_slice.proofs.NearVectors.{setup, frame, slices, damaged_frame, other_frame, is_original, near, other_near, first_intact, second_intact}
 use Rattle.ffv1_holding.specs.Contents.{holding_of}
 use Rattle.ffv1_holding.specs.Originals.{AreNear, HoldsExactly}
 use Rattle.ffv1_holding.proofs.ExactlyHeld.{near_held}
 
 abbrev copies : List (List ℕ)
-copies = hurt_frame ∷ other_frame ∷ []
+copies = damaged_frame ∷ other_frame ∷ []
 
 are_near : AreNear setup frame slices copies
 are_near = record { is_original = is_original; near = each; intact = intact }
@@ -22,7 +22,7 @@ are_near = record { is_original = is_original; near = each; intact = intact }
 
     intact : (tile : ℕ) (d : List ℕ) → tile < 2 → (copy : List ℕ) × Contains copies copy × IsIntactIn slices copy tile (get_or slices tile d)
     intact zero d lt = (other_frame, (1, omega arith, refl), first_intact)
-    intact (suc zero) d lt = (hurt_frame, (0, omega arith, refl), second_intact)
+    intact (suc zero) d lt = (damaged_frame, (0, omega arith, refl), second_intact)
     intact (suc (suc tile)) d lt = absurd (omega arith)
 
 -- whatever record gives this setup

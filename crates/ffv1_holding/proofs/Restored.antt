@@ -10,7 +10,7 @@ use Rattle.ffv1_slice.specs.Slices.{IsOriginal}
 use Rattle.ffv1_holding.specs.Reels.{reel_tiles}
 use Rattle.ffv1_holding.specs.Contents.{Contents}
 use Rattle.ffv1_holding.specs.TileSets.{tile_slices}
-use Rattle.ffv1_holding.specs.Standing.{Standing, status_of, tile_state, standing_of, standing_of_best, settled, settled_bytes, restored_payload}
+use Rattle.ffv1_holding.specs.TileState.{StateOfTile, status_of, tile_state, tile_state_of, state_of_best, settled, settled_bytes, restored_payload}
 use Rattle.ffv1_holding.specs.Originals.{HoldsExactly}
 use Rattle.ffv1_holding.proofs.RisingSets.{items-from_list}
 use Rattle.ffv1_holding.proofs.Tiles.{any_of_tile, same_tile, other_tile}
@@ -37,13 +37,13 @@ module _ (h : Contents) (slices : List (List ℕ)) (exact : HoldsExactly h slice
       ∙ set.contains-from_list entries_total (enumerate_from 0 slices) (t, b) ∙ any-numbered t 0 b slices t d (omega arith) lt
       ∙ sym (or-false (eq_by_cmp bytes_cmp b (get_or slices t d))) ∙ sym (set.contains-from_list bytes_total (get_or slices t d ∷ []) b))
 
-  alone : (b : List ℕ) → standing_of (b ∷ []) ≡ settled b
-  alone b = ap (λ x. standing_of_best (cond (x && true) (b ∷ []) [])) (le-leb (status_of b) (status_of b) (omega arith))
+  alone : (b : List ℕ) → tile_state_of (b ∷ []) ≡ settled b
+  alone b = ap (λ x. state_of_best (cond (x && true) (b ∷ []) [])) (le-leb (status_of b) (status_of b) (omega arith))
 
   pub settled_alone : (t : ℕ) (d : List ℕ) → t < length slices → tile_state h t ≡ settled (get_or slices t d)
   settled_alone t d lt =
-      ap (λ s. standing_of (set.items s)) (one_slice t d lt)
-      ∙ ap standing_of (items-from_list bytes_total (get_or slices t d ∷ []) (λ i j e below in_range. absurd (omega arith)))
+      ap (λ s. tile_state_of (set.items s)) (one_slice t d lt)
+      ∙ ap tile_state_of (items-from_list bytes_total (get_or slices t d ∷ []) (λ i j e below in_range. absurd (omega arith)))
       ∙ alone (get_or slices t d)
 
   joined_from : (k n : ℕ) (rest : List (List ℕ)) → length rest ≡ n → ((i : ℕ) (d : List ℕ) → i < n → settled_bytes (tile_state h (k + i)) ≡ get_or rest i d)
@@ -63,6 +63,6 @@ module _ (h : Contents) (slices : List (List ℕ)) (exact : HoldsExactly h slice
       ∙ sym original.joined
 
   -- no tile of the original is unsettled
-  pub never_unsettled : (payload : List ℕ) → IsOriginal h.reel.setup payload slices → (t : ℕ) → t < (reel_tiles h.reel) → (s : Standing) → s ≡ tile_state h t
+  pub never_unsettled : (payload : List ℕ) → IsOriginal h.reel.setup payload slices → (t : ℕ) → t < (reel_tiles h.reel) → (s : StateOfTile) → s ≡ tile_state h t
       → ((b : List ℕ) → s ≡ settled b → ⊥) → ⊥
   never_unsettled payload original t lt s is other = other (get_or slices t []) (is ∙ settled_alone t [] (omega (arith, original.count)))

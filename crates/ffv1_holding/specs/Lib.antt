@@ -8,7 +8,7 @@ pub mod Contents
 pub mod ContentsLaws
 pub mod HoldingParts
 pub mod TakeFaults
-pub mod Standing
+pub mod TileState
 pub mod TileStates
 pub mod Refusals
 pub mod Originals

@@ -1,7 +1,7 @@
 -- What a refusal to restore says of a holding.
 use Rattle.std.specs.Prelude.{◌≡◌, ℕ}
 use Rattle.ffv1_holding.specs.Contents.{Contents}
-use Rattle.ffv1_holding.specs.Standing.{missing, disputed, tile_state, IsLeastUnsettled, AreSettled}
+use Rattle.ffv1_holding.specs.TileState.{missing, disputed, tile_state, IsLeastUnsettled, AreSettled}
 use Rattle.ffv1_holding.specs.declared.restore.RestoreFault.{RestoreFault}
 use Rattle.ffv1_holding.specs.declared.restore.RestoreFault.TheVariants.{Missing, Disputed, Memory}
 

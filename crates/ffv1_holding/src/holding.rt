@@ -72,7 +72,7 @@ impl Holding {
     /// The recording. It stays the same whatever is taken or joined.
     pub fn reel(&self) -> &Reel
         ensures value { result.now ≡ self.now.reel }
-        ensures sound { IsHolding self.now }
+        ensures well_formed { IsHolding self.now }
     {
         &self.reel
     }
@@ -80,7 +80,7 @@ impl Holding {
     /// The setup that `Setup::read` gives for the record and the size. It stays the same whatever is taken or joined.
     pub fn setup(&self) -> &Setup
         ensures value { result.now ≡ self.now.reel.setup }
-        ensures sound { IsHolding self.now }
+        ensures well_formed { IsHolding self.now }
     {
         self.reel.setup()
     }

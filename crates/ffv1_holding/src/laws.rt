@@ -7,7 +7,7 @@ pub fn copies_hold_the_original()
     ensures { CopiesHoldTheOriginal }
 {}
 
-/// Where all copies differ from an original only within 32 bits of each slice, its size field unhurt, and each of its
+/// Where all copies differ from an original only within 32 bits of each slice, its size field undamaged, and each of its
 /// slices is intact in one of them, the holding of the copies holds exactly the original's slices.
 pub fn near_copies_hold_the_original()
     ensures { NearCopiesHoldTheOriginal }

@@ -33,7 +33,7 @@ impl Reel {
     pub fn read(alloc: Global, config: Vec<u8>, width: u32, height: u32) -> Result<Reel, SetupFault>
         ensures config { IfOk result (λ r. r.config ≡ config.items) }
         ensures setup { IfOk result (λ r. IsSetupOf config.items width height r.setup) }
-        ensures sound { IfOk result IsReel }
+        ensures well_formed { IfOk result IsReel }
         ensures only { (s : SetupValue) → IsSetupOf config.items width height s → OnErr result (result ≡ Err SetupFault.Memory) }
         ensures fault { IfErr result (λ fault. (fault ≡ SetupFault.Memory) ⊎ FirstSetupFault config.items width height fault) }
         ensures memory { IsErrOf result SetupFault.Memory → WantsMemory config.items width height }
@@ -52,7 +52,7 @@ impl Reel {
     /// The setup.
     pub fn setup(&self) -> &Setup
         ensures value { result.now ≡ self.now.setup }
-        ensures sound { IsReel self.now }
+        ensures well_formed { IsReel self.now }
     {
         &self.setup
     }
@@ -60,7 +60,7 @@ impl Reel {
     /// How many tiles a frame has.
     pub fn tiles(&self) -> usize
         ensures count { result ≡ reel_tiles self.now }
-        ensures sound { IsReel self.now }
+        ensures well_formed { IsReel self.now }
     {
         self.setup.grid().tiles()
     }

@@ -5,8 +5,8 @@ ghost use Rattle.ffv1_slice.specs.Slices.{IsOriginal};
 ghost use Rattle.ffv1_holding.specs.Sets as set;
 ghost use Rattle.ffv1_holding.specs.Reels.{reel_tiles};
 ghost use Rattle.ffv1_holding.specs.TileSets.{tile_slices};
-ghost use Rattle.ffv1_holding.specs.Standing.{tile_state, IsLeastStatus, AreSettled, restored_payload};
-ghost use Rattle.ffv1_holding.specs.TileStates.{standing_shown};
+ghost use Rattle.ffv1_holding.specs.TileState.{tile_state, IsLeastStatus, AreSettled, restored_payload};
+ghost use Rattle.ffv1_holding.specs.TileStates.{state_shown};
 ghost use Rattle.ffv1_holding.specs.Refusals.{IsRefusal};
 ghost use Rattle.ffv1_holding.specs.Contents.{slices_of_copies};
 ghost use Rattle.ffv1_holding.specs.Originals.{AreNear, HoldsExactly};
@@ -76,7 +76,7 @@ impl Holding {
     /// How a tile stands, by its slices of the least error_status. `tile` must be less than the number of tiles.
     pub fn state(&self, tile: usize) -> TileState<'_>
         requires { tile < reel_tiles self.now.reel }
-        ensures { standing_shown result ≡ tile_state self.now tile }
+        ensures { state_shown result ≡ tile_state self.now tile }
     {
         state(&self.held.of_tile(tile))
     }

@@ -3,7 +3,7 @@ ghost use Rattle.std.specs.Prelude.{◌≡◌, ℕ, ◌<◌, List, length, map, 
 ghost use Rattle.ffv1_slice.specs.Chain.{IsFramed};
 ghost use Rattle.ffv1_holding.specs.Sets as set;
 ghost use Rattle.ffv1_holding.specs.Inner.PoolEntries.{slice_in, IsShelf};
-ghost use Rattle.ffv1_holding.specs.Standing.{status_of};
+ghost use Rattle.ffv1_holding.specs.TileState.{status_of};
 
 use crate::pool_entry::PoolEntry;
 use ffv1_slice::status_of;

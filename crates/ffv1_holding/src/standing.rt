@@ -1,8 +1,8 @@
 //! How a tile stands (own): by its best slices, those of the least error_status (RFC 9043, section 4.9.2).
 ghost use Rattle.std.specs.Prelude.{◌≡◌};
 ghost use Rattle.ffv1_holding.specs.Sets as set;
-ghost use Rattle.ffv1_holding.specs.Standing.{standing_of, IsLeastStatus};
-ghost use Rattle.ffv1_holding.specs.TileStates.{standing_shown};
+ghost use Rattle.ffv1_holding.specs.TileState.{tile_state_of, IsLeastStatus};
+ghost use Rattle.ffv1_holding.specs.TileStates.{state_shown};
 
 use crate::shelf::Shelf;
 
@@ -34,7 +34,7 @@ pub(crate) fn least_status(slices: &Shelf<'_>) -> Option<u8>
 
 /// How the tile of these slices stands.
 pub(crate) fn state<'a>(slices: &Shelf<'a>) -> TileState<'a>
-    ensures { standing_shown result ≡ standing_of (set.items slices.now) }
+    ensures { state_shown result ≡ tile_state_of (set.items slices.now) }
 {
     let Some(least) = least_status(slices) else {
         return TileState::Missing;

@@ -113,7 +113,7 @@ fn list_found(setup: &Setup, payload: &[u8], found: &mut Vec<PoolEntry>) -> Resu
     requires none { found.old.items ≡ [] }
     ensures found { OnOk result (map (entry_in payload.now) found.new.items ≡ found_slices setup.now payload.now) }
     ensures lie { OnOk result (AreEntriesIn payload.now found.new.items) }
-    ensures sound { OnOk result (AreEntriesOf setup.now (set.from_list (found_slices setup.now payload.now))) }
+    ensures well_formed { OnOk result (AreEntriesOf setup.now (set.from_list (found_slices setup.now payload.now))) }
     ensures links { IfOk result (λ links. links ≡ length (links_of payload.now)) }
     ensures memory { OnErr result (result ≡ Err HoldFault.Memory) }
 {

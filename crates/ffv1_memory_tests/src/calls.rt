@@ -1,7 +1,9 @@
 //! The calls of the libraries, each on a recorded frame.
-use crate::attempt::{Attempt, Outcome};
+use crate::attempt::{Attempt, Tried};
 use crate::buffer::Buffer;
-use crate::stock::{SIZE, Stock, first_copy, holding_of, remainder_of, second_copy, torn_copies};
+use crate::stock::{
+    SIZE, Stock, damaged_copies, first_copy, holding_of, remainder_of, second_copy,
+};
 use ffv1_bits::remainder;
 use ffv1_hold::{
     FromRead, FromWrite, HoldFault, HoldFileFault, Holding, Join, RestoreFault, TakeAllFault,
@@ -13,7 +15,7 @@ use ffv1_range::{Setup, SetupFault};
 use ffv1_slice::content_of;
 use ffv1_splice::{SpliceFault, splice};
 use ffv1_test_frames::{RECORDED, RECORDED_RECORD};
-use ffv1_weave::{Check, Outcome as Woven, repair, vote, weave};
+use ffv1_weave::{Check, WeaveResult as Woven, repair, vote, weave};
 use std::alloc::{AllocError, Global};
 use std::io;
 use std::io::ErrorKind;
@@ -22,23 +24,23 @@ use std::io::ErrorKind;
 const LAST_SLICE: usize = 227;
 
 /// The remainder of the samples of a frame.
-fn samples_of(frame: &Frame) -> Outcome {
+fn samples_of(frame: &Frame) -> Tried {
     let mut sink = FromWrite::new(Buffer::new());
     match write_raw(frame, &mut sink) {
-        Ok(()) => Outcome::Answer(sink.into_inner().remainder()),
-        Err(_) => Outcome::Wrong,
+        Ok(()) => Tried::Done(sink.into_inner().remainder()),
+        Err(_) => Tried::Wrong,
     }
 }
 
 /// What a setup says, entry by entry.
-fn setup_reported(setup: &Setup) -> Outcome {
+fn setup_reported(setup: &Setup) -> Tried {
     let mut reported = setup.grid().tiles() as u32 ^ setup.micro();
     for set in 0..setup.sets() {
         reported = reported
             .wrapping_mul(31)
             .wrapping_add(setup.contexts(set) as u32);
     }
-    Outcome::Answer(reported)
+    Tried::Done(reported)
 }
 
 /// `Setup::read`.
@@ -46,11 +48,11 @@ fn setup_reported(setup: &Setup) -> Outcome {
 pub struct ReadSetup;
 
 impl Attempt for ReadSetup {
-    fn attempt(&mut self, alloc: Global) -> Outcome {
+    fn attempt(&mut self, alloc: Global) -> Tried {
         match Setup::read(alloc, &RECORDED_RECORD, SIZE.0, SIZE.1) {
             Ok(setup) => setup_reported(&setup),
-            Err(SetupFault::Memory) => Outcome::Memory,
-            Err(_) => Outcome::Wrong,
+            Err(SetupFault::Memory) => Tried::Memory,
+            Err(_) => Tried::Wrong,
         }
     }
 }
@@ -60,11 +62,11 @@ impl Attempt for ReadSetup {
 pub struct MakeHolding;
 
 impl Attempt for MakeHolding {
-    fn attempt(&mut self, alloc: Global) -> Outcome {
+    fn attempt(&mut self, alloc: Global) -> Tried {
         match Holding::new(alloc, &RECORDED_RECORD, SIZE.0, SIZE.1) {
-            Ok(holding) => Outcome::Answer(remainder_of(&holding)),
-            Err(SetupFault::Memory) => Outcome::Memory,
-            Err(_) => Outcome::Wrong,
+            Ok(holding) => Tried::Done(remainder_of(&holding)),
+            Err(SetupFault::Memory) => Tried::Memory,
+            Err(_) => Tried::Wrong,
         }
     }
 }
@@ -86,13 +88,13 @@ impl Take {
 }
 
 impl Attempt for Take {
-    fn attempt(&mut self, _alloc: Global) -> Outcome {
+    fn attempt(&mut self, _alloc: Global) -> Tried {
         match self.held.take(&second_copy()) {
             Ok(taken) if (taken.links, taken.slices, taken.new) == (4, 2, 2) => {
-                Outcome::Answer(remainder_of(&self.held))
+                Tried::Done(remainder_of(&self.held))
             }
-            Err(HoldFault::Memory) => Outcome::Memory,
-            Ok(_) | Err(_) => Outcome::Wrong,
+            Err(HoldFault::Memory) => Tried::Memory,
+            Ok(_) | Err(_) => Tried::Wrong,
         }
     }
 
@@ -125,14 +127,14 @@ impl TakeAll {
 }
 
 impl Attempt for TakeAll {
-    fn attempt(&mut self, _alloc: Global) -> Outcome {
+    fn attempt(&mut self, _alloc: Global) -> Tried {
         match self.held.take_all(&[&first_copy(), &second_copy()]) {
-            Ok(()) => Outcome::Answer(remainder_of(&self.held)),
+            Ok(()) => Tried::Done(remainder_of(&self.held)),
             Err(TakeAllFault { taken, cause }) if cause == HoldFault::Memory => {
                 self.taken = taken;
-                Outcome::Memory
+                Tried::Memory
             }
-            Err(_) => Outcome::Wrong,
+            Err(_) => Tried::Wrong,
         }
     }
 
@@ -163,11 +165,11 @@ impl<'a> JoinWith<'a> {
 }
 
 impl Attempt for JoinWith<'_> {
-    fn attempt(&mut self, _alloc: Global) -> Outcome {
+    fn attempt(&mut self, _alloc: Global) -> Tried {
         match self.held.join_with(self.other) {
-            Ok(2) => Outcome::Answer(remainder_of(&self.held)),
-            Err(HoldFault::Memory) => Outcome::Memory,
-            Ok(_) | Err(_) => Outcome::Wrong,
+            Ok(2) => Tried::Done(remainder_of(&self.held)),
+            Err(HoldFault::Memory) => Tried::Memory,
+            Ok(_) | Err(_) => Tried::Wrong,
         }
     }
 
@@ -184,13 +186,13 @@ pub struct Restore<'a> {
 }
 
 impl Attempt for Restore<'_> {
-    fn attempt(&mut self, _alloc: Global) -> Outcome {
+    fn attempt(&mut self, _alloc: Global) -> Tried {
         match self.held.restore() {
             Ok(payload) if payload.as_slice() == RECORDED.as_slice() => {
-                Outcome::Answer(remainder(&payload))
+                Tried::Done(remainder(&payload))
             }
-            Err(RestoreFault::Memory) => Outcome::Memory,
-            Ok(_) | Err(_) => Outcome::Wrong,
+            Err(RestoreFault::Memory) => Tried::Memory,
+            Ok(_) | Err(_) => Tried::Wrong,
         }
     }
 }
@@ -203,12 +205,12 @@ pub struct WriteHold<'a> {
 }
 
 impl Attempt for WriteHold<'_> {
-    fn attempt(&mut self, _alloc: Global) -> Outcome {
+    fn attempt(&mut self, _alloc: Global) -> Tried {
         let mut sink = FromWrite::new(Buffer::new());
         match write_hold(self.held, &mut sink) {
-            Ok(()) => Outcome::Answer(sink.into_inner().remainder()),
-            Err(HoldFileFault::Memory) => Outcome::Memory,
-            Err(_) => Outcome::Wrong,
+            Ok(()) => Tried::Done(sink.into_inner().remainder()),
+            Err(HoldFileFault::Memory) => Tried::Memory,
+            Err(_) => Tried::Wrong,
         }
     }
 }
@@ -221,11 +223,11 @@ pub struct ReadHold<'a> {
 }
 
 impl Attempt for ReadHold<'_> {
-    fn attempt(&mut self, alloc: Global) -> Outcome {
+    fn attempt(&mut self, alloc: Global) -> Tried {
         match read_hold(alloc, &mut FromRead::new(self.file)) {
-            Ok(holding) => Outcome::Answer(remainder_of(&holding)),
-            Err(HoldFileFault::Memory) => Outcome::Memory,
-            Err(_) => Outcome::Wrong,
+            Ok(holding) => Tried::Done(remainder_of(&holding)),
+            Err(HoldFileFault::Memory) => Tried::Memory,
+            Err(_) => Tried::Wrong,
         }
     }
 }
@@ -252,15 +254,15 @@ impl<'a> JoinStreams<'a> {
 }
 
 impl Attempt for JoinStreams<'_> {
-    fn attempt(&mut self, alloc: Global) -> Outcome {
+    fn attempt(&mut self, alloc: Global) -> Tried {
         let (mut first, mut second) = (FromRead::new(self.first), FromRead::new(self.second));
         let mut sink = FromWrite::new(Buffer::new());
-        let answer = join_streams(alloc, &mut first, &mut second, &mut sink);
+        let returned = join_streams(alloc, &mut first, &mut second, &mut sink);
         self.written = sink.into_inner();
-        match answer {
-            Ok(()) => Outcome::Answer(self.written.remainder()),
-            Err(HoldFileFault::Memory) => Outcome::Memory,
-            Err(_) => Outcome::Wrong,
+        match returned {
+            Ok(()) => Tried::Done(self.written.remainder()),
+            Err(HoldFileFault::Memory) => Tried::Memory,
+            Err(_) => Tried::Wrong,
         }
     }
 
@@ -278,17 +280,17 @@ pub struct DecodeTile<'a> {
 }
 
 impl Attempt for DecodeTile<'_> {
-    fn attempt(&mut self, alloc: Global) -> Outcome {
+    fn attempt(&mut self, alloc: Global) -> Tried {
         if self.setup.grid().tiles() < 4 {
-            return Outcome::Wrong;
+            return Tried::Wrong;
         }
         match decode_tile(alloc, self.setup, 3, content_of(&RECORDED[LAST_SLICE..])) {
             Ok(tile) => match tile.planes.first() {
-                Some(plane) => Outcome::Answer(remainder(plane) ^ (tile.spare_bits % 256) as u32),
-                None => Outcome::Wrong,
+                Some(plane) => Tried::Done(remainder(plane) ^ (tile.spare_bits % 256) as u32),
+                None => Tried::Wrong,
             },
-            Err(TileFault::Memory) => Outcome::Memory,
-            Err(_) => Outcome::Wrong,
+            Err(TileFault::Memory) => Tried::Memory,
+            Err(_) => Tried::Wrong,
         }
     }
 }
@@ -298,11 +300,11 @@ impl Attempt for DecodeTile<'_> {
 pub struct MakeDecoder;
 
 impl Attempt for MakeDecoder {
-    fn attempt(&mut self, alloc: Global) -> Outcome {
+    fn attempt(&mut self, alloc: Global) -> Tried {
         match Decoder::new(alloc, &RECORDED_RECORD, SIZE.0, SIZE.1) {
-            Ok(_) => Outcome::Answer(0),
-            Err(SetupFault::Memory) => Outcome::Memory,
-            Err(_) => Outcome::Wrong,
+            Ok(_) => Tried::Done(0),
+            Err(SetupFault::Memory) => Tried::Memory,
+            Err(_) => Tried::Wrong,
         }
     }
 }
@@ -324,11 +326,11 @@ impl DecodeFrame {
 }
 
 impl Attempt for DecodeFrame {
-    fn attempt(&mut self, _alloc: Global) -> Outcome {
+    fn attempt(&mut self, _alloc: Global) -> Tried {
         match self.decoder.decode_frame(&RECORDED) {
             Ok(frame) => samples_of(&frame),
-            Err(FrameFault::Memory) => Outcome::Memory,
-            Err(_) => Outcome::Wrong,
+            Err(FrameFault::Memory) => Tried::Memory,
+            Err(_) => Tried::Wrong,
         }
     }
 }
@@ -341,9 +343,9 @@ pub struct Picture<'a> {
 }
 
 impl Attempt for Picture<'_> {
-    fn attempt(&mut self, alloc: Global) -> Outcome {
+    fn attempt(&mut self, alloc: Global) -> Tried {
         let Ok(Partial { frame, tiles }) = picture(alloc, self.held) else {
-            return Outcome::Memory;
+            return Tried::Memory;
         };
         match tiles.as_slice() {
             [
@@ -352,7 +354,7 @@ impl Attempt for Picture<'_> {
                 TileOutcome::Missing,
                 TileOutcome::Decoded { .. },
             ] => samples_of(&frame),
-            _ => Outcome::Wrong,
+            _ => Tried::Wrong,
         }
     }
 }
@@ -365,52 +367,52 @@ pub struct Report<'a> {
 }
 
 impl Attempt for Report<'_> {
-    fn attempt(&mut self, alloc: Global) -> Outcome {
+    fn attempt(&mut self, alloc: Global) -> Tried {
         match report(alloc, self.held) {
-            Ok(text) => Outcome::Answer(remainder(text.as_bytes())),
-            Err(_) => Outcome::Memory,
+            Ok(text) => Tried::Done(remainder(text.as_bytes())),
+            Err(_) => Tried::Memory,
         }
     }
 }
 
-/// `weave` of the last slice of both torn copies.
+/// `weave` of the last slice of both damaged copies.
 #[derive(Drop)]
 pub struct Weave;
 
 impl Attempt for Weave {
-    fn attempt(&mut self, alloc: Global) -> Outcome {
-        let [one, other] = torn_copies();
+    fn attempt(&mut self, alloc: Global) -> Tried {
+        let [one, other] = damaged_copies();
         match weave(
             alloc,
             Check::Slice,
             &[&one[LAST_SLICE..], &other[LAST_SLICE..]],
         ) {
             Ok(Woven::Woven(bytes, 4)) if bytes.as_slice() == &RECORDED[LAST_SLICE..] => {
-                Outcome::Answer(remainder(&bytes))
+                Tried::Done(remainder(&bytes))
             }
-            Ok(_) => Outcome::Wrong,
-            Err(_) => Outcome::Memory,
+            Ok(_) => Tried::Wrong,
+            Err(_) => Tried::Memory,
         }
     }
 }
 
 /// Whether the last slice came back, of so many that were tried.
-fn last_slice_of(made: Result<Option<(Vec<u8>, usize)>, AllocError>, tried: usize) -> Outcome {
+fn last_slice_of(made: Result<Option<(Vec<u8>, usize)>, AllocError>, tried: usize) -> Tried {
     match made {
         Ok(Some((bytes, count))) if count == tried && bytes.as_slice() == &RECORDED[LAST_SLICE..] =>
-            { Outcome::Answer(remainder(&bytes)) }
-        Ok(_) => Outcome::Wrong,
-        Err(_) => Outcome::Memory,
+            { Tried::Done(remainder(&bytes)) }
+        Ok(_) => Tried::Wrong,
+        Err(_) => Tried::Memory,
     }
 }
 
-/// `repair` of the last slice of both torn copies, where one bit is wrong in both.
+/// `repair` of the last slice of both damaged copies, where one bit is wrong in both.
 #[derive(Drop)]
 pub struct Repair;
 
 impl Attempt for Repair {
-    fn attempt(&mut self, alloc: Global) -> Outcome {
-        let [mut one, mut other] = torn_copies();
+    fn attempt(&mut self, alloc: Global) -> Tried {
+        let [mut one, mut other] = damaged_copies();
         one[250] ^= 1;
         other[250] ^= 1;
         last_slice_of(
@@ -420,13 +422,13 @@ impl Attempt for Repair {
     }
 }
 
-/// `vote` of the last slice of both torn copies and a third one, each damaged in another place.
+/// `vote` of the last slice of both damaged copies and a third one, each damaged in another place.
 #[derive(Drop)]
 pub struct Vote;
 
 impl Attempt for Vote {
-    fn attempt(&mut self, alloc: Global) -> Outcome {
-        let [one, other] = torn_copies();
+    fn attempt(&mut self, alloc: Global) -> Tried {
+        let [one, other] = damaged_copies();
         let mut third = RECORDED;
         third[260] ^= 1;
         let versions = [
@@ -438,19 +440,19 @@ impl Attempt for Vote {
     }
 }
 
-/// `splice` of both torn copies.
+/// `splice` of both damaged copies.
 #[derive(Drop)]
 pub struct Splice;
 
 impl Attempt for Splice {
-    fn attempt(&mut self, alloc: Global) -> Outcome {
-        let [one, other] = torn_copies();
+    fn attempt(&mut self, alloc: Global) -> Tried {
+        let [one, other] = damaged_copies();
         match splice(alloc, &[&one, &other]) {
             Ok(spliced) if spliced.payload() == RECORDED.as_slice() => {
-                Outcome::Answer(remainder(spliced.payload()))
+                Tried::Done(remainder(spliced.payload()))
             }
-            Err(SpliceFault::Memory) => Outcome::Memory,
-            Ok(_) | Err(_) => Outcome::Wrong,
+            Err(SpliceFault::Memory) => Tried::Memory,
+            Ok(_) | Err(_) => Tried::Wrong,
         }
     }
 }

@@ -1,8 +1,8 @@
 //! The functions of the commands, each on a recorded frame. After a refusal nothing was written, except by `run_merge`
 //! a front of its file.
-use crate::attempt::{Attempt, Outcome};
+use crate::attempt::{Attempt, Tried};
 use crate::buffer::Buffer;
-use crate::stock::{SIZE, Stock, TORN_LIST, first_copy, second_copy, torn_copies};
+use crate::stock::{SIZE, Stock, TORN_LIST, damaged_copies, first_copy, second_copy};
 use ffv1_commands::{
     CliFault, run_chain, run_decode, run_join, run_mend, run_merge, run_picture, run_report,
     run_restore, run_scan, run_show, run_splice, run_take,
@@ -30,16 +30,16 @@ impl Outputs {
     }
 
     /// What the command came to, by what it returned.
-    fn outcome(&self, answer: Result<(), CliFault>) -> Outcome {
-        match answer {
-            Ok(()) => Outcome::Answer(
+    fn outcome(&self, returned: Result<(), CliFault>) -> Tried {
+        match returned {
+            Ok(()) => Tried::Done(
                 self.made
                     .remainder()
                     .wrapping_mul(31)
                     .wrapping_add(self.printed.remainder()),
             ),
-            Err(CliFault::Memory) => Outcome::Memory,
-            Err(_) => Outcome::Wrong,
+            Err(CliFault::Memory) => Tried::Memory,
+            Err(_) => Tried::Wrong,
         }
     }
 }
@@ -63,11 +63,11 @@ pub enum Command {
     Restore,
     /// `run_picture` of the file of both copies.
     Picture,
-    /// `run_splice` of both torn copies.
+    /// `run_splice` of both damaged copies.
     Splice,
     /// `run_scan` of the frame as one range.
     Scan,
-    /// `run_mend` of both torn copies as one stretch.
+    /// `run_mend` of both damaged copies as one stretch.
     Mend,
     /// `run_decode` of the frame.
     Decode,
@@ -106,17 +106,17 @@ impl<'a> Run<'a> {
             Command::Report => run_report(alloc, &mut both, printed),
             Command::Restore => run_restore(alloc, &mut both, made, printed),
             Command::Picture => unit(run_picture(alloc, &mut both, made, printed)),
-            Command::Splice => splice_torn(alloc, made, printed),
+            Command::Splice => splice_damaged(alloc, made, printed),
             Command::Scan => scan_frame(alloc, printed),
-            Command::Mend => mend_torn(alloc, made, printed),
+            Command::Mend => mend_damaged(alloc, made, printed),
             Command::Decode => decode_payload(alloc, made, printed),
         }
     }
 }
 
 /// What a command returned, without whether all was found.
-fn unit(answer: Result<bool, CliFault>) -> Result<(), CliFault> {
-    match answer {
+fn unit(returned: Result<bool, CliFault>) -> Result<(), CliFault> {
+    match returned {
         Ok(_) => Ok(()),
         Err(fault) => Err(fault),
     }
@@ -144,9 +144,9 @@ fn take_both(alloc: Global, made: &mut Buffer, printed: &mut Buffer) -> Result<(
     )
 }
 
-/// `run_splice` of both torn copies.
-fn splice_torn(alloc: Global, made: &mut Buffer, printed: &mut Buffer) -> Result<(), CliFault> {
-    let [one, other] = torn_copies();
+/// `run_splice` of both damaged copies.
+fn splice_damaged(alloc: Global, made: &mut Buffer, printed: &mut Buffer) -> Result<(), CliFault> {
+    let [one, other] = damaged_copies();
     let mut copies = [one.as_slice(), other.as_slice()];
     unit(run_splice(alloc, &mut copies, made, printed))
 }
@@ -157,9 +157,9 @@ fn scan_frame(alloc: Global, printed: &mut Buffer) -> Result<(), CliFault> {
     unit(run_scan(alloc, &mut ranges, &mut frame, printed))
 }
 
-/// `run_mend` of both torn copies as one stretch.
-fn mend_torn(alloc: Global, made: &mut Buffer, printed: &mut Buffer) -> Result<(), CliFault> {
-    let [one, other] = torn_copies();
+/// `run_mend` of both damaged copies as one stretch.
+fn mend_damaged(alloc: Global, made: &mut Buffer, printed: &mut Buffer) -> Result<(), CliFault> {
+    let [one, other] = damaged_copies();
     let mut list = TORN_LIST;
     let copies = Vec::from_array(alloc, [one.as_slice(), other.as_slice()])?;
     unit(run_mend(alloc, &mut list, copies, made, printed))
@@ -180,10 +180,10 @@ fn decode_payload(alloc: Global, made: &mut Buffer, printed: &mut Buffer) -> Res
 }
 
 impl Attempt for Run<'_> {
-    fn attempt(&mut self, alloc: Global) -> Outcome {
+    fn attempt(&mut self, alloc: Global) -> Tried {
         self.outputs = Outputs::new();
-        let answer = self.run(alloc);
-        self.outputs.outcome(answer)
+        let returned = self.run(alloc);
+        self.outputs.outcome(returned)
     }
 
     fn is_kept(&self) -> bool {

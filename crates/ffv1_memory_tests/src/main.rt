@@ -13,7 +13,7 @@ mod commands;
 mod mending;
 mod stock;
 
-use attempt::{Attempt, Outcome};
+use attempt::{Attempt, Tried};
 use calls::{
     DecodeFrame, DecodeTile, JoinStreams, JoinWith, MakeDecoder, MakeHolding, Picture, ReadHold,
     ReadSetup, Repair, Report, Restore, Splice, Take, TakeAll, Vote, Weave, WriteHold,
@@ -27,17 +27,17 @@ use stock::Stock;
 /// Makes a call, and again if an allocation failed, and prints what it came to.
 fn report<C: Attempt>(rt: &HostRuntime, name: &str, mut call: C) -> io::Result<()> {
     let mut outcome = call.attempt(rt.alloc());
-    if outcome == Outcome::Memory {
+    if outcome == Tried::Memory {
         println!(rt; "{name} memory")?;
         let kept = call.is_kept();
         outcome = call.attempt(rt.alloc());
         if !kept {
-            outcome = Outcome::Wrong;
+            outcome = Tried::Wrong;
         }
     }
     match outcome {
-        Outcome::Answer(remainder) => println!(rt; "{name} {remainder:08x}"),
-        Outcome::Memory | Outcome::Wrong => println!(rt; "{name} wrong"),
+        Tried::Done(remainder) => println!(rt; "{name} {remainder:08x}"),
+        Tried::Memory | Tried::Wrong => println!(rt; "{name} wrong"),
     }
 }
 

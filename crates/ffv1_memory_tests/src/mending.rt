@@ -1,7 +1,7 @@
 //! The calls that mend a file of its stretches.
-use crate::attempt::{Attempt, Outcome};
+use crate::attempt::{Attempt, Tried};
 use crate::buffer::Buffer;
-use crate::stock::{TORN_LIST, element, torn_copies, torn_elements};
+use crate::stock::{TORN_LIST, damaged_copies, damaged_elements, element};
 use ffv1_bits::remainder;
 use ffv1_devices::{FromRead, FromWrite};
 use ffv1_mend::{Kind, Part, Sort, State, mend};
@@ -9,7 +9,7 @@ use ffv1_stretches::{CopyReader, ListFault, MendFault, mend_stretches, read_list
 use std::alloc::Global;
 use std::io::Write;
 
-/// `mend` of both torn elements, with the frame as their part.
+/// `mend` of both damaged elements, with the frame as their part.
 #[derive(Drop)]
 pub struct Mend;
 
@@ -21,15 +21,15 @@ const FRAME: Part = Part {
 };
 
 impl Attempt for Mend {
-    fn attempt(&mut self, alloc: Global) -> Outcome {
-        let [one, other] = torn_elements();
+    fn attempt(&mut self, alloc: Global) -> Tried {
+        let [one, other] = damaged_elements();
         match mend(alloc, Kind::Crc32, &[&one, &other], &one, &[FRAME]) {
             Ok(mended)
                 if mended.state() == State::Woven(4) && mended.bytes() == element().as_slice() => {
-                Outcome::Answer(remainder(mended.bytes()))
+                Tried::Done(remainder(mended.bytes()))
             }
-            Ok(_) => Outcome::Wrong,
-            Err(_) => Outcome::Memory,
+            Ok(_) => Tried::Wrong,
+            Err(_) => Tried::Memory,
         }
     }
 }
@@ -43,22 +43,22 @@ const LIST: &[u8] =
 pub struct ReadList;
 
 impl Attempt for ReadList {
-    fn attempt(&mut self, alloc: Global) -> Outcome {
+    fn attempt(&mut self, alloc: Global) -> Tried {
         match read_list(alloc, LIST, 2) {
             Ok(stretches) => {
                 let mut shown = Buffer::new();
                 match write!(shown, "{stretches:?}") {
-                    Ok(()) => Outcome::Answer(shown.remainder()),
-                    Err(_) => Outcome::Wrong,
+                    Ok(()) => Tried::Done(shown.remainder()),
+                    Err(_) => Tried::Wrong,
                 }
             }
-            Err(ListFault::Memory) => Outcome::Memory,
-            Err(ListFault::Line(_)) => Outcome::Wrong,
+            Err(ListFault::Memory) => Tried::Memory,
+            Err(ListFault::Line(_)) => Tried::Wrong,
         }
     }
 }
 
-/// `mend_stretches` of both torn copies as one stretch, whose list it reads.
+/// `mend_stretches` of both damaged copies as one stretch, whose list it reads.
 #[derive(Drop)]
 pub struct MendStretches {
     made: Buffer,
@@ -79,14 +79,14 @@ impl MendStretches {
         let Ok(stretches) = read_list(alloc, TORN_LIST, 2) else {
             return Err(MendFault::Memory);
         };
-        let [one, other] = torn_copies();
+        let [one, other] = damaged_copies();
         let mut copies = [
             CopyReader::new(alloc, FromRead::new(one.as_slice())),
             CopyReader::new(alloc, FromRead::new(other.as_slice())),
         ];
         let mut out = FromWrite::new(Buffer::new());
         let mut output = FromWrite::new(Buffer::new());
-        let answer = mend_stretches(
+        let returned = mend_stretches(
             alloc,
             stretches.as_slice(),
             &mut copies,
@@ -95,16 +95,16 @@ impl MendStretches {
         );
         self.made = out.into_inner();
         self.printed = output.into_inner();
-        answer
+        returned
     }
 }
 
 impl Attempt for MendStretches {
-    fn attempt(&mut self, alloc: Global) -> Outcome {
+    fn attempt(&mut self, alloc: Global) -> Tried {
         match self.mend(alloc) {
-            Ok(true) => Outcome::Answer(self.made.remainder() ^ self.printed.remainder()),
-            Err(MendFault::Memory) => Outcome::Memory,
-            Ok(_) | Err(_) => Outcome::Wrong,
+            Ok(true) => Tried::Done(self.made.remainder() ^ self.printed.remainder()),
+            Err(MendFault::Memory) => Tried::Memory,
+            Ok(_) | Err(_) => Tried::Wrong,
         }
     }
 

@@ -28,7 +28,7 @@ pub fn second_copy() -> [u8; 336] {
 }
 
 /// Two copies with damage in tile 3, each in another place of it.
-pub fn torn_copies() -> [[u8; 336]; 2] {
+pub fn damaged_copies() -> [[u8; 336]; 2] {
     let (mut one, mut other) = (RECORDED, RECORDED);
     one[230] ^= 1;
     other[320] ^= 1;
@@ -50,7 +50,7 @@ pub fn element() -> [u8; 420] {
 }
 
 /// Two copies of the element with damage in the frame's tile 3 and after the frame, each in other places.
-pub fn torn_elements() -> [[u8; 420]; 2] {
+pub fn damaged_elements() -> [[u8; 420]; 2] {
     let (mut one, mut other) = (element(), element());
     one[236] ^= 1;
     one[345] ^= 1;

@@ -47,14 +47,14 @@ module _ (seen found : List (List ℕ)) (version : List ℕ) where
 
 -- ---- whether a list has a member, as the code asks
 
-module _ {A : Type 0} (f : A → List ℕ) (xs : List A) (bytes : List ℕ) (answer : Bool) (asked : IsTrue answer ↔ Any (λ x. f x ≡ bytes) xs) where
-  pub has_member : answer ≡ true → Contains (map f xs) bytes
+module _ {A : Type 0} (f : A → List ℕ) (xs : List A) (bytes : List ℕ) (returned : Bool) (asked : IsTrue returned ↔ Any (λ x. f x ≡ bytes) xs) where
+  pub has_member : returned ≡ true → Contains (map f xs) bytes
   has_member is =
       let any = asked.0 is in
       let lt : any.0 < length xs = any.2 in
       (any.0, omega (arith, length-map xs f), get_or-map f xs any.0 any.1 bytes any.2 ∙ ap f any.3 ∙ any.4)
 
-  pub lacks_member : (d : A) → answer ≡ false → Contains (map f xs) bytes → ⊥
+  pub lacks_member : (d : A) → returned ≡ false → Contains (map f xs) bytes → ⊥
   lacks_member d is there =
       let lt : there.0 < length xs = omega (arith, there.1, length-map xs f) in
       let at : A = get_or xs there.0 d in

@@ -36,7 +36,7 @@ module _ (check : Check) (original : List ℕ) (versions : List (List ℕ)) (of 
   passing_is_original : (version : List ℕ) → Contains versions version → PassesBy check version → version ≡ original
   passing_is_original version there passes = elim (of.near version there) [
     | inl same ↦ same
-    | inr hurt ↦ sym (near_seen check original version hurt.1.0 of.are_bytes hurt.0 hurt.1.1 of.passes passes)
+    | inr damaged ↦ sym (near_seen check original version damaged.1.0 of.are_bytes damaged.0 damaged.1.1 of.passes passes)
   ]
 
   not_two : IsOfTwo (IsPassing check versions) → ⊥

@@ -6,8 +6,8 @@ use Rattle.ffv1_slice.specs.Members.{HasSameMembers}
 use Rattle.ffv1_weave.specs.Weave.{Weave, IsWeaveOf, weave_tally}
 use Rattle.ffv1_weave.specs.declared.check.Check.{Check}
 use Rattle.ffv1_weave.specs.declared.check.Check.TheVariants.{Element}
-use Rattle.ffv1_weave.specs.declared.weaving.Outcome.{Outcome}
-use Rattle.ffv1_weave.specs.declared.weaving.Outcome.TheVariants as outcome
+use Rattle.ffv1_weave.specs.declared.weaving.WeaveResult.{WeaveResult}
+use Rattle.ffv1_weave.specs.declared.weaving.WeaveResult.TheVariants as outcome
 use Rattle.ffv1_weave.proofs.WeaveLaws.{weave_as, same_back}
 use Rattle.ffv1_weave.proofs.References.{values_of, value_there, each_value, nowhere, length-values_of}
 use Rattle.ffv1_splice.proofs.Versions.{mapped_there, mapped_of}
@@ -43,7 +43,7 @@ module _ (versions lent : List (Bor (List ℕ))) (parts : List Part) (mends : Li
       (same_back (improved (values_of versions) parts mends) (values_of lent) same) weave h
 
 -- what was woven where nothing is
-pub not_woven : (check : Check) (versions : List (List ℕ)) (made : Outcome) → IsWeaveOf check versions (weave_tally made)
+pub not_woven : (check : Check) (versions : List (List ℕ)) (made : WeaveResult) → IsWeaveOf check versions (weave_tally made)
     → ((bytes : Vec ℕ Global) (count : ℕ) → made ≡ outcome.Woven bytes count → ⊥) → IsNotWoven check versions
 not_woven check versions (outcome.Woven bytes count) h apart = absurd (apart bytes count refl)
 not_woven check versions outcome.Disputed h apart = inl h

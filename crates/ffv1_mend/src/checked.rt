@@ -9,7 +9,7 @@ use crate::content::Content;
 use crate::mended::Mended;
 use crate::passing::{Passing, passing_of};
 use crate::state::State;
-use ffv1_weave::{Check, Outcome, weave};
+use ffv1_weave::{Check, WeaveResult, weave};
 use std::alloc::{AllocError, Global};
 
 /// How versions stand by a check by which they are woven, and their bytes. There is one version at least, and all are as long as `from`.
@@ -29,7 +29,7 @@ fn woven_standing<'a>(
         Passing::One(version) => Ok((State::Whole, Content::Version(version))),
         Passing::Two => Ok((State::Disputed, Content::Version(from))),
         Passing::None => match weave(alloc, check, versions)? {
-            Outcome::Woven(bytes, count) => Ok((State::Woven(count), Content::Made(bytes))),
+            WeaveResult::Woven(bytes, count) => Ok((State::Woven(count), Content::Made(bytes))),
             _ => Ok((State::Missing, Content::Version(from))),
         },
     }

@@ -17,7 +17,7 @@ use crate::part::{MendedPart, Part};
 use crate::parts::mended_parts;
 use crate::passing::{Passing, passing_of};
 use crate::state::State;
-use ffv1_weave::{Check, Outcome, weave};
+use ffv1_weave::{Check, WeaveResult, weave};
 use std::alloc::{AllocError, Global};
 
 /// The bytes where no checksum vouches for any: in each part its own, as far as it has some, and elsewhere those of `from`.
@@ -42,7 +42,7 @@ fn weave_improved(
     size: usize,
     parts: &[Part],
     mends: &[MendedPart<'_>],
-) -> Result<Outcome, AllocError>
+) -> Result<WeaveResult, AllocError>
     requires some { 0 < length versions.now }
     requires lengths { All (λ version. length version.now ≡ size) versions.now }
     requires fit { AreFitting size parts.now (map part_value mends.now) }
@@ -72,7 +72,7 @@ fn standing<'a>(
         Passing::One(version) => Ok((State::Whole, Content::Version(version))),
         Passing::Two => Ok((State::Disputed, fallback(alloc, from, parts, mends)?)),
         Passing::None => match weave_improved(alloc, versions, from.len(), parts, mends)? {
-            Outcome::Woven(bytes, count) => Ok((State::Woven(count), Content::Made(bytes))),
+            WeaveResult::Woven(bytes, count) => Ok((State::Woven(count), Content::Made(bytes))),
             _ => Ok((State::Missing, fallback(alloc, from, parts, mends)?)),
         },
     }

@@ -1,7 +1,7 @@
 //! Elements that are woven and mended.
 use crate::element::{Changes, FRAME, OTHER, changed};
 use ffv1_mend::{Kind, Mended, MendedPart, State, mend};
-use ffv1_weave::{Check, Outcome, weave};
+use ffv1_weave::{Check, WeaveResult, weave};
 use std::alloc::Global;
 
 /// Damage in the frame's first slice and its third, and after the frame.
@@ -132,7 +132,7 @@ fn element_is_woven_by_its_crc32(rt: HostRuntime) {
     let one = changed(&[(3, 1), (360, 1)]);
     let other = changed(&[(450, 1)]);
     let woven = match weave(rt.alloc(), Check::Element, &[&one, &other]) {
-        Ok(Outcome::Woven(bytes, count)) => {
+        Ok(WeaveResult::Woven(bytes, count)) => {
             count == 8 && bytes.as_slice() == changed(&[]).as_slice()
         }
         _ => false,

@@ -6,9 +6,9 @@ use Rattle.std.proofs.lemmas.List.FromFn.{get_or-map-range_with_len}
 use Rattle.ffv1_range.specs.Setup.{SetupValue, IsInProfile}
 use Rattle.ffv1_range.specs.Tiles.{GridValue, grid_of, tile_count, plane_count, plane_rect, frame_rect}
 use Rattle.ffv1_slice.specs.Slices.{content_of}
-use Rattle.ffv1_plane.proofs.OneStuck.{one_answer}
+use Rattle.ffv1_plane.proofs.OneStuck.{one_result}
 use Rattle.ffv1_plane.proofs.Pictures.{one_reading_is}
-use Rattle.ffv1_holding.specs.Standing.{Standing, missing, settled, disputed, tile_state}
+use Rattle.ffv1_holding.specs.TileState.{StateOfTile, missing, settled, disputed, tile_state}
 use Rattle.ffv1_picture.specs.WholePicture.{Planes, covers, sample_in, sample_of_tile, greatest_sample, whole_sample, whole_plane}
 use Rattle.ffv1_picture.specs.Frames.{IsFrameOf}
 use Rattle.ffv1_picture.specs.PartialPictures.{IsShown}
@@ -32,7 +32,7 @@ module _ (setup : SetupValue) (profile : IsInProfile setup) (tile : ℕ) (lt : t
   fault_one : (slice : List ℕ) (outcome : TileOutcome) (picture : Option Planes) (cause : _) → IsShown setup tile (settled slice) (Fault cause) None
       → IsShown setup tile (settled slice) outcome picture → Fault cause ≡ outcome
   fault_one slice (Decoded bits) (Some others) cause one other = absurd (one.no_picture others bits other)
-  fault_one slice (Fault stated) None cause one other = ap Fault (one_answer.one_fault setup tile
+  fault_one slice (Fault stated) None cause one other = ap Fault (one_result.one_fault setup tile
       (content_of slice) cause stated profile lt one.is_cause other.is_cause)
   fault_one slice outcome picture cause one other = absurd other
 
@@ -45,7 +45,7 @@ module _ (setup : SetupValue) (profile : IsInProfile setup) (tile : ℕ) (lt : t
   disputed_one n slices (Disputed count) None one other = ap Disputed (one ∙ sym other)
   disputed_one n slices outcome picture one other = absurd other
 
-  one_outcome : (state : Standing) (a b : TileOutcome) (p q : Option Planes) → IsShown setup tile state a p → IsShown setup tile state b q → a ≡ b
+  one_outcome : (state : StateOfTile) (a b : TileOutcome) (p q : Option Planes) → IsShown setup tile state a p → IsShown setup tile state b q → a ≡ b
   one_outcome (settled slice) (Decoded spare) b (Some planes) q one other = decoded_one slice spare planes b q one other
   one_outcome (settled slice) (Fault cause) b None q one other = fault_one slice b q cause one other
   one_outcome missing Missing b None q one other = missing_one b q other
@@ -114,7 +114,7 @@ tile_alone h k one other tile reels profile lt states shown also =
     let setup = h.reel.setup in
     let setups : k.reel.setup ≡ setup = ap (λ r. r.setup) (sym reels) in
     let other_each : IsShown setup tile (tile_state h tile) (get_or other.tiles.items tile Missing) (get_or also.pictures tile None) =
-    subst (λ (state : Standing). IsShown setup tile state (get_or other.tiles.items tile Missing) (get_or also.pictures tile None)) (sym states)
+    subst (λ (state : StateOfTile). IsShown setup tile state (get_or other.tiles.items tile Missing) (get_or also.pictures tile None)) (sym states)
     (subst (λ (s : SetupValue). IsShown s tile (tile_state k tile) (get_or other.tiles.items tile Missing) (get_or also.pictures tile None)) setups
     (also.each tile (subst (λ (s : SetupValue). tile < tile_count (grid_of s)) (sym setups) lt))) in
     let one_each = shown.each tile lt in

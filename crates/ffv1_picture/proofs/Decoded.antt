@@ -8,7 +8,7 @@ use Rattle.ffv1_slice.specs.Chain.{LinkValue}
 use Rattle.ffv1_slice.specs.Slices.{content_of}
 use Rattle.ffv1_picture.specs.TilePictures.{SpellsPlanes}
 use Rattle.ffv1_holding.specs.Contents.{Contents}
-use Rattle.ffv1_holding.specs.Standing.{tile_state}
+use Rattle.ffv1_holding.specs.TileState.{tile_state}
 use Rattle.ffv1_picture.specs.WholePicture.{Planes}
 use Rattle.ffv1_picture.specs.Frames.{planes_of, no_link, content_at, HasPicture, IsFrameOf, IsDrawnOf}
 use Rattle.ffv1_picture.specs.Inner.Drawing.{DrawsOnto, DrawsAny, DrawsSlice, HasSizes}

@@ -7,7 +7,7 @@ use Rattle.ffv1_slice.specs.Slices.{content_of}
 use Rattle.ffv1_plane.specs.Picture.{PictureValue}
 use Rattle.ffv1_plane.proofs.Pictures.{one_reading_is}
 use Rattle.ffv1_holding.specs.Contents.{Contents}
-use Rattle.ffv1_holding.specs.Standing.{Standing, missing, settled, disputed, tile_state}
+use Rattle.ffv1_holding.specs.TileState.{StateOfTile, missing, settled, disputed, tile_state}
 use Rattle.ffv1_picture.specs.WholePicture.{Planes}
 use Rattle.ffv1_picture.specs.TilePictures.{IsPictureOfSlice}
 use Rattle.ffv1_picture.specs.Frames.{IsFrameOf}
@@ -16,7 +16,7 @@ use Rattle.ffv1_picture.specs.declared.partial.Partial.{Partial}
 use Rattle.ffv1_picture.specs.declared.partial.TileOutcome.{TileOutcome}
 use Rattle.ffv1_picture.specs.declared.partial.TileOutcome.TheVariants.{Decoded, Missing, Disputed, Fault}
 
-pub shown_picture : (setup : SetupValue) (tile : ℕ) (state : Standing) (outcome : TileOutcome) (picture : Option Planes)
+pub shown_picture : (setup : SetupValue) (tile : ℕ) (state : StateOfTile) (outcome : TileOutcome) (picture : Option Planes)
     → IsShown setup tile state outcome picture
     → IsPictureOfTile setup tile state picture
 shown_picture setup tile (settled slice) (Decoded spare) (Some planes) shown = (spare, shown)
@@ -33,7 +33,7 @@ module _ (setup : SetupValue) (profile : IsInProfile setup) (tile : ℕ) (lt : t
   same_of_slice slice None (Some b) none other = absurd (none b other.0 other.1)
   same_of_slice slice None None none other = refl
 
-  pub one_picture : (state : Standing) (a b : Option Planes) → IsPictureOfTile setup tile state a → IsPictureOfTile setup tile state b → a ≡ b
+  pub one_picture : (state : StateOfTile) (a b : Option Planes) → IsPictureOfTile setup tile state a → IsPictureOfTile setup tile state b → a ≡ b
   one_picture missing a b one other = one ∙ sym other
   one_picture (settled slice) a b one other = same_of_slice slice a b one other
   one_picture (disputed n) a b one other = one ∙ sym other

@@ -5,7 +5,7 @@ use Rattle.std.proofs.lemmas.List.{take_more, append-nil}
 use Rattle.std.proofs.lemmas.Grind.{flat_map-append}
 use Rattle.std.proofs.lemmas.List.Sums.{sum_by-append}
 use Rattle.ffv1_holding.specs.Contents.{Contents}
-use Rattle.ffv1_holding.specs.Standing.{Standing, status_of, tile_state, IsLeastStatus}
+use Rattle.ffv1_holding.specs.TileState.{StateOfTile, status_of, tile_state, IsLeastStatus}
 use Rattle.ffv1_holding.proofs.Lists.{range_more}
 use Rattle.ffv1_picture.specs.ReportText.{least_status}
 
@@ -36,8 +36,8 @@ count_by-push : (p : ℕ → Bool) (xs : List ℕ) (x : ℕ) → count_by p (xs 
 count_by-push p xs x = sum_by-append (λ y. cond (p y) 1 0) xs (x ∷ [])
     ∙ (let e : count_by p xs + sum_by (λ y. cond (p y) 1 0) (x ∷ []) ≡ count_by p xs + cond (p x) 1 0 = omega arith in e)
 
-module _ (h : Contents) (stands : Standing → Bool) (n count : ℕ) (so_far : count ≡ count_by
-    (λ tile. stands (tile_state h tile)) (range_with_len 0 n)) (s : Standing) (is : s ≡ tile_state h n) where
+module _ (h : Contents) (stands : StateOfTile → Bool) (n count : ℕ) (so_far : count ≡ count_by
+    (λ tile. stands (tile_state h tile)) (range_with_len 0 n)) (s : StateOfTile) (is : s ≡ tile_state h n) where
   more : count_by (λ tile. stands (tile_state h tile)) (range_with_len 0 (n + 1)) ≡ count + cond (stands s) 1 0
   more =
       ap (count_by (λ tile. stands (tile_state h tile))) (range_more 0 n n (omega arith))

@@ -3,7 +3,7 @@ use Rattle.std.proofs.Common.{◌≡◌, ℕ, List, [], get_or, None, Result, Ok
 use Rattle.ffv1_slice.specs.Slices.{IsOriginal}
 use Rattle.ffv1_holding.specs.Contents.{Contents, holding_of, HasSameCopies}
 use Rattle.ffv1_holding.proofs.ContentsLaws.{holding_of-same}
-use Rattle.ffv1_holding.specs.Standing.{Standing, settled, IsSettled, IsLeastUnsettled}
+use Rattle.ffv1_holding.specs.TileState.{StateOfTile, settled, IsSettled, IsLeastUnsettled}
 use Rattle.ffv1_holding.specs.Originals.{AreNear, HoldsExactly}
 use Rattle.ffv1_hold.specs.Plans.{copies_of}
 use Rattle.ffv1_hold.specs.declared.plan.Plan.{Plan}
@@ -40,7 +40,7 @@ module _ (h : Contents) (original : List ℕ) (slices : List (List ℕ)) (is_ori
     pictures = shown.pictures;
     count = shown.count ∙ sym is_original.count;
     each = λ tile d lt.
-        let P : Standing → Type 0 = λ s. IsShown h.reel.setup tile s (get_or partial.tiles.items tile Missing) (get_or shown.pictures tile None) in
+        let P : StateOfTile → Type 0 = λ s. IsShown h.reel.setup tile s (get_or partial.tiles.items tile Missing) (get_or shown.pictures tile None) in
         shown_picture h.reel.setup tile (settled (get_or slices tile d)) (get_or partial.tiles.items tile Missing) (get_or shown.pictures tile None)
         (subst P (settled_alone h slices exact tile d lt) (shown.each tile (omega (arith, lt, is_original.count))));
     is_frame = shown.is_frame;

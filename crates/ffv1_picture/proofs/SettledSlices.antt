@@ -8,10 +8,10 @@ use Rattle.ffv1_holding.specs.SliceOrder.{bytes_cmp, bytes_total}
 use Rattle.ffv1_holding.specs.Sets as set
 use Rattle.ffv1_holding.specs.TileSets.{tile_slices}
 use Rattle.ffv1_holding.specs.Contents.{Contents, IsHolding, IsEntryOf}
-use Rattle.ffv1_holding.specs.Standing.{settled, tile_state, standing_of_best, best_slices}
+use Rattle.ffv1_holding.specs.TileState.{settled, tile_state, state_of_best, best_slices}
 use Rattle.ffv1_holding.proofs.Tiles.{contains-tile_slices}
 
-only_best : (best : List (List ℕ)) (slice : List ℕ) → standing_of_best best ≡ settled slice → best ≡ slice ∷ []
+only_best : (best : List (List ℕ)) (slice : List ℕ) → state_of_best best ≡ settled slice → best ≡ slice ∷ []
 only_best [] slice is = absurd (cc)
 only_best (b ∷ []) slice is = let same : b ≡ slice = cc in ap (λ x. x ∷ []) same
 only_best (b ∷ c ∷ more) slice is = absurd (cc)
@@ -26,7 +26,7 @@ any_filtered p q (x ∷ xs) any = elim (p x) as (λ b. list_any q (cond b (x ∷
   | false ↦ λ any. or_right (q x) (list_any q xs) (any_filtered p q xs any)
 ] any
 
-module _ (h : Contents) (sound : IsHolding h) (tile : ℕ) (slice : List ℕ) (is : tile_state h tile ≡ settled slice) where
+module _ (h : Contents) (well_formed : IsHolding h) (tile : ℕ) (slice : List ℕ) (is : tile_state h tile ≡ settled slice) where
   abbrev held : List (List ℕ)
   held = set.items (tile_slices h.slices tile)
 
@@ -41,4 +41,4 @@ module _ (h : Contents) (sound : IsHolding h) (tile : ℕ) (slice : List ℕ) (i
       ∙ any_filtered _ (eq_by_cmp bytes_cmp slice) held among_best
 
   pub settled_entry : IsEntryOf h.reel.setup (tile, slice)
-  settled_entry = sound.slices (tile, slice) settled_held
+  settled_entry = well_formed.slices (tile, slice) settled_held

@@ -3,7 +3,7 @@ use Rattle.std.proofs.Common.{◌≡◌, ℕ, true, List, [], ◌∷◌, Some, N
 use Rattle.std.specs.Prelude.{codes}
 use Rattle.std.specs.Fmt.{digits}
 use Rattle.ffv1_range.specs.Tiles.{GridValue}
-use Rattle.ffv1_holding.specs.Standing.{standing_of}
+use Rattle.ffv1_holding.specs.TileState.{tile_state_of}
 use Rattle.ffv1_picture.specs.WholePicture.{Planes, greatest_sample, whole_plane, whole_picture}
 use Rattle.ffv1_picture.specs.ReportText.{tile_words, count_words, hex_byte}
 
@@ -50,11 +50,11 @@ black = 0xFD ∷ 0xF6 ∷ 0x80 ∷ 0 ∷ 0 ∷ 3 ∷ 0 ∷ 0x1C ∷ 0x3E ∷ 0xA
 dark : List ℕ
 dark = 0xFD ∷ 0xF6 ∷ 0x40 ∷ 0 ∷ 0 ∷ 3 ∷ 0 ∷ 0x17 ∷ 0x60 ∷ 0xA5 ∷ 0x79 ∷ []
 
-disputed_words : tile_words (dark ∷ black ∷ []) (standing_of (dark ∷ black ∷ [])) ≡ codes " disputed 2 status 0 held 2"
+disputed_words : tile_words (dark ∷ black ∷ []) (tile_state_of (dark ∷ black ∷ [])) ≡ codes " disputed 2 status 0 held 2"
 unfolding black dark digits
 disputed_words = refl
 
-missing_words : tile_words [] (standing_of []) ≡ codes " missing"
+missing_words : tile_words [] (tile_state_of []) ≡ codes " missing"
 missing_words = refl
 
 one_disputed : count_words 0 1 0 ≡ codes "settled 0 disputed 1 missing 0\n"

@@ -4,7 +4,7 @@ use Rattle.std.specs.declared.alloc.Global.{Global}
 use Rattle.ffv1_range.specs.Setup.{SetupValue}
 use Rattle.ffv1_slice.specs.Slices.{IsOriginal}
 use Rattle.ffv1_holding.specs.Contents.{Contents, holding_of, digests_of}
-use Rattle.ffv1_holding.specs.Standing.{tile_state, restored_payload, AreSettled, IsLeastStatus}
+use Rattle.ffv1_holding.specs.TileState.{tile_state, restored_payload, AreSettled, IsLeastStatus}
 use Rattle.ffv1_holding.specs.Refusals.{IsRefusal}
 use Rattle.ffv1_holding.specs.Originals.{AreCopiesOfSlices}
 use Rattle.ffv1_hold.specs.HoldingText.{holding_text}

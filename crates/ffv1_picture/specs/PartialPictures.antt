@@ -5,7 +5,7 @@ use Rattle.ffv1_slice.specs.Slices.{content_of}
 use Rattle.ffv1_picture.specs.TilePictures.{SpellsPlanes, IsPictureOfSlice, IsUnreadable}
 use Rattle.ffv1_holding.specs.Reels.{reel_tiles}
 use Rattle.ffv1_holding.specs.Contents.{Contents}
-use Rattle.ffv1_holding.specs.Standing.{Standing, missing, settled, disputed, tile_state}
+use Rattle.ffv1_holding.specs.TileState.{StateOfTile, missing, settled, disputed, tile_state}
 use Rattle.ffv1_picture.specs.WholePicture.{Planes}
 use Rattle.ffv1_picture.specs.Frames.{IsFrameOf}
 use Rattle.ffv1_picture.specs.declared.frame.Frame.{Frame}
@@ -15,7 +15,7 @@ use Rattle.ffv1_picture.specs.declared.partial.TileOutcome.TheVariants.{Decoded,
 
 -- How a tile that stands so comes out, and its picture: a settled slice is decoded, or a code of it can't be read; others have no
 -- picture.
-abbrev pub IsShown : SetupValue → ℕ → Standing → TileOutcome → Option Planes → Type 0
+abbrev pub IsShown : SetupValue → ℕ → StateOfTile → TileOutcome → Option Planes → Type 0
 IsShown setup tile (settled slice) (Decoded spare) (Some planes) = SpellsPlanes setup tile (content_of slice) planes spare
 IsShown setup tile (settled slice) (Fault cause) None = IsUnreadable setup tile (content_of slice) cause
 IsShown setup tile missing Missing None = Unit {0}
@@ -23,7 +23,7 @@ IsShown setup tile (disputed n) (Disputed slices) None = slices ≡ n
 IsShown setup tile state outcome picture = ⊥
 
 -- The picture of a tile that stands so: that of its settled slice, if it spells one.
-abbrev pub IsPictureOfTile : SetupValue → ℕ → Standing → Option Planes → Type 0
+abbrev pub IsPictureOfTile : SetupValue → ℕ → StateOfTile → Option Planes → Type 0
 IsPictureOfTile setup tile missing picture = picture ≡ None
 IsPictureOfTile setup tile (settled slice) picture = IsPictureOfSlice setup tile slice picture
 IsPictureOfTile setup tile (disputed n) picture = picture ≡ None

@@ -8,7 +8,7 @@ use Rattle.ffv1_holding.specs.Sets as set
 use Rattle.ffv1_holding.specs.Reels.{reel_tiles}
 use Rattle.ffv1_holding.specs.TileSets.{tile_slices}
 use Rattle.ffv1_holding.specs.Contents.{Contents, digests_of}
-use Rattle.ffv1_holding.specs.Standing.{Standing, missing, settled, disputed, status_of, tile_state, restored_payload}
+use Rattle.ffv1_holding.specs.TileState.{StateOfTile, missing, settled, disputed, status_of, tile_state, restored_payload}
 
 -- a byte as two lower-case digits
 abbrev pub hex_byte : ℕ → List ℕ
@@ -46,7 +46,7 @@ abbrev pub disputed_words : ℕ → ℕ → ℕ → List ℕ
 disputed_words slices status held = codes " disputed " ++ decimal slices ++ codes " status " ++ decimal status ++ codes " held " ++ decimal held
 
 -- how a tile stands, after its number
-abbrev pub tile_words : List (List ℕ) → Standing → List ℕ
+abbrev pub tile_words : List (List ℕ) → StateOfTile → List ℕ
 tile_words held missing = codes " missing"
 tile_words held (settled slice) = settled_words slice (length held)
 tile_words held (disputed slices) = disputed_words slices (least_status held) (length held)
@@ -59,7 +59,7 @@ abbrev pub origin_line : ℕ → List ℕ → List ℕ
 origin_line tile digest = codes "tile " ++ decimal tile ++ codes " origin " ++ flat_map hex_byte digest ++ codes "\n"
 
 -- all copies that are known of it, of a settled tile alone
-abbrev pub origin_lines : Contents → ℕ → Standing → List ℕ
+abbrev pub origin_lines : Contents → ℕ → StateOfTile → List ℕ
 origin_lines h tile missing = []
 origin_lines h tile (settled slice) = flat_map (origin_line tile) (digests_of h (tile, slice))
 origin_lines h tile (disputed slices) = []
@@ -67,23 +67,23 @@ origin_lines h tile (disputed slices) = []
 abbrev pub tile_lines : Contents → ℕ → List ℕ
 tile_lines h tile = tile_line h tile ++ origin_lines h tile (tile_state h tile)
 
-abbrev pub is_missing : Standing → Bool
+abbrev pub is_missing : StateOfTile → Bool
 is_missing missing = true
 is_missing (settled slice) = false
 is_missing (disputed slices) = false
 
-abbrev pub is_settled : Standing → Bool
+abbrev pub is_settled : StateOfTile → Bool
 is_settled missing = false
 is_settled (settled slice) = true
 is_settled (disputed slices) = false
 
-abbrev pub is_disputed : Standing → Bool
+abbrev pub is_disputed : StateOfTile → Bool
 is_disputed missing = false
 is_disputed (settled slice) = false
 is_disputed (disputed slices) = true
 
 -- how many tiles stand so
-abbrev pub tiles_that : (Standing → Bool) → Contents → ℕ
+abbrev pub tiles_that : (StateOfTile → Bool) → Contents → ℕ
 tiles_that stands h = count_by (λ tile. stands (tile_state h tile)) (range_with_len 0 (reel_tiles h.reel))
 
 abbrev pub count_words : ℕ → ℕ → ℕ → List ℕ

@@ -3,7 +3,7 @@ use Rattle.std.specs.Prelude.{◌≡◌, ◌≢◌, ◌+◌, ◌*◌, ◌<◌, �
 use Rattle.ffv1_range.specs.Setup.{IsInProfile}
 use Rattle.ffv1_range.specs.Tiles.{GridValue, grid_of, tile_count, plane_count, plane_rect, frame_rect}
 use Rattle.ffv1_holding.specs.Contents.{Contents}
-use Rattle.ffv1_holding.specs.Standing.{tile_state}
+use Rattle.ffv1_holding.specs.TileState.{tile_state}
 use Rattle.ffv1_picture.specs.WholePicture.{covers}
 use Rattle.ffv1_picture.specs.Frames.{planes_of}
 use Rattle.ffv1_picture.specs.PartialPictures.{IsPartialPicture}

@@ -98,7 +98,7 @@ pub fn restored(
     ensures samples { (original : List ℕ) (slices : List (List ℕ)) → IfOk result (λ r. IsPlanFor r.holding.reel.setup plan.now original slices
         → ShowsSlices r.holding.reel.setup slices r.picture.frame) }
 
-    // So they are where all copies differ from the original only within 32 bits of each slice, its size field unhurt, and each of
+    // So they are where all copies differ from the original only within 32 bits of each slice, its size field undamaged, and each of
     // its slices is intact in one of them.
     ensures near { (original : List ℕ) (slices : List (List ℕ)) → IfOk result (λ r. AreNear r.holding.reel.setup original slices (copies_of plan.now)
         → IsOkAnd r.payload (λ payload. payload.items ≡ original)) }

@@ -15,7 +15,7 @@ use Rattle.ffv1_plane.specs.Samples.{context_at, difference_at}
 use Rattle.ffv1_plane.specs.Spelling.{residuals_of, PlaneSpells, values_after}
 use Rattle.ffv1_plane.specs.Picture.{PictureValue, ArePlanesOf, samples_of, plane_set, shaped_plane, tile_plane, no_values, IsPictureOf}
 use Rattle.ffv1_plane.specs.Stuck.{IsWordRefused, values_before_plane, PlanesBelow, scan_place, AreBitsStuck, IsStuckAt}
-use Rattle.ffv1_plane.specs.StuckLaws.{StuckSpellsNothing, IsOnePlace, StuckIsOne, IsRefusedFor, OneAnswer}
+use Rattle.ffv1_plane.specs.StuckLaws.{StuckSpellsNothing, IsOnePlace, StuckIsOne, IsRefusedFor, OneResult}
 use Rattle.ffv1_plane.specs.declared.tile.TileFault.{TileFault}
 use Rattle.ffv1_plane.specs.declared.tile.TileFault.TheVariants.{Head, OtherTile, Code, Memory}
 use Rattle.ffv1_plane.proofs.OnePlane.{difference_range, contexts_alike}
@@ -213,8 +213,8 @@ same_head_fault setup tile content fault other a b = cc
 same_code : (fault other : CodeFault) (plane level y v x u : ℕ) → IsOnePlace fault other plane level y v x u → Code fault plane y x ≡ Code other level v u
 same_code fault other plane level y v x u one = let f = one.fault_same in let p = one.plane_same in let r = one.row_same in let c = one.column_same in cc
 
-pub one_answer : OneAnswer
-one_answer = record { no_picture = no_picture; one_fault = one_fault }
+pub one_result : OneResult
+one_result = record { no_picture = no_picture; one_fault = one_fault }
   where
     no_picture : (setup : SetupValue) (tile : ℕ) (content : List ℕ) (fault : TileFault) (picture : PictureValue) → IsInProfile setup
         → tile < tile_count (grid_of setup)

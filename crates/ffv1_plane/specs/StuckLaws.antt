@@ -57,7 +57,7 @@ IsRefusedFor setup tile content (Code fault plane y x) = IsStuckAt setup tile co
 IsRefusedFor setup tile content Memory = ⊥
 
 -- A content that is refused has no picture, and is refused for one fault.
-pub record OneAnswer : Type 0 where
+pub record OneResult : Type 0 where
   pub no_picture : (setup : SetupValue) (tile : ℕ) (content : List ℕ) (fault : TileFault) (picture : PictureValue) → IsInProfile setup
       → tile < tile_count (grid_of setup)
       → IsRefusedFor setup tile content fault → IsPictureOf setup tile content picture → ⊥

@@ -14,7 +14,7 @@ ghost use Rattle.ffv1_rice.specs.declared.code.CodeFault.{CodeFault};
 ghost use Rattle.ffv1_plane.specs.Picture.{PictureValue, IsPictureOf, IsPlaneIn, plane_set, no_values, OneReading};
 ghost use Rattle.ffv1_plane.specs.Inner.Groups.{IsLumaRead, IsChromaRead, ArePlanesRead};
 ghost use Rattle.ffv1_plane.specs.Views.{picture_value};
-ghost use Rattle.ffv1_plane.specs.StuckLaws.{EachPictureIsSpelled, FrontsGoOn, StuckSpellsNothing, StuckIsOne, IsRefusedFor, OneAnswer};
+ghost use Rattle.ffv1_plane.specs.StuckLaws.{EachPictureIsSpelled, FrontsGoOn, StuckSpellsNothing, StuckIsOne, IsRefusedFor, OneResult};
 ghost use Rattle.ffv1_range.specs.Header.{IsHeadOf, header_limits, head_read};
 ghost use Rattle.ffv1_range.specs.declared.head.HeadFault.{HeadFault};
 ghost use Rattle.ffv1_range.specs.declared.head.SliceHead.{SliceHead};
@@ -265,5 +265,5 @@ pub fn each_is_spelled()
 pub fn one_fault()
     ensures nothing { StuckSpellsNothing }
     ensures one { StuckIsOne }
-    ensures answer { OneAnswer }
+    ensures returned { OneResult }
 {}

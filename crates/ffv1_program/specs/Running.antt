@@ -81,37 +81,37 @@ bytes_of_all bytes_at words = map (λ word. bytes_at word.now) words
 -- What the command made and printed, and what it returns.
 abbrev pub DoesCommand : (List ℕ → Option (List ℕ)) → Words → (out_before out_after printed_before printed_after : Option (List ℕ))
     → Bool → Type 0
-DoesCommand bytes_at (Chain frame) out_before out_after printed_before printed_after answer =
-    (answer ≡ true) × IfSome (bytes_at frame.now) (λ payload. PrintsChain payload printed_before printed_after)
-DoesCommand bytes_at (Scan ranges file) out_before out_after printed_before printed_after answer =
-    ScansFile (bytes_at ranges.now) (bytes_at file.now) printed_before printed_after answer
-DoesCommand bytes_at (Show recording) out_before out_after printed_before printed_after answer =
-    (answer ≡ true) × IfSome (bytes_at recording.record.now)
+DoesCommand bytes_at (Chain frame) out_before out_after printed_before printed_after returned =
+    (returned ≡ true) × IfSome (bytes_at frame.now) (λ payload. PrintsChain payload printed_before printed_after)
+DoesCommand bytes_at (Scan ranges file) out_before out_after printed_before printed_after returned =
+    ScansFile (bytes_at ranges.now) (bytes_at file.now) printed_before printed_after returned
+DoesCommand bytes_at (Show recording) out_before out_after printed_before printed_after returned =
+    (returned ≡ true) × IfSome (bytes_at recording.record.now)
     (λ config. PrintsSetup config recording.width recording.height printed_before printed_after)
-DoesCommand bytes_at (Take recording out copies) out_before out_after printed_before printed_after answer =
-    (answer ≡ true) × TakesCopies (bytes_at recording.record.now) recording.width recording.height (bytes_of_all bytes_at copies.items)
+DoesCommand bytes_at (Take recording out copies) out_before out_after printed_before printed_after returned =
+    (returned ≡ true) × TakesCopies (bytes_at recording.record.now) recording.width recording.height (bytes_of_all bytes_at copies.items)
     out_before out_after printed_before printed_after
-DoesCommand bytes_at (Join out first others) out_before out_after printed_before printed_after answer =
-    (answer ≡ true) × JoinsFiles (bytes_at first.now ∷ bytes_of_all bytes_at others.items) out_before out_after printed_before printed_after
-DoesCommand bytes_at (Merge out left right) out_before out_after printed_before printed_after answer =
-    (answer ≡ true) × (printed_after ≡ printed_before) × MergesFiles (bytes_at left.now) (bytes_at right.now) out_before out_after
-DoesCommand bytes_at (Report file) out_before out_after printed_before printed_after answer =
-    (answer ≡ true) × ReportsFile (bytes_at file.now) printed_before printed_after
-DoesCommand bytes_at (Restore file out) out_before out_after printed_before printed_after answer =
-    (answer ≡ true) × RestoresFile (bytes_at file.now) out_before out_after printed_before printed_after
-DoesCommand bytes_at (Picture file out) out_before out_after printed_before printed_after answer =
-    ShowsFile (bytes_at file.now) out_before out_after printed_before printed_after answer
-DoesCommand bytes_at (Splice out copies) out_before out_after printed_before printed_after answer =
-    SplicesCopies (bytes_of_all bytes_at copies.items) out_before out_after printed_before printed_after answer
-DoesCommand bytes_at (Mend list out copies) out_before out_after printed_before printed_after answer =
-    MendsFiles (bytes_at list.now) (bytes_of_all bytes_at copies.items) out_before out_after printed_before printed_after answer
-DoesCommand bytes_at (Decode recording frame out) out_before out_after printed_before printed_after answer =
-    (answer ≡ true) × DecodesFile (bytes_at recording.record.now) recording.width recording.height (bytes_at frame.now)
+DoesCommand bytes_at (Join out first others) out_before out_after printed_before printed_after returned =
+    (returned ≡ true) × JoinsFiles (bytes_at first.now ∷ bytes_of_all bytes_at others.items) out_before out_after printed_before printed_after
+DoesCommand bytes_at (Merge out left right) out_before out_after printed_before printed_after returned =
+    (returned ≡ true) × (printed_after ≡ printed_before) × MergesFiles (bytes_at left.now) (bytes_at right.now) out_before out_after
+DoesCommand bytes_at (Report file) out_before out_after printed_before printed_after returned =
+    (returned ≡ true) × ReportsFile (bytes_at file.now) printed_before printed_after
+DoesCommand bytes_at (Restore file out) out_before out_after printed_before printed_after returned =
+    (returned ≡ true) × RestoresFile (bytes_at file.now) out_before out_after printed_before printed_after
+DoesCommand bytes_at (Picture file out) out_before out_after printed_before printed_after returned =
+    ShowsFile (bytes_at file.now) out_before out_after printed_before printed_after returned
+DoesCommand bytes_at (Splice out copies) out_before out_after printed_before printed_after returned =
+    SplicesCopies (bytes_of_all bytes_at copies.items) out_before out_after printed_before printed_after returned
+DoesCommand bytes_at (Mend list out copies) out_before out_after printed_before printed_after returned =
+    MendsFiles (bytes_at list.now) (bytes_of_all bytes_at copies.items) out_before out_after printed_before printed_after returned
+DoesCommand bytes_at (Decode recording frame out) out_before out_after printed_before printed_after returned =
+    (returned ≡ true) × DecodesFile (bytes_at recording.record.now) recording.width recording.height (bytes_at frame.now)
     out_before out_after printed_before printed_after
-DoesCommand bytes_at Help out_before out_after printed_before printed_after answer =
-    (answer ≡ true) × Appends printed_before printed_after help_text
-DoesCommand bytes_at Version out_before out_after printed_before printed_after answer =
-    (answer ≡ true) × Appends printed_before printed_after version_text
+DoesCommand bytes_at Help out_before out_after printed_before printed_after returned =
+    (returned ≡ true) × Appends printed_before printed_after help_text
+DoesCommand bytes_at Version out_before out_after printed_before printed_after returned =
+    (returned ≡ true) × Appends printed_before printed_after version_text
 
 -- a text was not printed whole
 abbrev pub StopsPrinting : (text : List ℕ) (printed_before printed_after : Option (List ℕ)) → CliFault → Type 0

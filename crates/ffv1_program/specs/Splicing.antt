@@ -10,7 +10,7 @@ use Rattle.ffv1_commands.specs.declared.path.CommandPath.TheVariants as paths
 
 -- All was done, whatever it returned, but for making the file.
 abbrev pub IsUnmade : (Bool → Type 0) → CliFault → Type 0
-IsUnmade Done fault = (fault ≡ faults.Write paths.Out) × ((answer : Bool) × Done answer)
+IsUnmade Done fault = (fault ≡ faults.Write paths.Out) × ((returned : Bool) × Done returned)
 
 -- Why copies were not spliced: there is none; or splicing them stopped; or all was done, but the file was not made.
 abbrev pub StopsSplicing : List (Option (List ℕ)) → (out_before out_after printed_before printed_after : Option (List ℕ)) → CliFault → Type 0

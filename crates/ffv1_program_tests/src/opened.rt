@@ -205,7 +205,7 @@ fn held(alloc: Global) -> Result<Vec<u8>, Fail> {
     let mut record: &[u8] = &TWO_TILES;
     let mut copies: [&[u8]; 1] = [&FRAME];
     let (mut file, mut printed) = (Vec::new(alloc), Vec::new(alloc));
-    let answer = run_take(
+    let returned = run_take(
         alloc,
         &mut record,
         2,
@@ -214,7 +214,7 @@ fn held(alloc: Global) -> Result<Vec<u8>, Fail> {
         &mut file,
         &mut printed,
     );
-    answer.ok().ok_or("a whole frame")?;
+    returned.ok().ok_or("a whole frame")?;
     Ok(file)
 }
 

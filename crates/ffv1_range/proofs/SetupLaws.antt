@@ -185,8 +185,8 @@ only_of config width height false e setup h s = same_err e Memory (sym h ∙ wit
     same_err a b h = cc
 
 -- what the contract says of a result
-abbrev pub Answered : List ℕ → ℕ → ℕ → Result SetupValue SetupFault → Type 0
-Answered config width height result =
+abbrev pub Returned : List ℕ → ℕ → ℕ → Result SetupValue SetupFault → Type 0
+Returned config width height result =
     record {
       found : IfOk result (IsSetupOf config width height);
       only : (setup : SetupValue) → IsSetupOf config width height setup → MatchResult result (λ read. read ≡ setup) (λ fault. fault ≡ Memory);
@@ -194,9 +194,9 @@ Answered config width height result =
       fault : IfErr result (λ fault. (granted : Bool) × (setup_read granted config width height ≡ Err fault));
     }
 
-pub answered : (config : List ℕ) (width height : ℕ) (value : SetupValue) → setup_read true config width height ≡ Ok value
-    → Answered config width height (Ok value)
-answered config width height value h =
+pub returned : (config : List ℕ) (width height : ℕ) (value : SetupValue) → setup_read true config width height ≡ Ok value
+    → Returned config width height (Ok value)
+returned config width height value h =
     record {
       found = setup-found config width height value h;
       only = λ setup s. same_ok value setup (sym h ∙ setup-run config width height setup s);
@@ -205,7 +205,7 @@ answered config width height value h =
     }
 
 pub refused_by : (config : List ℕ) (width height : ℕ) (granted : Bool) (e : SetupFault) → setup_read granted config width height ≡ Err e
-    → Answered config width height (Err e)
+    → Returned config width height (Err e)
 refused_by config width height granted e h =
     record {
       found = tt;
@@ -221,7 +221,7 @@ module _ (config content : List ℕ) (width height : ℕ) (r : Reader) (checked 
   abbrev is_opened : IsOpened config width height r
   is_opened = opened config content width height r checked (sym is_width) (sym is_height) starts
 
-  pub refused_in : (granted : Bool) (e : SetupFault) → form_at Range (setup_form granted width height) r fresh_row ≡ Err e → Answered config width height (Err e)
+  pub refused_in : (granted : Bool) (e : SetupFault) → form_at Range (setup_form granted width height) r fresh_row ≡ Err e → Returned config width height (Err e)
   refused_in granted e h = refused_by config width height granted e (opened_read granted config width height r (Err e) is_opened h)
 
   pub read_in : (value : SetupValue) (place : Place) → form_at Range (setup_form true width height) r fresh_row ≡ Ok (value, place)

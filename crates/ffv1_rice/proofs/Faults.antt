@@ -7,7 +7,7 @@ use Rattle.ffv1_bits.proofs.Numbers.{length-number_bits}
 use Rattle.ffv1_rice.proofs.OneNumber.{Parts, parts_of, byte_parts, one_prefix, one_shape, one_number_code_of}
 use Rattle.ffv1_rice.proofs.OneCode.{one_parameter, one_value, small_code, decoded_range, decoded_low, IsValueRead, decoded_alike}
 use Rattle.ffv1_rice.specs.States.{ContextState, IsParameter, code_number}
-use Rattle.ffv1_rice.specs.Codes.{prefix_bits, suffix_length, shape_bits, code_bits, SpellsValue, decoded_value, IsCoded, IsCodedDifference, IsCutCode, IsNeedlessEscape, IsLargeCode, IsLargeLevel, IsCodeFault, FaultsExcludeCodes, FaultsAreOne}
+use Rattle.ffv1_rice.specs.Codes.{prefix_bits, suffix_length, shape_bits, code_bits, SpellsValue, decoded_value, IsCoded, IsCodedDifference, FooterGivesCode, IsNeedlessEscape, IsLargeCode, IsLargeLevel, IsCodeFault, FaultsExcludeCodes, FaultsAreOne}
 use Rattle.ffv1_rice.specs.Inner.Codes.{IsNumberFault}
 use Rattle.ffv1_rice.specs.declared.code.CodeFault.{CodeFault}
 use Rattle.ffv1_rice.specs.declared.code.CodeFault.TheVariants as faults
@@ -18,7 +18,7 @@ large_parts : (k : ℕ) (bits : List Bool) (fault : IsLargeCode k bits) → Part
 large_parts k bits fault = parts_of k fault.number fault.fits
 
 -- bits that end within a shape begin with none
-no_shape_cut : (k ones low : ℕ) (bits rest : List Bool) → ones ≤ 12 → bits ≡ shape_bits k ones low ++ rest → IsCutCode k bits → ⊥
+no_shape_cut : (k ones low : ℕ) (bits rest : List Bool) → ones ≤ 12 → bits ≡ shape_bits k ones low ++ rest → FooterGivesCode k bits → ⊥
 unfolding shape_bits
 no_shape_cut k ones low bits rest few is cut =
     let later : List Bool = rest ++ (cut.missing ∷ cut.rest) in
@@ -41,7 +41,7 @@ no_shape_cut k ones low bits rest few is cut =
     )
 
 -- .. and with no number's code
-no_code_cut : (k u : ℕ) (bits rest : List Bool) → Parts k u → bits ≡ code_bits u k ++ rest → IsCutCode k bits → ⊥
+no_code_cut : (k u : ℕ) (bits rest : List Bool) → Parts k u → bits ≡ code_bits u k ++ rest → FooterGivesCode k bits → ⊥
 no_code_cut k u bits rest a is cut = no_shape_cut k a.ones a.low bits rest a.few (is ∙ ap (λ l. l ++ rest) a.is_code) cut
 
 -- a needless escape is no number's code

@@ -11,7 +11,7 @@ use Rattle.ffv1_bits.specs.Reader.{Reading, ReadsBits}
 use Rattle.ffv1_bits.proofs.Places.{ReadsBits-append}
 use Rattle.ffv1_bits.proofs.Numbers.{goes_on}
 use Rattle.ffv1_rice.specs.declared.code.CodeFault.{CodeFault}
-use Rattle.ffv1_rice.specs.Codes.{prefix_bits, suffix_length, shape_bits, code_bits, IsCutCode, IsLargeCode, IsNeedlessEscape}
+use Rattle.ffv1_rice.specs.Codes.{prefix_bits, suffix_length, shape_bits, code_bits, FooterGivesCode, IsLargeCode, IsNeedlessEscape}
 
 -- 1 << k and a low part
 pub shifted_low : (k ones low : ℕ) → ones < 12 → k ≤ 7 → ones * 2 ^ k % 4294967296 + low ≡ ones * 2 ^ k + low
@@ -50,7 +50,7 @@ escape_code k low number old rest is long spelled =
     let long' : 12 ≤ (low + 11) / 2 ^ k = rw is at long in
     rw (is, spelled, long_form k low long') (sym (append_assoc (prefix_bits 12) (number_bits 8 low) rest))
 
-cut_suffix : (k ones : ℕ) (bits : List Bool) → ones ≤ 12 → length bits < suffix_length k ones → IsCutCode k (prefix_bits ones ++ bits)
+cut_suffix : (k ones : ℕ) (bits : List Bool) → ones ≤ 12 → length bits < suffix_length k ones → FooterGivesCode k (prefix_bits ones ++ bits)
 unfolding shape_bits
 cut_suffix k ones bits few short =
     let more = goes_on (suffix_length k ones) bits short in
@@ -63,15 +63,15 @@ cut_suffix k ones bits few short =
       cut = ap (λ l. prefix_bits ones ++ l) more.3 ∙ sym (append_assoc (prefix_bits ones) bits (more.1 ∷ more.2));
     }
 
-pub cut_short : (k ones : ℕ) (bits : List Bool) → ones < 12 → length bits < k → IsCutCode k (prefix_bits ones ++ bits)
+pub cut_short : (k ones : ℕ) (bits : List Bool) → ones < 12 → length bits < k → FooterGivesCode k (prefix_bits ones ++ bits)
 unfolding suffix_length
 cut_short k ones bits few short = cut_suffix k ones bits (omega arith) (rw (lt-ltb ones 12 few) short)
 
-pub cut_escape : (k : ℕ) (bits : List Bool) → length bits < 8 → IsCutCode k (prefix_bits 12 ++ bits)
+pub cut_escape : (k : ℕ) (bits : List Bool) → length bits < 8 → FooterGivesCode k (prefix_bits 12 ++ bits)
 unfolding suffix_length
 cut_escape k bits short = cut_suffix k 12 bits (omega arith) short
 
-pub cut_prefix : (k ones : ℕ) (bits : List Bool) → ones < 12 → bits ≡ replicate ones false → IsCutCode k bits
+pub cut_prefix : (k ones : ℕ) (bits : List Bool) → ones < 12 → bits ≡ replicate ones false → FooterGivesCode k bits
 unfolding shape_bits prefix_bits
 cut_prefix k ones bits few same =
     let left : List Bool = replicate (11 - ones) false in

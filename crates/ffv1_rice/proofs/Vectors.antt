@@ -5,7 +5,7 @@ use Rattle.std.proofs.Math.Nat.{mul-le-mul}
 use Rattle.std.proofs.Math.Pow.{pow_mono}
 use Rattle.ffv1_bits.specs.Bits.{number_bits}
 use Rattle.ffv1_rice.specs.States.{ContextState, start_state, IsParameter, code_number, after_value}
-use Rattle.ffv1_rice.specs.Codes.{prefix_bits, suffix_length, shape_bits, code_bits, SpellsValue, IsCutCode, IsNeedlessEscape, IsLargeCode, IsLargeLevel}
+use Rattle.ffv1_rice.specs.Codes.{prefix_bits, suffix_length, shape_bits, code_bits, SpellsValue, FooterGivesCode, IsNeedlessEscape, IsLargeCode, IsLargeLevel}
 use Rattle.ffv1_rice.specs.Runs.{run_exponent, SpellsRun, line_end, whole, over_end, long_rest, IsRunWord, IsShortWord}
 use Rattle.ffv1_rice.specs.declared.run.RunWord.TheVariants.{Full, Rest, ToEnd}
 
@@ -96,7 +96,7 @@ large_256 : IsLargeCode 7 (false ∷ false ∷ true ∷ replicate 7 false)
 unfolding code_bits shape_bits prefix_bits suffix_length number_bits
 large_256 = record { number = 256; rest = []; large = lit< tt; fits = inl (lit< tt); begins = refl }
 
-cut_after_one_bit : IsCutCode 2 (true ∷ true ∷ [])
+cut_after_one_bit : FooterGivesCode 2 (true ∷ true ∷ [])
 unfolding shape_bits prefix_bits suffix_length number_bits
 cut_after_one_bit = record { zeros = 0; suffix = 2; missing = false; rest = []; few = lit≤ tt; cut = refl }
 

@@ -49,7 +49,7 @@ pub record IsCoded (state : ContextState) (level : Bool) (difference : ℤ) (old
 -- ---- bits at which no code can be read
 
 -- The bits end within a code.
-pub record IsCutCode (k : ℕ) (bits : List Bool) : Type 0 where
+pub record FooterGivesCode (k : ℕ) (bits : List Bool) : Type 0 where
   pub zeros : ℕ
   pub suffix : ℕ
   pub missing : Bool
@@ -83,7 +83,7 @@ pub record IsLargeLevel (state : ContextState) (level : Bool) (bits : List Bool)
 
 -- the faults of a code under a state
 abbrev pub IsCodeFault : ContextState → Bool → List Bool → CodeFault → Type 0
-IsCodeFault state level bits faults.Truncated = (k : ℕ) × IsParameter state k × IsCutCode k bits
+IsCodeFault state level bits faults.Truncated = (k : ℕ) × IsParameter state k × FooterGivesCode k bits
 IsCodeFault state level bits faults.EscapeNotNeeded = (k : ℕ) × IsParameter state k × IsNeedlessEscape k bits
 IsCodeFault state level bits faults.CodeTooLarge = (k : ℕ) × IsParameter state k × IsLargeCode k bits
 IsCodeFault state level bits faults.LevelTooLarge = IsLargeLevel state level bits

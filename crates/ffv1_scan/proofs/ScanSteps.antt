@@ -17,7 +17,7 @@ use Rattle.ffv1_scan.specs.declared.verdict.Verdict.{Verdict}
 use Rattle.ffv1_scan.specs.declared.scanning.ScanFault.{ScanFault}
 use Rattle.ffv1_scan.specs.declared.scanning.ScanFault.TheVariants as faults
 use Rattle.ffv1_scan.specs.Ranges.{Rises, ranges_end}
-use Rattle.ffv1_scan.specs.Verdicts.{IsVerdictOf, bytes_in, AreVerdictsOf, is_sound, verdict_line, verdict_lines}
+use Rattle.ffv1_scan.specs.Verdicts.{IsVerdictOf, bytes_in, AreVerdictsOf, is_undamaged, verdict_line, verdict_lines}
 use Rattle.ffv1_scan.specs.Scans.{ScansFront, ScansRanges}
 use Rattle.ffv1_scan.specs.Inner.Steps.{JudgesNext, LineStops}
 use Rattle.ffv1_scan.specs.Steps.{scan_fault}
@@ -71,9 +71,9 @@ verdict_lines-push number (v ∷ vs) verdict =
     ∙ ap (λ (n : ℕ). verdict_lines (number + 1) vs ++ verdict_line n verdict) (let e : number + 1 + length vs ≡ number + suc (length vs) = omega arith in e))
     ∙ sym (append_assoc (verdict_line number v) (verdict_lines (number + 1) vs) (verdict_line (number + suc (length vs)) verdict))
 
--- whether all are sound, with one more
-sound_more : (verdicts : List Verdict) (verdict : Verdict) → list_all is_sound (verdicts ++ verdict ∷ []) ≡ (list_all is_sound verdicts && is_sound verdict)
-sound_more verdicts verdict = list_all-append is_sound verdicts (verdict ∷ []) ∙ ap (λ (b : Bool). list_all is_sound verdicts && b) (and-true (is_sound verdict))
+-- whether all are undamaged, with one more
+undamaged_more : (verdicts : List Verdict) (verdict : Verdict) → list_all is_undamaged (verdicts ++ verdict ∷ []) ≡ (list_all is_undamaged verdicts && is_undamaged verdict)
+undamaged_more verdicts verdict = list_all-append is_undamaged verdicts (verdict ∷ []) ∙ ap (λ (b : Bool). list_all is_undamaged verdicts && b) (and-true (is_undamaged verdict))
 
 -- ---- a range that is cut short
 
@@ -85,21 +85,21 @@ next_stops gap size a b c before room nexts.Memory read long stops =
 
 -- ---- a scan so far
 
--- The ranges of a front were judged, and their lines written, and this is whether all are sound.
-pub record IsScanned (front : List ByteRange) (sound : Bool) (old new : ReadLog) (out_old out_new : WriteLog) : Type 0 where
+-- The ranges of a front were judged, and their lines written, and this is whether all are undamaged.
+pub record IsScanned (front : List ByteRange) (undamaged : Bool) (old new : ReadLog) (out_old out_new : WriteLog) : Type 0 where
   pub bytes : List ℕ
   pub read : Reads old new bytes
   pub long : length bytes ≡ ranges_end 0 front
   pub verdicts : List Verdict
   pub judged : AreVerdictsOf bytes front verdicts
   pub wrote : Writes out_old out_new (verdict_lines 1 verdicts)
-  pub all : sound ≡ list_all is_sound verdicts
+  pub all : undamaged ≡ list_all is_undamaged verdicts
 
 pub scanned_none : (a c : ReadLog) (b : WriteLog) → Reads a c [] → IsScanned [] true a c b b
 scanned_none a c b read = record { bytes = []; read = read; long = refl; verdicts = []; judged = tt; wrote = Writes-nil b; all = refl }
 
 module _ (ranges front : List ByteRange) (range : ByteRange) (rest : List ByteRange) (split : ranges ≡ front ++ range ∷ rest) (rise : Rises 0 ranges)
-    (a b : ReadLog) (x y : WriteLog) (sound : Bool) (so_far : IsScanned front sound a b x y) where
+    (a b : ReadLog) (x y : WriteLog) (undamaged : Bool) (so_far : IsScanned front undamaged a b x y) where
   rises : Rises 0 (front ++ range ∷ rest)
   rises = subst (Rises 0) split rise
 
@@ -190,15 +190,15 @@ module _ (ranges front : List ByteRange) (range : ByteRange) (rest : List ByteRa
 
       -- its line was written
       pub scanned_more : (z : WriteLog) → Writes y z (verdict_line number verdict) → (next : List ByteRange) → next ≡ front ++ range ∷ []
-          → (own_sound : Bool) → own_sound ≡ is_sound verdict → IsScanned next (sound && own_sound) a c x z
-      scanned_more z wrote next is own_sound same = subst (λ (rs : List ByteRange). IsScanned rs (sound && own_sound) a c x z) (sym is) (record {
+          → (own_undamaged : Bool) → own_undamaged ≡ is_undamaged verdict → IsScanned next (undamaged && own_undamaged) a c x z
+      scanned_more z wrote next is own_undamaged same = subst (λ (rs : List ByteRange). IsScanned rs (undamaged && own_undamaged) a c x z) (sym is) (record {
         bytes = all;
         read = read-all;
         long = long-all ∙ sym (ranges_end-push 0 front range);
         verdicts = so_far.verdicts ++ verdict ∷ [];
         judged = judged-all;
         wrote = subst (Writes x z) (sym lines-all) (Writes-trans x y z _ _ so_far.wrote wrote);
-        all = ap (λ (b : Bool). sound && b) same ∙ ap (λ (b : Bool). b && is_sound verdict) so_far.all ∙ sym (sound_more so_far.verdicts verdict);
+        all = ap (λ (b : Bool). undamaged && b) same ∙ ap (λ (b : Bool). b && is_undamaged verdict) so_far.all ∙ sym (undamaged_more so_far.verdicts verdict);
       })
 
       -- its line was not written whole
@@ -270,10 +270,10 @@ nothing_scanned ranges a x rise = (
 )
 
 -- all ranges were scanned
-pub all_scanned : (ranges front : List ByteRange) (a b : ReadLog) (x y : WriteLog) (sound : Bool) → front ≡ ranges → IsScanned front sound a b x y
-    → ScansRanges ranges (Ok sound) a b x y
-all_scanned ranges front a b x y sound whole scanned =
-    let scan = subst (λ (rs : List ByteRange). IsScanned rs sound a b x y) whole scanned in (
+pub all_scanned : (ranges front : List ByteRange) (a b : ReadLog) (x y : WriteLog) (undamaged : Bool) → front ≡ ranges → IsScanned front undamaged a b x y
+    → ScansRanges ranges (Ok undamaged) a b x y
+all_scanned ranges front a b x y undamaged whole scanned =
+    let scan = subst (λ (rs : List ByteRange). IsScanned rs undamaged a b x y) whole scanned in (
       record {
         rest = [];
         split = sym (append-nil ranges);

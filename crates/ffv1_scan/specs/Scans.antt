@@ -8,7 +8,7 @@ use Rattle.ffv1_scan.specs.declared.verdict.Verdict.{Verdict}
 use Rattle.ffv1_scan.specs.declared.scanning.ScanFault.{ScanFault}
 use Rattle.ffv1_scan.specs.declared.scanning.ScanFault.TheVariants as faults
 use Rattle.ffv1_scan.specs.Ranges.{ranges_end}
-use Rattle.ffv1_scan.specs.Verdicts.{AreVerdictsOf, is_sound, verdict_lines}
+use Rattle.ffv1_scan.specs.Verdicts.{AreVerdictsOf, is_undamaged, verdict_lines}
 
 -- The file was read from its start on, no further than to the end of the last range; the ranges of a front were judged in order, and a line
 -- for each went to the output.
@@ -28,11 +28,11 @@ abbrev pub FirstEndsAfter : ℕ → List ByteRange → Type 0
 FirstEndsAfter place [] = ⊥
 FirstEndsAfter place (range ∷ ranges) = place < range.place + range.size
 
--- All ranges were judged and their lines written, and what is returned is whether all are sound. Or the file was given up; or it ended
+-- All ranges were judged and their lines written, and what is returned is whether all are undamaged. Or the file was given up; or it ended
 -- before the end of the first range that is not judged; or memory was refused; or the output was given up.
 abbrev pub ScansRanges : List ByteRange → Result Bool ScanFault → ReadLog → ReadLog → WriteLog → WriteLog → Type 0
-ScansRanges ranges (Ok sound) old new out_old out_new =
-    (scan : ScansFront ranges ranges (Reads old new) (Writes out_old out_new)) × (sound ≡ list_all is_sound scan.verdicts)
+ScansRanges ranges (Ok undamaged) old new out_old out_new =
+    (scan : ScansFront ranges ranges (Reads old new) (Writes out_old out_new)) × (undamaged ≡ list_all is_undamaged scan.verdicts)
 ScansRanges ranges (Err faults.Read) old new out_old out_new =
     ((front : List ByteRange) × ScansFront ranges front (BreaksOff old new) (Writes out_old out_new))
     ⊎ ((front : List ByteRange) × (scan : ScansFront ranges front (Reads old new) (Writes out_old out_new))

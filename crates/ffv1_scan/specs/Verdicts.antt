@@ -38,8 +38,8 @@ is_whole Whole = true
 is_whole (Broken place) = false
 
 -- a range is whole, has a link, and all its links have content and pass their parity
-abbrev pub is_sound : Verdict → Bool
-is_sound verdict = is_whole verdict.end && (nat_lt 0 verdict.links && verdict.passing == verdict.links)
+abbrev pub is_undamaged : Verdict → Bool
+is_undamaged verdict = is_whole verdict.end && (nat_lt 0 verdict.links && verdict.passing == verdict.links)
 
 abbrev pub end_words : ChainEnd → List ℕ
 end_words Whole = codes " whole\n"

@@ -82,14 +82,14 @@ pub fn scan<S: Source, W: Sink>(
     let mut room = empty_room(alloc)?;
     open(file)?;
     let mut last = ByteRange { place: 0, size: 0 };
-    let mut sound = true;
+    let mut undamaged = true;
     for (index, range) in ranges.iter().enumerate() {
         let verdict = judge_next(&mut room, &last, range, file)?;
         write_line(alloc, index + 1, &verdict, output)?;
-        sound &= verdict.is_sound();
+        undamaged &= verdict.is_undamaged();
         last = *range;
     }
-    Ok(sound)
+    Ok(undamaged)
 }
 
 /// Reads no byte of a file: one that can't be read is reported so where there is no range too.

@@ -1,6 +1,6 @@
 //! How the bytes of a range stand as a frame payload (RFC 9043, section 4.9).
 ghost use Rattle.std.specs.Prelude.{◌≡◌, ◌++◌, OnOk, string_bytes};
-ghost use Rattle.ffv1_scan.specs.Verdicts.{is_passing, IsVerdictOf, is_sound, verdict_line};
+ghost use Rattle.ffv1_scan.specs.Verdicts.{is_passing, IsVerdictOf, is_undamaged, verdict_line};
 
 use ffv1_slice::{Chain, ChainEnd, FOOTER_LENGTH, Link, next_link};
 use std::alloc::AllocError;
@@ -18,8 +18,8 @@ pub struct Verdict {
 
 impl Verdict {
     /// Whether the range is whole, has a link, and all its links pass.
-    pub fn is_sound(&self) -> bool
-        ensures { result ≡ is_sound self.now }
+    pub fn is_undamaged(&self) -> bool
+        ensures { result ≡ is_undamaged self.now }
     {
         self.end == ChainEnd::Whole && self.links > 0 && self.passing == self.links
     }

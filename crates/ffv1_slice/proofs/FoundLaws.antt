@@ -4,13 +4,13 @@ use Rattle.std.specs.Prelude.{◌==◌, Contains, slice_range}
 use Rattle.std.specs.List.{AllByRecursion, filter_map, cons_option, flat_map}
 use Rattle.std.proofs.lemmas.List.{take_all, get_or_default}
 use Rattle.ffv1_range.specs.Setup.{SetupValue}
-use Rattle.ffv1_slice.specs.Chain.{size_before, IsCut, IsLinkOf, LinkValue, link_of}
+use Rattle.ffv1_slice.specs.Chain.{size_before, FooterGives, IsLinkOf, LinkValue, link_of}
 use Rattle.ffv1_slice.specs.Walk.{links_of}
 use Rattle.ffv1_slice.specs.Slices.{IsSliceOf, IsFoundIn, IsOriginal, slice_read, with_tile, slice_at, found_slices, FoundSlicesAreFound, OriginalIsFound}
 use Rattle.ffv1_slice.specs.declared.slice.LinkFault.{LinkFault}
 use Rattle.ffv1_slice.proofs.Links.{are_links, Contains-head, Contains-cons}
 use Rattle.ffv1_slice.specs.Near.{starts_at}
-use Rattle.ffv1_slice.proofs.Places.{joined, size_in, range_in, around, starts_next, IsCutAt, end_of_tile, tile_of_cut, first_tile}
+use Rattle.ffv1_slice.proofs.Places.{joined, size_in, range_in, around, starts_next, FooterGivesAt, end_of_tile, tile_of_cut, first_tile}
 use Rattle.ffv1_slice.proofs.SliceLaws.{slice_found, slice_run, one_tile}
 
 -- ---- what a list keeps under a test
@@ -115,14 +115,14 @@ module _ (setup : SetupValue) (payload : List ℕ) (slices : List (List ℕ)) (o
   next_tile k h = starts_next slices k [] h
 
   -- the slice of tile k ends where that of tile k + 1 begins
-  cut_of_tile : (k : ℕ) → k < length slices → IsCut payload (starts_at slices k) (starts_at slices (k + 1))
+  cut_of_tile : (k : ℕ) → k < length slices → FooterGives payload (starts_at slices k) (starts_at slices (k + 1))
   unfolding starts_at joined
   cut_of_tile k h =
       let size : size_before payload (starts_at slices k + length (slice_of_tile k)) ≡ length (slice_of_tile k) - 8 =
       ap (λ z. size_before z (starts_at slices k + length (slice_of_tile k))) (around_tile k h)
       ∙ size_in (joined (take k slices)) (slice_of_tile k) (joined (drop (suc k) slices)) (long_slice k h) ∙ (is_slice_of_tile k h).framed.size in
       let long : 8 ≤ length (slice_of_tile k) = long_slice k h in
-      subst (λ z. IsCut payload (starts_at slices k) z) (sym (next_tile k h)) (omega (arith, size))
+      subst (λ z. FooterGives payload (starts_at slices k) z) (sym (next_tile k h)) (omega (arith, size))
 
   pub bytes_of_tile : (k : ℕ) → k < length slices → slice_range payload (starts_at slices k) (starts_at slices (k + 1)) ≡ get_or slices k []
   unfolding starts_at joined slice_of_tile
@@ -131,7 +131,7 @@ module _ (setup : SetupValue) (payload : List ℕ) (slices : List (List ℕ)) (o
       ∙ ap (λ z. slice_range z (starts_at slices k) (starts_at slices k + length (slice_of_tile k))) (around_tile k h)
       ∙ range_in (joined (take k slices)) (slice_of_tile k) (joined (drop (suc k) slices))
 
-  pub original_cut : IsCutAt payload slices
+  pub original_cut : FooterGivesAt payload slices
   unfolding starts_at slice_of_tile
   original_cut = record {
     long = long_slice;
@@ -141,7 +141,7 @@ module _ (setup : SetupValue) (payload : List ℕ) (slices : List (List ℕ)) (o
 
 -- ---- what is found of a payload that is cut as an original is
 
-module _ (setup : SetupValue) (original copy : List ℕ) (slices : List (List ℕ)) (is : IsOriginal setup original slices) (is_cut : IsCutAt copy slices) where
+module _ (setup : SetupValue) (original copy : List ℕ) (slices : List (List ℕ)) (is : IsOriginal setup original slices) (is_cut : FooterGivesAt copy slices) where
   -- a slice stands at its tile's places, and is of that tile where what stands there is the original's
   pub found_at : (tile : ℕ) (slice : List ℕ) → IsFoundIn setup copy tile slice
       → (k : ℕ) × (k < length slices) × (slice ≡ slice_range copy (starts_at slices k) (starts_at slices (k + 1))) × IsSliceOf setup slice (k == 0) tile

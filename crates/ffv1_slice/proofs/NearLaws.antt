@@ -10,7 +10,7 @@ use Rattle.ffv1_range.specs.Setup.{SetupValue}
 use Rattle.ffv1_slice.specs.Chain.{size_before}
 use Rattle.ffv1_slice.specs.Slices.{IsSliceOf, IsFoundIn}
 use Rattle.ffv1_slice.specs.Near.{starts_at, version_at, size_field, IsNear, IsIntactIn, NearFound}
-use Rattle.ffv1_slice.proofs.Places.{size_in, starts_next, IsCutAt}
+use Rattle.ffv1_slice.proofs.Places.{size_in, starts_next, FooterGivesAt}
 use Rattle.ffv1_slice.proofs.FoundLaws.{bytes_of_tile, original_cut, found_at, own_tile, found_there}
 
 -- ---- the size field
@@ -61,7 +61,7 @@ size_of_range xs p q low high =
 -- ---- a copy that is near an original
 
 module _ (setup : SetupValue) (original : List ℕ) (slices : List (List ℕ)) (copy : List ℕ) (near : IsNear setup original slices copy) where
-  cut : IsCutAt original slices
+  cut : FooterGivesAt original slices
   cut = original_cut setup original slices near.is_original
 
   own : (k : ℕ) → k < length slices → IsSliceOf setup (get_or slices k []) (k == 0) k
@@ -92,13 +92,13 @@ module _ (setup : SetupValue) (original : List ℕ) (slices : List (List ℕ)) (
   link_size k lt =
       elim (near.each k [] lt) [
         | inl same ↦ ap (λ z. size_before z (length z)) same ∙ (own k lt).framed.size
-        | inr hurt ↦
+        | inr damaged ↦
             let long : 8 ≤ length (get_or slices k []) = cut.long k lt in
-            same_size_field (get_or slices k []) (version_at slices copy k) long (omega (arith, link_length k lt)) hurt.size ∙ (own k lt).framed.size
+            same_size_field (get_or slices k []) (version_at slices copy k) long (omega (arith, link_length k lt)) damaged.size ∙ (own k lt).framed.size
       ]
 
   -- so the copy is cut as the original is
-  copy_cut : IsCutAt copy slices
+  copy_cut : FooterGivesAt copy slices
   copy_cut = record {
     long = cut.long;
     whole = cut.whole ∙ sym near.same_length;
@@ -114,11 +114,11 @@ module _ (setup : SetupValue) (original : List ℕ) (slices : List (List ℕ)) (
   intact k lt passes =
       elim (near.each k [] lt) [
         | inl same ↦ same
-        | inr hurt ↦
+        | inr damaged ↦
             let slice_bytes : AreBytes (get_or slices k []) = subst AreBytes (bytes_of_tile setup original slices near.is_original k lt)
             (AreBytes-range original (starts_at slices k) (starts_at slices (k + 1)) near.original_bytes) in
-            sym (burst (get_or slices k []) (version_at slices copy k) hurt.at slice_bytes
-            (AreBytes-range copy (starts_at slices k) (starts_at slices (k + 1)) near.copy_bytes) hurt.differ (own k lt).passes passes)
+            sym (burst (get_or slices k []) (version_at slices copy k) damaged.at slice_bytes
+            (AreBytes-range copy (starts_at slices k) (starts_at slices (k + 1)) near.copy_bytes) damaged.differ (own k lt).passes passes)
       ]
 
   near_from : (tile : ℕ) (slice : List ℕ) → IsFoundIn setup copy tile slice → (tile < length slices) × (slice ≡ get_or slices tile slice)

@@ -11,7 +11,7 @@ use Rattle.ffv1_range.specs.Coding.{bit_at, slot_at, start_of}
 use Rattle.ffv1_range.specs.HeaderForms.{symbols_onto}
 use Rattle.ffv1_range.specs.Reading.{symbol_form, exponent_form, low_form}
 use Rattle.ffv1_slice.specs.Slices.{IsSliceOf, IsFoundIn, IsOriginal, slice_read}
-use Rattle.ffv1_slice.specs.Near.{starts_at, version_at, IsHurtWithin32, IsNear, IsIntactIn}
+use Rattle.ffv1_slice.specs.Near.{starts_at, version_at, IsDamagedWithin32, IsNear, IsIntactIn}
 use Rattle.ffv1_slice.proofs.SliceLaws.{slice_found}
 use Rattle.ffv1_slice.proofs.NearLaws.{near_found}
 
@@ -34,11 +34,11 @@ abbrev pub slices : List (List ℕ)
 slices = first_slice ∷ second_slice ∷ []
 
 -- its first 24 bits are flipped
-abbrev hurt_slice : List ℕ
-hurt_slice = 0x02 ∷ 0x09 ∷ 0x7F ∷ 0 ∷ 0 ∷ 3 ∷ 0 ∷ 0x1C ∷ 0x3E ∷ 0xA0 ∷ 0x9B ∷ []
+abbrev damaged_slice : List ℕ
+damaged_slice = 0x02 ∷ 0x09 ∷ 0x7F ∷ 0 ∷ 0 ∷ 3 ∷ 0 ∷ 0x1C ∷ 0x3E ∷ 0xA0 ∷ 0x9B ∷ []
 
-abbrev pub hurt_frame : List ℕ
-hurt_frame = hurt_slice ++ second_slice
+abbrev pub damaged_frame : List ℕ
+damaged_frame = damaged_slice ++ second_slice
 
 -- its first and last of 32 bits are flipped, from bit 56 on
 abbrev other_slice : List ℕ
@@ -47,13 +47,13 @@ other_slice = 0x3F ∷ 0x2B ∷ 0x80 ∷ 0 ∷ 0 ∷ 3 ∷ 0 ∷ 0xD6 ∷ 0x0F �
 abbrev pub other_frame : List ℕ
 other_frame = first_slice ++ other_slice
 
-other_hurt : IsHurtWithin32 second_slice other_slice
+other_damaged : IsDamagedWithin32 second_slice other_slice
 unfolding bits_of number_bits
-other_hurt = record { at = 56; differ = record { same_length = refl; front = refl; back = refl }; size = refl }
+other_damaged = record { at = 56; differ = record { same_length = refl; front = refl; back = refl }; size = refl }
 
-hurt : IsHurtWithin32 first_slice hurt_slice
+damaged : IsDamagedWithin32 first_slice damaged_slice
 unfolding bits_of number_bits
-hurt = record { at = 0; differ = record { same_length = refl; front = refl; back = refl }; size = refl }
+damaged = record { at = 0; differ = record { same_length = refl; front = refl; back = refl }; size = refl }
 
 -- the first slice with error_status 1 passes, and differs from it within 33 bits, but not within 32
 abbrev marked_slice : List ℕ
@@ -109,27 +109,27 @@ is_original = record { count = refl; joined = refl; short = omega arith; each = 
 
 -- a copy of the frame's length, from each of its two slices
 near_by : (copy : List ℕ) → AreBytes copy → length copy ≡ length frame
-    → (version_at slices copy 0 ≡ first_slice) ⊎ IsHurtWithin32 first_slice (version_at slices copy 0)
-    → (version_at slices copy 1 ≡ second_slice) ⊎ IsHurtWithin32 second_slice (version_at slices copy 1) → IsNear setup frame slices copy
+    → (version_at slices copy 0 ≡ first_slice) ⊎ IsDamagedWithin32 first_slice (version_at slices copy 0)
+    → (version_at slices copy 1 ≡ second_slice) ⊎ IsDamagedWithin32 second_slice (version_at slices copy 1) → IsNear setup frame slices copy
 near_by copy bytes size first second =
     record { is_original = is_original; original_bytes = bytes_from frame refl; copy_bytes = bytes; same_length = size; each = each }
   where
     each : (tile : ℕ) (d : List ℕ) → tile < 2 → (version_at slices copy tile ≡ get_or slices tile d)
-        ⊎ IsHurtWithin32 (get_or slices tile d) (version_at slices copy tile)
+        ⊎ IsDamagedWithin32 (get_or slices tile d) (version_at slices copy tile)
     each zero d lt = first
     each (suc zero) d lt = second
     each (suc (suc tile)) d lt = absurd (omega arith)
 
-pub near : IsNear setup frame slices hurt_frame
+pub near : IsNear setup frame slices damaged_frame
 unfolding starts_at
-near = near_by hurt_frame (bytes_from hurt_frame refl) refl (inr hurt) (inl refl)
+near = near_by damaged_frame (bytes_from damaged_frame refl) refl (inr damaged) (inl refl)
 
 pub other_near : IsNear setup frame slices other_frame
 unfolding starts_at
-other_near = near_by other_frame (bytes_from other_frame refl) refl (inl refl) (inr other_hurt)
+other_near = near_by other_frame (bytes_from other_frame refl) refl (inl refl) (inr other_damaged)
 
 -- each copy has one slice intact
-pub second_intact : IsIntactIn slices hurt_frame 1 second_slice
+pub second_intact : IsIntactIn slices damaged_frame 1 second_slice
 unfolding starts_at
 second_intact = refl
 
@@ -138,14 +138,14 @@ unfolding starts_at
 first_intact = refl
 
 -- the second is found, and the first is not
-second_found : IsFoundIn setup hurt_frame 1 second_slice
+second_found : IsFoundIn setup damaged_frame 1 second_slice
 unfolding starts_at
-second_found = (near_found setup frame slices hurt_frame near 1 second_slice).1 (omega arith, refl, refl)
+second_found = (near_found setup frame slices damaged_frame near 1 second_slice).1 (omega arith, refl, refl)
 
-first_not_found : (slice : List ℕ) → IsFoundIn setup hurt_frame 0 slice → ⊥
+first_not_found : (slice : List ℕ) → IsFoundIn setup damaged_frame 0 slice → ⊥
 unfolding starts_at
 first_not_found slice found =
-    let parts = (near_found setup frame slices hurt_frame near 0 slice).0 found in
-    let same : hurt_slice ≡ first_slice = parts.2 ∙ parts.1 in
-    let byte : get_or hurt_slice 0 0 ≡ get_or first_slice 0 0 = ap (λ (s : List ℕ). get_or s 0 0) same in
+    let parts = (near_found setup frame slices damaged_frame near 0 slice).0 found in
+    let same : damaged_slice ≡ first_slice = parts.2 ∙ parts.1 in
+    let byte : get_or damaged_slice 0 0 ≡ get_or first_slice 0 0 = ap (λ (s : List ℕ). get_or s 0 0) same in
     absurd (omega arith)

@@ -7,7 +7,7 @@ use Rattle.std.proofs.lemmas.List.{append-nil, drop-append-le, take-append-le, t
 use Rattle.std.proofs.lemmas.Grind.{flat_map-append}
 use Rattle.std.proofs.lemmas.Bool.{ne_eqb}
 use Rattle.byteorder.specs.Endian.{big_number}
-use Rattle.ffv1_slice.specs.Chain.{footer_before, size_before, IsCut, IsEnd}
+use Rattle.ffv1_slice.specs.Chain.{footer_before, size_before, FooterGives, IsEnd}
 use Rattle.ffv1_slice.specs.Chain.IsEnd.{last, before}
 use Rattle.ffv1_slice.specs.Near.{starts_at}
 
@@ -64,12 +64,12 @@ starts_none slices = refl
 -- ---- the ends of a payload that is cut at the slices' places
 
 -- Slices have their footers, they are as long as the payload, and the payload's footers cut it where they meet.
-pub record IsCutAt (payload : List ℕ) (slices : List (List ℕ)) : Type 0 where
+pub record FooterGivesAt (payload : List ℕ) (slices : List (List ℕ)) : Type 0 where
   pub long : (k : ℕ) → k < length slices → 8 ≤ length (get_or slices k [])
   pub whole : starts_at slices (length slices) ≡ length payload
-  pub cut : (k : ℕ) → k < length slices → IsCut payload (starts_at slices k) (starts_at slices (k + 1))
+  pub cut : (k : ℕ) → k < length slices → FooterGives payload (starts_at slices k) (starts_at slices (k + 1))
 
-module _ (payload : List ℕ) (slices : List (List ℕ)) (is : IsCutAt payload slices) where
+module _ (payload : List ℕ) (slices : List (List ℕ)) (is : FooterGivesAt payload slices) where
   -- each tile's start is an end, counted back from the last
   end_back : (n : ℕ) → n ≤ length slices → IsEnd payload (starts_at slices (length slices - n))
   end_back zero h = subst (IsEnd payload) (sym (ap (starts_at slices) (omega arith) ∙ is.whole)) last
@@ -83,10 +83,10 @@ module _ (payload : List ℕ) (slices : List (List ℕ)) (is : IsCutAt payload s
       let same : length slices - (length slices - k) ≡ k = omega arith in
       subst (λ z. IsEnd payload (starts_at slices z)) same (end_back (length slices - k) (omega arith))
 
-  pub same_start : (p k q : ℕ) → k < length slices → q ≡ starts_at slices (k + 1) → IsCut payload p q → p ≡ starts_at slices k
+  pub same_start : (p k q : ℕ) → k < length slices → q ≡ starts_at slices (k + 1) → FooterGives payload p q → p ≡ starts_at slices k
   same_start p k q h e cut =
-      let own : IsCut payload (starts_at slices k) (starts_at slices (k + 1)) = is.cut k h in
-      let moved : IsCut payload p (starts_at slices (k + 1)) = subst (IsCut payload p) e cut in omega arith
+      let own : FooterGives payload (starts_at slices k) (starts_at slices (k + 1)) = is.cut k h in
+      let moved : FooterGives payload p (starts_at slices (k + 1)) = subst (FooterGives payload p) e cut in omega arith
 
   -- and there are no other ends
   tile_at_end : (q : ℕ) → IsEnd payload q → (k : ℕ) × (k ≤ length slices) × (q ≡ starts_at slices k)
@@ -94,7 +94,7 @@ module _ (payload : List ℕ) (slices : List (List ℕ)) (is : IsCutAt payload s
   tile_at_end q (before {q = r} end cut) =
       let at = tile_at_end r end in below q r at.0 at.1 at.2 cut
     where
-      below : (q r k : ℕ) → k ≤ length slices → r ≡ starts_at slices k → IsCut payload q r → (j : ℕ) × (j ≤ length slices) × (q ≡ starts_at slices j)
+      below : (q r k : ℕ) → k ≤ length slices → r ≡ starts_at slices k → FooterGives payload q r → (j : ℕ) × (j ≤ length slices) × (q ≡ starts_at slices j)
       below q r zero h e cut = absurd (let none : starts_at slices 0 ≡ 0 = starts_none slices in omega arith)
       below q r (suc k) h e cut = (
         k,
@@ -104,7 +104,7 @@ module _ (payload : List ℕ) (slices : List (List ℕ)) (is : IsCutAt payload s
       )
 
   -- so each cut is that of a tile
-  pub tile_of_cut : (p q : ℕ) → IsEnd payload q → IsCut payload p q → (k : ℕ) × (k < length slices) × (p ≡ starts_at slices k) × (q ≡ starts_at slices (k + 1))
+  pub tile_of_cut : (p q : ℕ) → IsEnd payload q → FooterGives payload p q → (k : ℕ) × (k < length slices) × (p ≡ starts_at slices k) × (q ≡ starts_at slices (k + 1))
   tile_of_cut p q end cut = let at = tile_at_end q end in above at.0 at.1 at.2
     where
       above : (k : ℕ) → k ≤ length slices → q ≡ starts_at slices k → (k : ℕ) × (k < length slices) × (p ≡ starts_at slices k) × (q ≡ starts_at slices (k + 1))

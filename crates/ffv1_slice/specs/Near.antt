@@ -1,4 +1,4 @@
--- Copies that are near an original: in each slice they differ from it only within 32 bits, and its size field is unhurt.
+-- Copies that are near an original: in each slice they differ from it only within 32 bits, and its size field is undamaged.
 use Rattle.std.specs.Prelude.{ℕ, ◌+◌, ◌-◌, ◌<◌, ◌≡◌, ◌⊎◌, ◌↔◌, List, length, take, slice_range, slice_index_or}
 use Rattle.std.specs.List.{flat_map}
 use Rattle.ffv1_bits.specs.Parity.{DifferWithin32, AreBytes}
@@ -18,19 +18,19 @@ abbrev pub size_field : List ℕ → List ℕ
 size_field slice = slice_range slice (length slice - 8) (length slice - 5)
 
 -- Bytes differ from a slice only within 32 consecutive bits, and not in the size field.
-pub record IsHurtWithin32 (slice link : List ℕ) : Type 0 where
+pub record IsDamagedWithin32 (slice link : List ℕ) : Type 0 where
   pub at : ℕ
   pub differ : DifferWithin32 slice link at
   pub size : size_field link ≡ size_field slice
 
--- A copy of an original: it has the original's length, and at each slice's places it is equal to the slice, or hurt within 32 bits.
+-- A copy of an original: it has the original's length, and at each slice's places it is equal to the slice, or damaged within 32 bits.
 pub record IsNear (setup : SetupValue) (original : List ℕ) (slices : List (List ℕ)) (copy : List ℕ) : Type 0 where
   pub is_original : IsOriginal setup original slices
   pub original_bytes : AreBytes original
   pub copy_bytes : AreBytes copy
   pub same_length : length copy ≡ length original
   pub each : (tile : ℕ) (d : List ℕ) → tile < length slices
-      → (version_at slices copy tile ≡ slice_index_or slices tile d) ⊎ IsHurtWithin32 (slice_index_or slices tile d) (version_at slices copy tile)
+      → (version_at slices copy tile ≡ slice_index_or slices tile d) ⊎ IsDamagedWithin32 (slice_index_or slices tile d) (version_at slices copy tile)
 
 -- A tile's slice is intact in a copy: it stands there at its places.
 abbrev pub IsIntactIn : List (List ℕ) → List ℕ → ℕ → List ℕ → Type 0

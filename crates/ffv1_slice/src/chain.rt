@@ -3,7 +3,7 @@
 ghost use Rattle.std.specs.Prelude.{◌≡◌, ◌+◌, ◌-◌, ◌*◌, ◌≤◌, ℕ, [], ◌∷◌, length, MatchOption, IfSome, IfNone, ⊤};
 ghost use Rattle.std.specs.Iterator.{YieldsFirst, item_count, MakesProgress};
 ghost use Rattle.ffv1_bits.specs.Limits.{slice_limit};
-ghost use Rattle.ffv1_slice.specs.Chain.{IsCut, AreLinksOf, IsEnd};
+ghost use Rattle.ffv1_slice.specs.Chain.{FooterGives, AreLinksOf, IsEnd};
 ghost use Rattle.ffv1_slice.specs.Ending.{EndsAs};
 ghost use Rattle.ffv1_slice.specs.Walk.{links_of};
 
@@ -103,7 +103,7 @@ pub fn next_link<'a>(chain: &mut Chain<'a>) -> Option<Link<'a>>
 /// where fewer than 8 bytes stand before the place, or the footer there gives a size that is more than there is.
 pub fn slice_start(payload: &[u8], place: usize) -> Option<usize>
     requires { place ≤ length payload.now }
-    ensures cut { MatchOption result ((p : ℕ) → IsCut payload.now p place → ⊥) (λ p. IsCut payload.now p place) }
+    ensures cut { MatchOption result ((p : ℕ) → FooterGives payload.now p place → ⊥) (λ p. FooterGives payload.now p place) }
     ensures short { IfSome result (λ p. place ≤ p + slice_limit) }
 {
     if place < FOOTER_LENGTH {
@@ -119,7 +119,7 @@ fn last_end(payload: &[u8], from: usize) -> usize
     requires within { from ≤ length payload.now }
     requires is_end { IsEnd payload.now from }
     ensures is_end { IsEnd payload.now result }
-    ensures last { (p : ℕ) → IsCut payload.now p result → ⊥ }
+    ensures last { (p : ℕ) → FooterGives payload.now p result → ⊥ }
 {
     let mut place = from;
     while let Some(start) = slice_start(payload, place) {

@@ -12,8 +12,8 @@ pub fn original_is_found()
     ensures { OriginalIsFound }
 {}
 
-/// Damage within 32 bits of a slice, its size field unhurt, is always seen: of a copy in which no slice of an
-/// original is hurt otherwise, exactly the slices that stand there intact are found, each of its tile.
+/// Damage within 32 bits of a slice, its size field undamaged, is always seen: of a copy in which no slice of an
+/// original is damaged otherwise, exactly the slices that stand there intact are found, each of its tile.
 pub fn near_found()
     ensures { NearFound }
 {}

@@ -3,7 +3,7 @@
 ghost use Rattle.std.specs.Prelude.{◌≡◌, ◌+◌, ◌≤◌, ◌↔◌, ℕ, IsTrue, length};
 ghost use Rattle.ffv1_bits.specs.Limits.{slice_limit};
 ghost use Rattle.ffv1_bits.specs.Parity.{PassesParity};
-ghost use Rattle.ffv1_slice.specs.Chain.{IsCut, IsFramed, status_before, link_of};
+ghost use Rattle.ffv1_slice.specs.Chain.{FooterGives, IsFramed, status_before, link_of};
 
 use crate::footer::status_of;
 use ffv1_bits::passes;
@@ -36,7 +36,7 @@ impl<'a> Link<'a> {
     /// The slice from `start` up to `end`, whose footer ends there.
     pub(crate) fn cut(payload: &'a [u8], start: usize, end: usize) -> Link<'a>
         requires within { end ≤ length payload.now }
-        requires cut { IsCut payload.now start end }
+        requires cut { FooterGives payload.now start end }
         requires short { end ≤ start + slice_limit }
         ensures { result ≡ link_of payload.now start end }
     {

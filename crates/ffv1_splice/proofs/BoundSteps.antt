@@ -2,7 +2,7 @@
 use Rattle.std.proofs.Common.{◌≡◌, ℕ, ◌<◌, ◌≤◌, List, [], ◌∷◌, ◌++◌, refl, sym, ◌∙◌, subst, arith, inl, inr}
 use Rattle.std.specs.Prelude.{slice_range}
 use Rattle.ffv1_bits.specs.Parity.{PassesParity}
-use Rattle.ffv1_slice.specs.Chain.{IsCut, LinkValue, link_of}
+use Rattle.ffv1_slice.specs.Chain.{FooterGives, LinkValue, link_of}
 use Rattle.ffv1_splice.specs.Pieces.{HasContent, IsPiece}
 use Rattle.ffv1_splice.specs.Splice.{IsBound}
 use Rattle.ffv1_splice.proofs.TallySteps.{last, piece_on, piece_back, one_cut}
@@ -29,12 +29,12 @@ module _ (copies : List (List ℕ)) (copy : List ℕ) (end bound : ℕ) where
   bound_same back (inl h) = inl (λ piece k. h.0 piece (back piece k), h.1)
   bound_same back (inr h) = inr (h.0, piece_on copies copy end h.0 h.1, h.2, λ other k. h.3 other (back other k))
 
-  pub bound_uncut : ((start : ℕ) → IsCut copy start end → HasContent start end → ⊥) → IsBound copies end bound → IsBound (copies ++ copy ∷ []) end bound
+  pub bound_uncut : ((start : ℕ) → FooterGives copy start end → HasContent start end → ⊥) → IsBound copies end bound → IsBound (copies ++ copy ∷ []) end bound
   bound_uncut none =
       bound_same (λ piece k. elim (piece_back copies copy end piece k) [ inl old ↦ old | inr new ↦ absurd (none piece.start new.0 new.1) ])
 
   -- nor has one that fails its parity
-  pub bound_failed : (start : ℕ) → IsCut copy start end → (PassesParity (slice_range copy start end) → ⊥) → IsBound copies end bound
+  pub bound_failed : (start : ℕ) → FooterGives copy start end → (PassesParity (slice_range copy start end) → ⊥) → IsBound copies end bound
       → IsBound (copies ++ copy ∷ []) end bound
   bound_failed start cut fails =
       bound_same (λ piece k. elim (piece_back copies copy end piece k) [
@@ -42,7 +42,7 @@ module _ (copies : List (List ℕ)) (copy : List ℕ) (end bound : ℕ) where
         | inr new ↦ absurd (fails (subst (λ s. PassesParity (slice_range copy s end)) (one_cut copies copy end start piece.start cut new.0) new.3))
       ])
 
-  module _ (start : ℕ) (cut : IsCut copy start end) (content : HasContent start end) where
+  module _ (start : ℕ) (cut : FooterGives copy start end) (content : HasContent start end) where
     same_start : (piece : LinkValue) → IsPiece (copies ++ copy ∷ []) end piece → (IsPiece copies end piece → start ≤ piece.start) → start ≤ piece.start
     same_start piece k old =
         elim (piece_back copies copy end piece k) [

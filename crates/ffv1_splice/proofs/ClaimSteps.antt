@@ -6,7 +6,7 @@ use Rattle.std.proofs.lemmas.List.{get_or-drop, get_or-take}
 use Rattle.memchr.specs.Find.{Nowhere, NoneBefore, Passes, is_byte}
 use Rattle.ffv1_bits.specs.Parity.{AreBytes}
 use Rattle.ffv1_bits.proofs.Bytes.{AreBytes-range}
-use Rattle.ffv1_slice.specs.Chain.{IsCut, footer_before}
+use Rattle.ffv1_slice.specs.Chain.{FooterGives, footer_before}
 use Rattle.ffv1_slice.proofs.NearLaws.{length-range}
 use Rattle.ffv1_splice.specs.Inner.Claims.{LacksClaims}
 
@@ -21,7 +21,7 @@ in_range : (xs : List ℕ) (a b k : ℕ) → a + k < b → get_or (slice_range x
 in_range xs a b k within = get_or-take (b - a) (drop a xs) k 0 (omega arith) ∙ get_or-drop a xs k 0
 
 -- the middle byte of the size that a footer gives
-middle : (copy : List ℕ) (start end : ℕ) → AreBytes copy → start + 8 ≤ end → IsCut copy start end
+middle : (copy : List ℕ) (start end : ℕ) → AreBytes copy → start + 8 ≤ end → FooterGives copy start end
     → get_or copy (end - 7) 0 ≡ (end - 8 - start) / 256 % 256
 middle copy start end small room cut =
     let footer : AreBytes (footer_before copy end) = AreBytes-range copy (end - 8) end small in
@@ -82,11 +82,11 @@ unclaimed_on copy start from end next so_far order none =
     }
 
 -- one end more
-pub unclaimed_past : (copy : List ℕ) (start from end : ℕ) → AreUnclaimed copy start from end → (IsCut copy start end → ⊥)
+pub unclaimed_past : (copy : List ℕ) (start from end : ℕ) → AreUnclaimed copy start from end → (FooterGives copy start end → ⊥)
     → AreUnclaimed copy start from (end + 1)
 unclaimed_past copy start from end so_far uncut =
     unclaimed_on copy start from end (end + 1) so_far (omega arith)
-    (λ other later before cut. let same : other ≡ end = omega arith in uncut (subst (IsCut copy start) same cut))
+    (λ other later before cut. let same : other ≡ end = omega arith in uncut (subst (FooterGives copy start) same cut))
 
 -- ---- a turn of the loop: the window is up to the last end, or to where the middle byte changes
 

@@ -5,7 +5,7 @@ use Rattle.std.proofs.lemmas.Bool.{cases_lt}
 use Rattle.std.proofs.lemmas.List.Elements.{Contains-append_left, Contains-append_right, Contains-append_cases}
 use Rattle.ffv1_bits.specs.Limits.{slice_limit}
 use Rattle.ffv1_bits.specs.Parity.{AreBytes}
-use Rattle.ffv1_slice.specs.Chain.{IsCut}
+use Rattle.ffv1_slice.specs.Chain.{FooterGives}
 use Rattle.ffv1_slice.specs.Members.{IsOnly, IsOfTwo, IsOfNone}
 use Rattle.ffv1_splice.specs.Pieces.{HasContent}
 use Rattle.ffv1_splice.specs.Splice.{IsClaimedEnd}
@@ -20,15 +20,15 @@ use Rattle.ffv1_splice.proofs.ShortestSteps.{cut_is_short}
 -- ---- one copy
 
 module _ (copy : List ℕ) (reach : ℕ) where
-  pub claimed_of_cut : (end : ℕ) → IsCut copy 0 end → 8 < end → end ≤ reach → IsClaimedEnd (copy ∷ []) reach end
+  pub claimed_of_cut : (end : ℕ) → FooterGives copy 0 end → 8 < end → end ≤ reach → IsClaimedEnd (copy ∷ []) reach end
   claimed_of_cut end cut content within =
       record { claim = record { copy = copy; there = (0, omega arith, refl); cut = cut; content = omega arith }; within = within }
 
-  pub cut_of_claimed : (end : ℕ) → IsClaimedEnd (copy ∷ []) reach end → IsCut copy 0 end
-  cut_of_claimed end h = subst (λ c. IsCut c 0 end) (alone copy h.claim.copy h.claim.there) h.claim.cut
+  pub cut_of_claimed : (end : ℕ) → IsClaimedEnd (copy ∷ []) reach end → FooterGives copy 0 end
+  cut_of_claimed end h = subst (λ c. FooterGives c 0 end) (alone copy h.claim.copy h.claim.there) h.claim.cut
 
   -- where no end up to a place is claimed, and the search went as far as one can be, none is
-  pub none_claimed : (from place : ℕ) → AreBytes copy → ((end : ℕ) → from < end → end ≤ place → IsCut copy 0 end → ⊥)
+  pub none_claimed : (from place : ℕ) → AreBytes copy → ((end : ℕ) → from < end → end ≤ place → FooterGives copy 0 end → ⊥)
       → ((end : ℕ) → place < end → end ≤ reach → end ≤ slice_limit → ⊥) → (end : ℕ) → from < end → IsClaimedEnd (copy ∷ []) reach end → ⊥
   none_claimed from place small none far end after h =
       let cut = cut_of_claimed end h in
@@ -36,7 +36,7 @@ module _ (copy : List ℕ) (reach : ℕ) where
       none end after (elim (cases_lt place end) [ inl beyond ↦ absurd (far end beyond h.within (omega arith)) | inr up ↦ up ]) cut
 
   -- the first of them
-  pub next_claimed : (from end : ℕ) → ((other : ℕ) → from < other → other < end → IsCut copy 0 other → ⊥) → IsCut copy 0 end → 8 < end → from < end
+  pub next_claimed : (from end : ℕ) → ((other : ℕ) → from < other → other < end → FooterGives copy 0 other → ⊥) → FooterGives copy 0 end → 8 < end → from < end
       → end ≤ reach → IsNextClaimed copy from reach end
   next_claimed from end none cut content after within =
       record {

@@ -14,7 +14,7 @@ use Rattle.ffv1_splice.specs.declared.tally.Starts.{Starts}
 use Rattle.ffv1_splice.specs.declared.tally.Starts.TheVariants as starts
 use Rattle.ffv1_splice.specs.Inner.Placing.{IsPlaced}
 use Rattle.ffv1_splice.specs.Standings.{versions_at, StandsAs}
-use Rattle.ffv1_splice.specs.Splice.{RiseFrom, IsSettledUp, IsWalkUp, IsClaimedEnd, IsLostUpTo, IsCrossed, Leg, AreLegs, IsWalkAcross, leg_places}
+use Rattle.ffv1_splice.specs.Splice.{RiseFrom, IsSettledUp, IsWalkUp, IsClaimedEnd, IsLostUpTo, IsCrossed, Crossing, AreCrossings, IsWalkAcross, crossing_places}
 use Rattle.ffv1_splice.specs.declared.place.Standing.{Standing}
 use Rattle.ffv1_splice.specs.declared.place.Standing.TheVariants.{Settled}
 use Rattle.ffv1_splice.specs.declared.place.Place.{Place}
@@ -32,10 +32,10 @@ pub rise_append : (start middle top : ℕ) (places others : List Place) → Rise
 rise_append start middle top [] others rise more = subst (λ n. RiseFrom n others top) (sym rise) more
 rise_append start middle top (place ∷ places) others rise more = (rise.0, rise_append place.end middle top places others rise.1 more)
 
-leg_places-append : (legs : List Leg) (leg : Leg) → leg_places (legs ++ leg ∷ []) ≡ leg_places legs ++ (leg.over ∷ leg.settled)
-leg_places-append legs leg =
-    flat_map-append (λ (leg : Leg). leg.over ∷ leg.settled) legs (leg ∷ [])
-    ∙ ap (λ z. leg_places legs ++ z) (append-nil (leg.over ∷ leg.settled))
+crossing_places-append : (crossings : List Crossing) (crossing : Crossing) → crossing_places (crossings ++ crossing ∷ []) ≡ crossing_places crossings ++ (crossing.over ∷ crossing.settled)
+crossing_places-append crossings crossing =
+    flat_map-append (λ (crossing : Crossing). crossing.over ∷ crossing.settled) crossings (crossing ∷ [])
+    ∙ ap (λ z. crossing_places crossings ++ z) (append-nil (crossing.over ∷ crossing.settled))
 
 -- ---- a lost slice
 
@@ -135,53 +135,53 @@ module _ (copies : List (List ℕ)) (bound : ℕ) where
   walk_order : (payload : List ℕ) (from : ℕ) (places : List Place) (top : ℕ) → IsWalkUp copies bound payload from places top → from ≤ top
   walk_order payload from places top h = start_below from places top h.rise (up_upright copies bound payload places h.settled)
 
-  -- ---- legs
+  -- ---- crossings
 
   -- what is so of each place over a lost slice, and of each settled place, is so of all
-  pub all_legs : (P : Place → Type 0) (payload : List ℕ) → ((place : Place) → IsCrossed copies bound payload place → P place)
-      → ((place : Place) → IsSettledUp copies bound payload place → P place) → (start : ℕ) (legs : List Leg) (top : ℕ)
-      → AreLegs copies bound payload start legs top → All P (leg_places legs)
-  all_legs P payload crossed settled start [] top are = All-nil P
-  all_legs P payload crossed settled start (leg ∷ legs) top are =
-      All-append P (leg.over ∷ leg.settled) (leg_places legs)
-      (All-cons P leg.over leg.settled (crossed leg.over are.1)
-      (All-weaker (IsSettledUp copies bound payload) P settled leg.settled are.3.settled))
-      (all_legs P payload crossed settled are.2 legs top are.4)
+  pub all_crossings : (P : Place → Type 0) (payload : List ℕ) → ((place : Place) → IsCrossed copies bound payload place → P place)
+      → ((place : Place) → IsSettledUp copies bound payload place → P place) → (start : ℕ) (crossings : List Crossing) (top : ℕ)
+      → AreCrossings copies bound payload start crossings top → All P (crossing_places crossings)
+  all_crossings P payload crossed settled start [] top are = All-nil P
+  all_crossings P payload crossed settled start (crossing ∷ crossings) top are =
+      All-append P (crossing.over ∷ crossing.settled) (crossing_places crossings)
+      (All-cons P crossing.over crossing.settled (crossed crossing.over are.1)
+      (All-weaker (IsSettledUp copies bound payload) P settled crossing.settled are.3.settled))
+      (all_crossings P payload crossed settled are.2 crossings top are.4)
 
-  pub legs_rise : (payload : List ℕ) (start : ℕ) (legs : List Leg) (top : ℕ) → AreLegs copies bound payload start legs top
-      → RiseFrom start (leg_places legs) top
-  legs_rise payload start [] top are = are
-  legs_rise payload start (leg ∷ legs) top are =
-      (are.0, rise_append leg.over.end are.2 top leg.settled (leg_places legs) are.3.rise (legs_rise payload are.2 legs top are.4))
+  pub crossings_rise : (payload : List ℕ) (start : ℕ) (crossings : List Crossing) (top : ℕ) → AreCrossings copies bound payload start crossings top
+      → RiseFrom start (crossing_places crossings) top
+  crossings_rise payload start [] top are = are
+  crossings_rise payload start (crossing ∷ crossings) top are =
+      (are.0, rise_append crossing.over.end are.2 top crossing.settled (crossing_places crossings) are.3.rise (crossings_rise payload are.2 crossings top are.4))
 
-  pub legs_order : (payload : List ℕ) (start : ℕ) (legs : List Leg) (top : ℕ) → AreLegs copies bound payload start legs top → start ≤ top
-  legs_order payload start [] top are = omega (arith, are)
-  legs_order payload start (leg ∷ legs) top are =
+  pub crossings_order : (payload : List ℕ) (start : ℕ) (crossings : List Crossing) (top : ℕ) → AreCrossings copies bound payload start crossings top → start ≤ top
+  crossings_order payload start [] top are = omega (arith, are)
+  crossings_order payload start (crossing ∷ crossings) top are =
       let starts = are.0 in
-      let rises = crossed_rising payload leg.over are.1 in
-      let on = walk_order payload leg.over.end leg.settled are.2 are.3 in
-      let rest = legs_order payload are.2 legs top are.4 in
+      let rises = crossed_rising payload crossing.over are.1 in
+      let on = walk_order payload crossing.over.end crossing.settled are.2 are.3 in
+      let rest = crossings_order payload are.2 crossings top are.4 in
       omega arith
 
-  pub legs_kept : (a b : List ℕ) (start : ℕ) (legs : List Leg) (top : ℕ) → take top a ≡ take top b → AreLegs copies bound a start legs top
-      → AreLegs copies bound b start legs top
-  legs_kept a b start [] top same are = are
-  legs_kept a b start (leg ∷ legs) top same are =
-      let on = walk_order a leg.over.end leg.settled are.2 are.3 in
-      let rest = legs_order a are.2 legs top are.4 in (
+  pub crossings_kept : (a b : List ℕ) (start : ℕ) (crossings : List Crossing) (top : ℕ) → take top a ≡ take top b → AreCrossings copies bound a start crossings top
+      → AreCrossings copies bound b start crossings top
+  crossings_kept a b start [] top same are = are
+  crossings_kept a b start (crossing ∷ crossings) top same are =
+      let on = walk_order a crossing.over.end crossing.settled are.2 are.3 in
+      let rest = crossings_order a are.2 crossings top are.4 in (
         are.0,
-        crossed_kept a b leg.over (range_before a b top leg.over.start leg.over.end (omega arith) same) are.1,
+        crossed_kept a b crossing.over (range_before a b top crossing.over.start crossing.over.end (omega arith) same) are.1,
         are.2,
-        walk_kept a b leg.over.end leg.settled are.2 (take_earlier a b are.2 top rest same) are.3,
-        legs_kept a b are.2 legs top same are.4,
+        walk_kept a b crossing.over.end crossing.settled are.2 (take_earlier a b are.2 top rest same) are.3,
+        crossings_kept a b are.2 crossings top same are.4,
       )
 
-  legs_more : (payload : List ℕ) (start : ℕ) (legs : List Leg) (middle : ℕ) (leg : Leg) (top : ℕ) → AreLegs copies bound payload start legs middle
-      → leg.over.start ≡ middle → IsCrossed copies bound payload leg.over → IsWalkUp copies bound payload leg.over.end leg.settled top
-      → AreLegs copies bound payload start (legs ++ leg ∷ []) top
-  legs_more payload start [] middle leg top are starts crossed walk = (starts ∙ sym are, crossed, top, walk, refl)
-  legs_more payload start (first ∷ legs) middle leg top are starts crossed walk =
-      (are.0, are.1, are.2, are.3, legs_more payload are.2 legs middle leg top are.4 starts crossed walk)
+  crossings_more : (payload : List ℕ) (start : ℕ) (crossings : List Crossing) (middle : ℕ) (crossing : Crossing) (top : ℕ) → AreCrossings copies bound payload start crossings middle
+      → crossing.over.start ≡ middle → IsCrossed copies bound payload crossing.over → IsWalkUp copies bound payload crossing.over.end crossing.settled top
+      → AreCrossings copies bound payload start (crossings ++ crossing ∷ []) top
+  crossings_more payload start [] middle crossing top are starts crossed walk = (starts ∙ sym are, crossed, top, walk, refl)
+  crossings_more payload start (first ∷ crossings) middle crossing top are starts crossed walk =
+      (are.0, are.1, are.2, are.3, crossings_more payload are.2 crossings middle crossing top are.4 starts crossed walk)
 
 -- A slice that is lost, and what is woven there written over the bytes from its start on.
 pub crossed_place : (copies versions : List (List ℕ)) (start bound size : ℕ) (payload old new after : List ℕ) (standing : Standing)
@@ -214,12 +214,12 @@ crossed_place copies versions start bound size payload old new after standing ar
 -- places up to a start, over so many lost slices
 pub record IsWalkSoFar (copies : List (List ℕ)) (bound : ℕ) (payload : List ℕ) (places : List Place) (start crossed : ℕ) : Type 0 where
   pub below : List Place
-  pub legs : List Leg
+  pub crossings : List Crossing
   pub floor : ℕ
-  pub are_places : places ≡ below ++ leg_places legs
+  pub are_places : places ≡ below ++ crossing_places crossings
   pub up : IsWalkUp copies bound payload 0 below floor
-  pub are : AreLegs copies bound payload floor legs start
-  pub count : length legs ≡ crossed
+  pub are : AreCrossings copies bound payload floor crossings start
+  pub count : length crossings ≡ crossed
 
 module _ (copies : List (List ℕ)) (bound : ℕ) where
   -- it stays so where the bytes before its start stay
@@ -228,44 +228,44 @@ module _ (copies : List (List ℕ)) (bound : ℕ) where
   so_far_kept a b places start crossed same h =
       record {
         below = h.below;
-        legs = h.legs;
+        crossings = h.crossings;
         floor = h.floor;
         are_places = h.are_places;
-        up = walk_kept copies bound a b 0 h.below h.floor (take_earlier a b h.floor start (legs_order copies bound a h.floor h.legs start h.are) same) h.up;
-        are = legs_kept copies bound a b h.floor h.legs start same h.are;
+        up = walk_kept copies bound a b 0 h.below h.floor (take_earlier a b h.floor start (crossings_order copies bound a h.floor h.crossings start h.are) same) h.up;
+        are = crossings_kept copies bound a b h.floor h.crossings start same h.are;
         count = h.count;
       }
 
   -- one more lost slice, and what is settled after it
-  pub walk_more : (a b c : List ℕ) (places : List Place) (start crossed : ℕ) (leg : Leg) (top : ℕ) → IsWalkSoFar copies bound a places start crossed
-      → leg.over.start ≡ start → IsCrossed copies bound b leg.over → take start b ≡ take start a → take leg.over.end c ≡ take leg.over.end b
-      → IsWalkUp copies bound c leg.over.end leg.settled top
-      → IsWalkSoFar copies bound c (places ++ (leg.over ∷ leg.settled)) top (crossed + 1)
-  walk_more a b c places start crossed leg top far starts over first second walk =
-      let rises = crossed_rising copies bound b leg.over over in
-      let same : take start a ≡ take start c = sym (take_earlier c b start leg.over.end (omega arith) second ∙ first) in
+  pub walk_more : (a b c : List ℕ) (places : List Place) (start crossed : ℕ) (crossing : Crossing) (top : ℕ) → IsWalkSoFar copies bound a places start crossed
+      → crossing.over.start ≡ start → IsCrossed copies bound b crossing.over → take start b ≡ take start a → take crossing.over.end c ≡ take crossing.over.end b
+      → IsWalkUp copies bound c crossing.over.end crossing.settled top
+      → IsWalkSoFar copies bound c (places ++ (crossing.over ∷ crossing.settled)) top (crossed + 1)
+  walk_more a b c places start crossed crossing top far starts over first second walk =
+      let rises = crossed_rising copies bound b crossing.over over in
+      let same : take start a ≡ take start c = sym (take_earlier c b start crossing.over.end (omega arith) second ∙ first) in
       let h = so_far_kept a c places start crossed same far in
       record {
         below = h.below;
-        legs = h.legs ++ leg ∷ [];
+        crossings = h.crossings ++ crossing ∷ [];
         floor = h.floor;
-        are_places = ap (λ z. z ++ (leg.over ∷ leg.settled)) h.are_places ∙ append_assoc h.below (leg_places h.legs) (leg.over ∷ leg.settled)
-            ∙ ap (λ z. h.below ++ z) (sym (leg_places-append h.legs leg));
+        are_places = ap (λ z. z ++ (crossing.over ∷ crossing.settled)) h.are_places ∙ append_assoc h.below (crossing_places h.crossings) (crossing.over ∷ crossing.settled)
+            ∙ ap (λ z. h.below ++ z) (sym (crossing_places-append h.crossings crossing));
         up = h.up;
-        are = legs_more copies bound c h.floor h.legs start leg top h.are starts
-            (crossed_kept copies bound b c leg.over (range_before b c leg.over.end leg.over.start leg.over.end (omega arith) (sym second)) over) walk;
-        count = length-append h.legs (leg ∷ []) ∙ ap (λ n. n + 1) h.count;
+        are = crossings_more copies bound c h.floor h.crossings start crossing top h.are starts
+            (crossed_kept copies bound b c crossing.over (range_before b c crossing.over.end crossing.over.start crossing.over.end (omega arith) (sym second)) over) walk;
+        count = length-append h.crossings (crossing ∷ []) ∙ ap (λ n. n + 1) h.count;
       }
 
   -- the walk where it stops
   pub walk_stopped : (payload : List ℕ) (places : List Place) (start crossed : ℕ) → IsWalkSoFar copies bound payload places start crossed
       → crossed ≤ MOST_CROSSED
       → (crossed ≡ MOST_CROSSED) ⊎ ((end : ℕ) → IsLostUpTo (versions_at copies start bound) (bound - start) end → ⊥)
-      → (below : List Place) × (legs : List Leg) × (floor : ℕ) × (places ≡ below ++ leg_places legs) × IsWalkUp copies bound payload 0 below floor
-      × IsWalkAcross copies bound payload floor legs start
+      → (below : List Place) × (crossings : List Crossing) × (floor : ℕ) × (places ≡ below ++ crossing_places crossings) × IsWalkUp copies bound payload 0 below floor
+      × IsWalkAcross copies bound payload floor crossings start
   walk_stopped payload places start crossed h few stop = (
     h.below,
-    h.legs,
+    h.crossings,
     h.floor,
     h.are_places,
     h.up,

@@ -4,7 +4,7 @@ use Rattle.std.specs.Prelude.{All, slice_range}
 use Rattle.std.proofs.lemmas.List.{take_all}
 use Rattle.std.proofs.lemmas.List.Elements.{All-nil, All-cons}
 use Rattle.std.proofs.lemmas.Bool.{cases_lt}
-use Rattle.ffv1_slice.specs.Chain.{size_before, IsCut, IsEnd, IsLinkOf, LinkValue, link_of}
+use Rattle.ffv1_slice.specs.Chain.{size_before, FooterGives, IsEnd, IsLinkOf, LinkValue, link_of}
 use Rattle.ffv1_slice.specs.Chain.IsEnd.{last, before}
 use Rattle.ffv1_slice.specs.Walk.{walked}
 use Rattle.ffv1_slice.proofs.Links.{walked-more, walked-none, walked-fuel, least_end}
@@ -29,14 +29,14 @@ end_within original end last = omega arith
 end_within original end (before {q = q} h cut) = omega (arith, end_within original q h)
 
 -- a link ends at each end after the first byte
-pub link_at : (original : List ℕ) → IsEnd original 0 → (end : ℕ) → IsEnd original end → 0 < end → (start : ℕ) × IsCut original start end
+pub link_at : (original : List ℕ) → IsEnd original 0 → (end : ℕ) → IsEnd original end → 0 < end → (start : ℕ) × FooterGives original start end
 link_at original whole end is_end after =
     elim (cases_lt end (size_before original end + 8)) [
       | inl short ↦ absurd (omega (arith, least_end original end is_end (λ p cut. omega arith) 0 whole))
       | inr fits ↦ (end - (size_before original end + 8), omega arith)
     ]
 
-pub same_cut : (original : List ℕ) (s t end : ℕ) → IsCut original s end → IsCut original t end → s ≡ t
+pub same_cut : (original : List ℕ) (s t end : ℕ) → FooterGives original s end → FooterGives original t end → s ≡ t
 same_cut original s t end h k = omega arith
 
 -- ---- a division whose places are links
@@ -48,7 +48,7 @@ pub record AreLinkPlaces (original : List ℕ) (end : ℕ) (places : List Place)
   pub each : All (λ place. IsLinkOf original place.start place.end) places
 
 module _ (original : List ℕ) (copies : List (List ℕ)) (cuts : (start end : ℕ) (bytes : List ℕ) (standing : Standing) → IsEnd original end
-    → StandsAs copies start end bytes standing → IsCut original start end) where
+    → StandsAs copies start end bytes standing → FooterGives original start end) where
   pub link_places : (end : ℕ) (places : List Place) (front : ℕ) (payload : List ℕ)
       → ((stop : ℕ) → IsEnd original stop → 0 < stop → IsStop copies stop → stop ≡ front → ⊥)
       → IsEnd original end → IsSpliceBefore copies end places front payload → AreLinkPlaces original end places front
@@ -64,7 +64,7 @@ module _ (original : List ℕ) (copies : List (List ℕ)) (cuts : (start end : �
             }
       ]
   link_places end places front payload goes_on is_end (goes {start = start} {standing = standing} {places = more} {before = rest} bytes stands h) =
-      let cut : IsCut original start end = cuts start end bytes standing is_end stands in
+      let cut : FooterGives original start end = cuts start end bytes standing is_end stands in
       let below = link_places start more front rest goes_on (before is_end cut) h in
       record {
         links = ap (λ z. link_of original start end ∷ z) below.links
@@ -89,7 +89,7 @@ same_payload original spliced end places lie long same =
     upright : All (λ place. place.start ≤ place.end) spliced.places
     upright k d lt =
         let place : Place = get_or spliced.places k d in
-        let cut : IsCut original place.start place.end = (places.each k d lt).cut in
+        let cut : FooterGives original place.start place.end = (places.each k d lt).cut in
         omega arith
 
 -- ---- copies that agree

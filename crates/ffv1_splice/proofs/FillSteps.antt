@@ -8,13 +8,13 @@ use borrow.Rule.Slice.PartMut.{put_mid}
 use Rattle.ffv1_slice.proofs.NearLaws.{length-range}
 use Rattle.ffv1_weave.proofs.References.{values_of, each_value}
 use Rattle.ffv1_splice.specs.Standings.{versions_at}
-use Rattle.ffv1_splice.specs.Splice.{SplicedValue, LieFrom, IsWalkDown, IsBound, IsWalkUp, Leg, IsWalkAcross, leg_places, IsDivisionOf, IsSpliceOf, hole_places, front_of}
+use Rattle.ffv1_splice.specs.Splice.{SplicedValue, LieFrom, IsWalkDown, IsBound, IsWalkUp, Crossing, IsWalkAcross, crossing_places, IsDivisionOf, IsSpliceOf, hole_places, front_of}
 use Rattle.ffv1_splice.specs.declared.place.Place.{Place}
 use Rattle.ffv1_splice.proofs.Versions.{version_of}
 use Rattle.ffv1_splice.proofs.BoundSteps.{bound_within}
 use Rattle.ffv1_splice.proofs.Walks.{stands_below, front_below, ends_below}
 use Rattle.ffv1_splice.proofs.SettlingSteps.{take_earlier, down_kept}
-use Rattle.ffv1_splice.proofs.Crossings.{walk_kept, legs_order, legs_kept}
+use Rattle.ffv1_splice.proofs.Crossings.{walk_kept, crossings_order, crossings_kept}
 
 -- ---- how long a division is
 
@@ -123,23 +123,23 @@ module _ (down up hole : List ℕ) (start bound end : ℕ) (order : start ≤ bo
       let taken = length-take-le end down within in
       omega arith
 
-  pub filled_splice : (copies : List (List ℕ)) (above under hole_list : List Place) (legs : List Leg) (floor hole_front : ℕ)
+  pub filled_splice : (copies : List (List ℕ)) (above under hole_list : List Place) (crossings : List Crossing) (floor hole_front : ℕ)
       → ((copy : List ℕ) → Contains copies copy → length copy ≡ length down)
       → IsWalkDown copies down above end → IsBound copies end bound → IsWalkUp copies bound up 0 under floor
-      → IsWalkAcross copies bound up floor legs start
+      → IsWalkAcross copies bound up floor crossings start
       → IsDivisionOf (versions_at copies start end) (record { places = hole_list; front = hole_front; payload = hole })
       → (places : List Place) (front_there : ℕ)
-      → places ≡ above ++ (hole_places start (record { places = hole_list; front = hole_front; payload = hole }) ++ reverse (under ++ leg_places legs))
+      → places ≡ above ++ (hole_places start (record { places = hole_list; front = hole_front; payload = hole }) ++ reverse (under ++ crossing_places crossings))
       → front_there ≡ front_of start hole_front
       → IsSpliceOf copies (record {
         places = places;
         front = front_there;
         payload = put_mid start (end - start) (up ++ drop bound down) hole;
       })
-  filled_splice copies above under hole_list legs floor hole_front one walk_down room walk_up across divided places front_there are is = record {
+  filled_splice copies above under hole_list crossings floor hole_front one walk_down room walk_up across divided places front_there are is = record {
     above = above;
     below = under;
-    legs = legs;
+    crossings = crossings;
     floor = floor;
     start = start;
     end = end;
@@ -154,10 +154,10 @@ module _ (down up hole : List ℕ) (start bound end : ℕ) (order : start ≤ bo
     };
     room = room;
     up = walk_kept copies bound up (put_mid start (end - start) (up ++ drop bound down) hole) 0 under floor
-        (take_earlier up (put_mid start (end - start) (up ++ drop bound down) hole) floor start (legs_order copies bound up floor legs start across.are)
+        (take_earlier up (put_mid start (end - start) (up ++ drop bound down) hole) floor start (crossings_order copies bound up floor crossings start across.are)
         (sym filled_before)) walk_up;
     across = record {
-      are = legs_kept copies bound up (put_mid start (end - start) (up ++ drop bound down) hole) floor legs start (sym filled_before) across.are;
+      are = crossings_kept copies bound up (put_mid start (end - start) (up ++ drop bound down) hole) floor crossings start (sym filled_before) across.are;
       few = across.few;
       stop = across.stop;
     };

@@ -6,15 +6,15 @@ use Rattle.std.proofs.lemmas.List.{append-nil, length-append, length-take-le, le
 use borrow.Rule.Slice.PartMut.{mid_of, put_mid}
 use Rattle.byteorder.specs.Endian.{big_bytes, big_number}
 use Rattle.byteorder.specs.Numbers.{length-bytes_high_first}
-use Rattle.ffv1_slice.specs.Chain.{size_before, IsCut, IsFramed}
+use Rattle.ffv1_slice.specs.Chain.{size_before, FooterGives, IsFramed}
 use Rattle.ffv1_slice.specs.Members.{HasSameMembers, IsOfNone}
 use Rattle.ffv1_slice.proofs.NearLaws.{length-range, size_of_range}
 use Rattle.ffv1_weave.specs.Combinations.{IsCombination}
 use Rattle.ffv1_weave.specs.Regions.{HaveLength}
 use Rattle.ffv1_weave.specs.Weave.{weave_tally}
 use Rattle.ffv1_weave.specs.Weave.Weave.{woven}
-use Rattle.ffv1_weave.specs.declared.weaving.Outcome.{Outcome}
-use Rattle.ffv1_weave.specs.declared.weaving.Outcome.TheVariants as outcomes
+use Rattle.ffv1_weave.specs.declared.weaving.WeaveResult.{WeaveResult}
+use Rattle.ffv1_weave.specs.declared.weaving.WeaveResult.TheVariants as outcomes
 use Rattle.ffv1_weave.proofs.Choices.{same_range, range_at}
 use Rattle.ffv1_splice.specs.Pieces.{HasContent, IsPiece, IsClaimedStart}
 use Rattle.ffv1_splice.specs.Standings.{versions_at, sized, IsWeaveFromFront, IsWeaveOfSeveral, StandsAs, IsStop}
@@ -94,7 +94,7 @@ stops_no_claim copies end none no_claim unclaimed =
     }
 
 -- an outcome other than `Woven` has no woven bytes
-pub not_woven : (outcome : Outcome) → ((bytes : Vec ℕ Global) (count : ℕ) → outcome ≡ outcomes.Woven bytes count → ⊥) → (bytes : List ℕ) (count : ℕ)
+pub not_woven : (outcome : WeaveResult) → ((bytes : Vec ℕ Global) (count : ℕ) → outcome ≡ outcomes.Woven bytes count → ⊥) → (bytes : List ℕ) (count : ℕ)
     → weave_tally outcome ≡ woven bytes count → ⊥
 not_woven (outcomes.Woven items n) apart bytes count is = apart items n refl
 not_woven outcomes.Disputed apart bytes count is = absurd (cc)
@@ -157,7 +157,7 @@ module _ (versions : List (List ℕ)) (size : ℕ) (long : HaveLength versions s
 
 -- a copy with the footer of a slice that ends there, and is as long as the copies are up to there, claims the start
 cut_by_footer : (copy version slice : List ℕ) (end : ℕ) → 8 ≤ end → end ≤ length copy → version ≡ slice_range copy 0 end
-    → slice_range slice (end - 8) end ≡ slice_range version (end - 8) end → size_before slice end ≡ end - 8 → IsCut copy 0 end
+    → slice_range slice (end - 8) end ≡ slice_range version (end - 8) end → size_before slice end ≡ end - 8 → FooterGives copy 0 end
 cut_by_footer copy version slice end footer within is same size =
     let long : length (slice_range copy 0 end) ≡ end = length-range copy 0 end (omega arith) within ∙ omega arith in
     let claim : size_before slice end ≡ size_before version end = ap (big_number 3) same in

@@ -6,7 +6,7 @@ use Rattle.std.proofs.Math.Path.{fun_ext}
 use Rattle.std.proofs.lemmas.Bool.{cases_lt}
 use Rattle.std.proofs.lemmas.List.{drop-drop, drop-take, take-take}
 use mathlib.Core.List.{map-map}
-use Rattle.ffv1_slice.specs.Chain.{size_before, IsCut, LinkValue}
+use Rattle.ffv1_slice.specs.Chain.{size_before, FooterGives, LinkValue}
 use Rattle.ffv1_splice.specs.Pieces.{HasContent, IsPiece, IsClaimedStart}
 use Rattle.ffv1_splice.specs.Standings.{versions_at}
 use Rattle.ffv1_splice.proofs.Versions.{version_there, version_of}
@@ -39,10 +39,10 @@ module _ (from to : ℕ) where
       range_of_range copy (end - 8) end within ∙ ap (λ p. slice_range copy p (from + end)) place in
       rw same
 
-  pub cut_out : (copy : List ℕ) (start end : ℕ) → from + end ≤ to → IsCut (slice_range copy from to) start end → IsCut copy (from + start) (from + end)
+  pub cut_out : (copy : List ℕ) (start end : ℕ) → from + end ≤ to → FooterGives (slice_range copy from to) start end → FooterGives copy (from + start) (from + end)
   cut_out copy start end within cut = let size = narrowed_size copy end (omega arith) within in omega arith
 
-  pub cut_in : (copy : List ℕ) (start end : ℕ) → from + end ≤ to → IsCut copy (from + start) (from + end) → IsCut (slice_range copy from to) start end
+  pub cut_in : (copy : List ℕ) (start end : ℕ) → from + end ≤ to → FooterGives copy (from + start) (from + end) → FooterGives (slice_range copy from to) start end
   cut_in copy start end within cut = let size = narrowed_size copy end (omega arith) within in omega arith
 
   -- ---- all copies
@@ -62,7 +62,7 @@ module _ (from to : ℕ) where
         record {
           copy = of.0;
           there = of.1;
-          cut = cut_out of.0 piece.start end within (subst (λ copy. IsCut copy piece.start end) of.2 h.cut);
+          cut = cut_out of.0 piece.start end within (subst (λ copy. FooterGives copy piece.start end) of.2 h.cut);
           content = omega arith;
           bytes = h.bytes ∙ ap (λ copy. slice_range copy piece.start end) of.2 ∙ range_of_range of.0 piece.start end within;
           passes = h.passes;
@@ -98,6 +98,6 @@ module _ (from to : ℕ) where
         record {
           copy = of.0;
           there = of.1;
-          cut = cut_out of.0 start end within (subst (λ copy. IsCut copy start end) of.2 h.cut);
+          cut = cut_out of.0 start end within (subst (λ copy. FooterGives copy start end) of.2 h.cut);
           content = omega arith;
         }

@@ -4,9 +4,9 @@ use Rattle.std.specs.Prelude.{◌⊎◌, ◌↔◌, All, Contains, slice_range}
 use Rattle.std.proofs.lemmas.List.Elements.{All-head, All-tail}
 use Rattle.ffv1_bits.specs.Parity.{PassesParity}
 use Rattle.ffv1_bits.proofs.Bytes.{AreBytes-range}
-use Rattle.ffv1_slice.specs.Chain.{IsCut, IsEnd, IsLinkOf, LinkValue, link_of}
+use Rattle.ffv1_slice.specs.Chain.{FooterGives, IsEnd, IsLinkOf, LinkValue, link_of}
 use Rattle.ffv1_slice.specs.Chain.IsEnd.{last, before}
-use Rattle.ffv1_slice.specs.Near.{IsHurtWithin32}
+use Rattle.ffv1_slice.specs.Near.{IsDamagedWithin32}
 use Rattle.ffv1_slice.specs.Walk.{walked, walk_at}
 use Rattle.ffv1_slice.proofs.Links.{walked-none, turn_some}
 use Rattle.ffv1_slice.proofs.NearLaws.{length-range}
@@ -14,7 +14,7 @@ use Rattle.ffv1_weave.specs.Combinations.{IsCombination}
 use Rattle.ffv1_splice.specs.Pieces.{HasContent, IsClaimedStart}
 use Rattle.ffv1_splice.specs.Standings.{versions_at}
 use Rattle.ffv1_splice.specs.Splice.{LieFrom}
-use Rattle.ffv1_splice.specs.Originals.{AreCopiesOf, AreConsistentWith, IsAmong, AreWeavable, IsSound, IsNearCopy, AreNearCopies, IsIntactInSome}
+use Rattle.ffv1_splice.specs.Originals.{AreCopiesOf, AreConsistentWith, IsAmong, AreWeavable, IsUndamaged, IsNearCopy, AreNearCopies, IsIntactInSome}
 use Rattle.ffv1_splice.specs.declared.place.Place.{Place}
 use Rattle.ffv1_splice.proofs.DividedLinks.{end_within, same_cut}
 use Rattle.ffv1_splice.proofs.Versions.{version_there, version_of}
@@ -58,15 +58,15 @@ module _ (from to : ℕ) (original : List ℕ) (copies : List (List ℕ)) (start
 
 data IsBackFrom (original : List ℕ) (top : ℕ) : ℕ → Type 0 where
   here : IsBackFrom original top top
-  more : {start end : ℕ} → IsBackFrom original top end → IsCut original start end → IsBackFrom original top start
+  more : {start end : ℕ} → IsBackFrom original top end → FooterGives original start end → IsBackFrom original top start
 
 -- the first step back
 first_back : (original : List ℕ) (top end : ℕ) → IsBackFrom original top end
-    → (end ≡ top) ⊎ ((start : ℕ) × IsCut original start top × IsBackFrom original start end)
+    → (end ≡ top) ⊎ ((start : ℕ) × FooterGives original start top × IsBackFrom original start end)
 first_back original top end here = inl refl
 first_back original top end (more {end = next} back cut) =
     elim (first_back original top next back) [
-      | inl same ↦ inr (end, subst (IsCut original end) same cut, here)
+      | inl same ↦ inr (end, subst (FooterGives original end) same cut, here)
       | inr w ↦ inr (w.0, w.1, more w.2 cut)
     ]
 
@@ -120,8 +120,8 @@ module _ (from to : ℕ) (original : List ℕ) (order : from ≤ to) (is_to : Is
   end_in_back place (more {end = next} back cut) end is =
       let on : next ≡ from + (next - from) = omega arith in
       let is_end = end_in_back next back (next - from) on in
-      let moved : IsCut original (from + end) (from + (next - from)) =
-      subst (λ start. IsCut original start (from + (next - from))) is (subst (IsCut original place) on cut) in
+      let moved : FooterGives original (from + end) (from + (next - from)) =
+      subst (λ start. FooterGives original start (from + (next - from))) is (subst (FooterGives original place) on cut) in
       before is_end (cut_in from to original end (next - from) (narrowed_within (next - from) is_end) moved)
 
   pub end_in : (end : ℕ) → from + end ≤ to → IsEnd original (from + end) → IsEnd (slice_range original from to) end
@@ -149,15 +149,15 @@ module _ (from to : ℕ) (original : List ℕ) (order : from ≤ to) (is_to : Is
       subst PassesParity (sym (range_of_range from to original start end (narrowed_within end link.is_end)))
       (passes (from + start) (from + end) (link_out start end link))
 
-  pub sound_narrowed : IsEnd original from → IsSound original → IsSound (slice_range original from to)
-  sound_narrowed is_from sound =
+  pub undamaged_narrowed : IsEnd original from → IsUndamaged original → IsUndamaged (slice_range original from to)
+  undamaged_narrowed is_from undamaged =
       record {
         whole = whole_narrowed is_from;
-        are_bytes = AreBytes-range original from to sound.are_bytes;
+        are_bytes = AreBytes-range original from to undamaged.are_bytes;
         content = λ start end link.
-            let content : HasContent (from + start) (from + end) = sound.content (from + start) (from + end) (link_out start end link) in
+            let content : HasContent (from + start) (from + end) = undamaged.content (from + start) (from + end) (link_out start end link) in
             omega arith;
-        passes = passes_narrowed sound.passes;
+        passes = passes_narrowed undamaged.passes;
       }
 
   length_narrowed : (copy : List ℕ) → length copy ≡ length original → length (slice_range copy from to) ≡ length (slice_range original from to)
@@ -175,8 +175,8 @@ module _ (from to : ℕ) (original : List ℕ) (order : from ≤ to) (is_to : Is
             let yours = sym (range_of_range from to original start end within) in
             elim (near.each (from + start) (from + end) (link_out start end link)) [
               | inl intact ↦ inl (sym mine ∙ intact ∙ yours)
-              | inr hurt ↦ inr (subst (λ slice. IsHurtWithin32 slice (slice_range (slice_range copy from to) start end)) yours
-                  (subst (IsHurtWithin32 (slice_range original (from + start) (from + end))) mine hurt))
+              | inr damaged ↦ inr (subst (λ slice. IsDamagedWithin32 slice (slice_range (slice_range copy from to) start end)) yours
+                  (subst (IsDamagedWithin32 (slice_range original (from + start) (from + end))) mine damaged))
             ];
       }
 
@@ -214,7 +214,7 @@ module _ (from to : ℕ) (original : List ℕ) (order : from ≤ to) (is_to : Is
     pub near_narrowed : IsEnd original from → AreNearCopies original copies → AreNearCopies (slice_range original from to) (versions_at copies from to)
     near_narrowed is_from near =
         record {
-          sound = sound_narrowed is_from near.sound;
+          undamaged = undamaged_narrowed is_from near.undamaged;
           near = λ version there.
               let of = version_of copies from to version there in
               subst (IsNearCopy (slice_range original from to)) (sym of.2) (near_copy_narrowed of.0 (near.near of.0 of.1));

@@ -5,7 +5,7 @@ use Rattle.std.proofs.lemmas.List.Elements.{All-append, All-weaker}
 use Rattle.ffv1_slice.specs.Chain.{IsLinkOf, link_of}
 use Rattle.ffv1_splice.specs.Pieces.{IsPiece, IsClaimedStart}
 use Rattle.ffv1_splice.specs.Standings.{versions_at}
-use Rattle.ffv1_splice.specs.Splice.{SplicedValue, IsSettledDown, IsSettledUp, IsCrossed, leg_places, IsSpliceOf}
+use Rattle.ffv1_splice.specs.Splice.{SplicedValue, IsSettledDown, IsSettledUp, IsCrossed, crossing_places, IsSpliceOf}
 use Rattle.ffv1_splice.specs.Originals.{AreConsistentWith, AreConsistentFromBelow, AreNearCopies, IsIntactInSome}
 use Rattle.ffv1_splice.specs.Laws.{IsItsLink, IsLinkIfSettled, IsNearSplice, NearCopiesSplice}
 use Rattle.ffv1_splice.specs.declared.place.Standing.TheVariants.{Settled}
@@ -14,7 +14,7 @@ use Rattle.ffv1_splice.proofs.DividedLinks.{AreLinkPlaces}
 use Rattle.ffv1_splice.proofs.Narrowed.{range_of_range}
 use Rattle.ffv1_splice.proofs.NarrowedOriginal.{intact_narrowed, near_narrowed}
 use Rattle.ffv1_splice.proofs.PlaceLists.{no_undivided}
-use Rattle.ffv1_splice.proofs.SplicePlaces.{all_legs_lower, all_places, copy_at_hand, start_within}
+use Rattle.ffv1_splice.proofs.SplicePlaces.{all_crossings_lower, all_places, copy_at_hand, start_within}
 use Rattle.ffv1_splice.proofs.StandingPlaces.{hole_within, hole_bytes}
 use Rattle.ffv1_splice.proofs.OriginalLaws.{AreWalkLinks, AreLegLinks, above_links, below_links, across_links, joined_links, is_original}
 use Rattle.ffv1_splice.proofs.Crossings.{crossed_unsettled, crossed_no_piece}
@@ -36,7 +36,7 @@ module _ (original : List ℕ) (copies : List (List ℕ)) (near : AreNearCopies 
   claim : (start end : ℕ) → IsLinkOf original start end → IsClaimedStart copies end start
   claim = let copy = copy_at_hand copies spliced is in claim_link original copies near copy.0 copy.1
 
-  across : AreLegLinks original spliced is.legs is.start
+  across : AreLegLinks original spliced is.crossings is.start
   across = across_links original copies spliced is (are_copies original copies near) agree from_below claim
 
   -- ---- the hole
@@ -82,10 +82,10 @@ module _ (original : List ℕ) (copies : List (List ℕ)) (near : AreNearCopies 
       let same = intact_narrowed is.start is.end original copies place.start place.end (hole_within copies spliced is k d lt) in
       let here = hole.settled k d lt in (λ settled. same.0 (here.0 settled), λ intact. here.1 (same.1 intact)))
       (no_undivided IsSettledWhere is.start is.hole.front hole_links.whole)
-      (All-append IsSettledWhere is.below (leg_places is.legs)
+      (All-append IsSettledWhere is.below (crossing_places is.crossings)
       (λ k d lt. let settled : IsSettledUp copies is.bound spliced.payload (get_or is.below k d) = is.up.settled k d lt in
       settled_where (get_or is.below k d) (up.links k d lt) settled.standing settled.only.there)
-      (λ k d lt. all_legs_lower copies spliced is (λ place. IsLinkIfSettled original spliced place → IsSettledWhere place)
+      (λ k d lt. all_crossings_lower copies spliced is (λ place. IsLinkIfSettled original spliced place → IsSettledWhere place)
       (λ place settled link. settled_where place (link.settled settled.standing) settled.standing settled.only.there)
       (λ place crossed link. crossed_where place crossed link.link) k d lt (across.links k d lt)))
 
@@ -101,9 +101,9 @@ module _ (original : List ℕ) (copies : List (List ℕ)) (near : AreNearCopies 
       sym (hole_bytes copies spliced is k d lt) ∙ hole.bytes k d lt settled
       ∙ range_of_range is.start is.end original place.start place.end (hole_within copies spliced is k d lt))
       (no_undivided HasBytesWhereSettled is.start is.hole.front hole_links.whole)
-      (All-append HasBytesWhereSettled is.below (leg_places is.legs)
+      (All-append HasBytesWhereSettled is.below (crossing_places is.crossings)
       (All-weaker (IsItsLink original spliced) HasBytesWhereSettled (λ place its settled. its.bytes) is.below up.links)
-      (All-weaker (IsLinkIfSettled original spliced) HasBytesWhereSettled (λ place its settled. (its.settled settled).bytes) (leg_places is.legs)
+      (All-weaker (IsLinkIfSettled original spliced) HasBytesWhereSettled (λ place its settled. (its.settled settled).bytes) (crossing_places is.crossings)
       across.links))
 
   all_links : AreLinkPlaces original (length original) spliced.places spliced.front

@@ -4,13 +4,13 @@ use Rattle.std.specs.Prelude.{Contains, slice_range}
 use Rattle.ffv1_bits.specs.Parity.{PassesParity}
 use Rattle.ffv1_bits.proofs.Burst.{burst}
 use Rattle.ffv1_bits.proofs.Bytes.{AreBytes-range}
-use Rattle.ffv1_slice.specs.Chain.{size_before, IsCut, IsEnd, IsLinkOf, link_of}
+use Rattle.ffv1_slice.specs.Chain.{size_before, FooterGives, IsEnd, IsLinkOf, link_of}
 use Rattle.ffv1_slice.specs.Chain.IsEnd.{last}
 use Rattle.ffv1_slice.proofs.NearLaws.{same_size_field, length-range, size_of_range}
 use Rattle.ffv1_splice.specs.Pieces.{HasContent, IsPiece, IsClaimedStart}
 use Rattle.ffv1_splice.specs.Standings.{StandsAs, IsStop}
 use Rattle.ffv1_splice.specs.Splice.{SplicedValue, IsDivisionOf}
-use Rattle.ffv1_splice.specs.Originals.{AreCopiesOf, AreConsistentWith, AreConsistentFromBelow, IsAmong, AreWeavable, IsSound, IsIntact, IsNearCopy, AreNearCopies, IsIntactInSome}
+use Rattle.ffv1_splice.specs.Originals.{AreCopiesOf, AreConsistentWith, AreConsistentFromBelow, IsAmong, AreWeavable, IsUndamaged, IsIntact, IsNearCopy, AreNearCopies, IsIntactInSome}
 use Rattle.ffv1_splice.specs.Laws.{IsNearSplice}
 use Rattle.ffv1_splice.specs.declared.place.Standing.{Standing}
 use Rattle.ffv1_splice.specs.declared.place.Standing.TheVariants.{Settled, Woven, Voted, Repaired, Disputed, Missing, Undivided}
@@ -20,12 +20,12 @@ use Rattle.ffv1_splice.proofs.Walks.{IsSpliceBefore, division_walk}
 
 -- ---- a near copy is cut where the original is
 
-module _ (original copy : List ℕ) (sound : IsSound original) (near : IsNearCopy original copy) (start end : ℕ) (link : IsLinkOf original start end) where
+module _ (original copy : List ℕ) (undamaged : IsUndamaged original) (near : IsNearCopy original copy) (start end : ℕ) (link : IsLinkOf original start end) where
   within : end ≤ length original
   within = end_within original end link.is_end
 
   below : start + 8 ≤ end
-  below = let cut : IsCut original start end = link.cut in omega arith
+  below = let cut : FooterGives original start end = link.cut in omega arith
 
   size_of : (bytes : List ℕ) → length bytes ≡ length original → size_before bytes end ≡ size_before (slice_range bytes start end)
       (length (slice_range bytes start end))
@@ -39,40 +39,40 @@ module _ (original copy : List ℕ) (sound : IsSound original) (near : IsNearCop
       size_of copy near.same_length
       ∙ (elim (near.each start end link) [
         | inl intact ↦ ap (λ z. size_before z (length z)) intact
-        | inr hurt ↦ same_size_field (slice_range original start end) (slice_range copy start end) (long_slice original refl)
-            (long_slice copy near.same_length) hurt.size
+        | inr damaged ↦ same_size_field (slice_range original start end) (slice_range copy start end) (long_slice original refl)
+            (long_slice copy near.same_length) damaged.size
       ])
       ∙ sym (size_of original refl)
 
-  pub near_cut : IsCut copy start end
-  near_cut = let cut : IsCut original start end = link.cut in omega (arith, same_size)
+  pub near_cut : FooterGives copy start end
+  near_cut = let cut : FooterGives original start end = link.cut in omega (arith, same_size)
 
   -- what passes its parity there is intact
   pub near_intact : PassesParity (slice_range copy start end) → IsIntact original copy start end
   near_intact passes =
       elim (near.each start end link) [
         | inl intact ↦ intact
-        | inr hurt ↦ sym (burst (slice_range original start end) (slice_range copy start end) hurt.at (AreBytes-range original start end sound.are_bytes)
-            (AreBytes-range copy start end near.are_bytes) hurt.differ (sound.passes start end link) passes)
+        | inr damaged ↦ sym (burst (slice_range original start end) (slice_range copy start end) damaged.at (AreBytes-range original start end undamaged.are_bytes)
+            (AreBytes-range copy start end near.are_bytes) damaged.differ (undamaged.passes start end link) passes)
       ]
 
 module _ (original : List ℕ) (copies : List (List ℕ)) (near : AreNearCopies original copies) where
   -- a start that is claimed is that of the original's link
   claimed_start : (end start claim : ℕ) → IsLinkOf original start end → IsClaimedStart copies end claim → claim ≡ start
   claimed_start end start claim link h =
-      let cut : IsCut h.copy start end = near_cut original h.copy near.sound (near.near h.copy h.there) start end link in
+      let cut : FooterGives h.copy start end = near_cut original h.copy near.undamaged (near.near h.copy h.there) start end link in
       same_cut h.copy claim start end h.cut cut
 
   pub near_agree : AreConsistentWith original copies
   near_agree end piece is_end h =
-      let cut : IsCut h.copy piece.start end = h.cut in
-      let at = link_at original near.sound.whole end is_end (omega arith) in
+      let cut : FooterGives h.copy piece.start end = h.cut in
+      let at = link_at original near.undamaged.whole end is_end (omega arith) in
       let link : IsLinkOf original at.0 end = record { is_end = is_end; cut = at.1 } in
       let start : piece.start ≡ at.0 = claimed_start end at.0 piece.start link
       (record { copy = h.copy; there = h.there; cut = h.cut; content = h.content }) in
       let mine : IsLinkOf original piece.start end = subst (λ s. IsLinkOf original s end) (sym start) link in
       let intact : IsIntact original h.copy piece.start end =
-      near_intact original h.copy near.sound (near.near h.copy h.there) piece.start end mine (subst PassesParity h.bytes h.passes) in
+      near_intact original h.copy near.undamaged (near.near h.copy h.there) piece.start end mine (subst PassesParity h.bytes h.passes) in
       (mine, ap (λ z. record { start = piece.start; bytes = z }) (h.bytes ∙ intact))
 
   -- a link that is intact in some copy is a piece
@@ -80,14 +80,14 @@ module _ (original : List ℕ) (copies : List (List ℕ)) (near : AreNearCopies 
   intact_piece start end link intact = record {
     copy = intact.0;
     there = intact.1;
-    cut = near_cut original intact.0 near.sound (near.near intact.0 intact.1) start end link;
-    content = near.sound.content start end link;
+    cut = near_cut original intact.0 near.undamaged (near.near intact.0 intact.1) start end link;
+    content = near.undamaged.content start end link;
     bytes = sym intact.2;
-    passes = near.sound.passes start end link;
+    passes = near.undamaged.passes start end link;
   }
 
   pub are_copies : AreCopiesOf original copies
-  are_copies = record { whole = near.sound.whole; one_length = λ copy there. (near.near copy there).same_length }
+  are_copies = record { whole = near.undamaged.whole; one_length = λ copy there. (near.near copy there).same_length }
 
   -- each copy claims the start of each link
   pub claim_link : (copy : List ℕ) → Contains copies copy → (start end : ℕ) → IsLinkOf original start end → IsClaimedStart copies end start
@@ -95,14 +95,14 @@ module _ (original : List ℕ) (copies : List (List ℕ)) (near : AreNearCopies 
       record {
         copy = copy;
         there = there;
-        cut = near_cut original copy near.sound (near.near copy there) start end link;
-        content = near.sound.content start end link;
+        cut = near_cut original copy near.undamaged (near.near copy there) start end link;
+        content = near.undamaged.content start end link;
       }
 
   pub are_weavable : (copy : List ℕ) → Contains copies copy → AreConsistentFromBelow original copies
       → ((start end : ℕ) → IsLinkOf original start end → IsAmong original copies start end) → AreWeavable original copies
   are_weavable copy there below among =
-      record { agree = near_agree; below = below; claim = claim_link copy there; passes = near.sound.passes; among = among }
+      record { agree = near_agree; below = below; claim = claim_link copy there; passes = near.undamaged.passes; among = among }
 
   -- the copy of a piece has the link intact
   pub piece_intact : (start end : ℕ) (bytes : List ℕ) → IsLinkOf original start end → IsPiece copies end (record { start = start; bytes = bytes })
@@ -110,26 +110,26 @@ module _ (original : List ℕ) (copies : List (List ℕ)) (near : AreNearCopies 
   piece_intact start end bytes link piece = (
     piece.copy,
     piece.there,
-    near_intact original piece.copy near.sound (near.near piece.copy piece.there) start end link
+    near_intact original piece.copy near.undamaged (near.near piece.copy piece.there) start end link
         (subst PassesParity piece.bytes piece.passes),
   )
 
   -- ---- a division
 
   module _ (spliced : SplicedValue) (is : IsDivisionOf copies spliced) where
-    claim_cut : (start end : ℕ) → IsEnd original end → IsClaimedStart copies end start → IsCut original start end
+    claim_cut : (start end : ℕ) → IsEnd original end → IsClaimedStart copies end start → FooterGives original start end
     claim_cut start end is_end claim =
-        let cut : IsCut claim.copy start end = claim.cut in
-        let at = link_at original near.sound.whole end is_end (omega arith) in
-        subst (λ s. IsCut original s end) (sym (claimed_start end at.0 start (record { is_end = is_end; cut = at.1 }) claim)) at.1
+        let cut : FooterGives claim.copy start end = claim.cut in
+        let at = link_at original near.undamaged.whole end is_end (omega arith) in
+        subst (λ s. FooterGives original s end) (sym (claimed_start end at.0 start (record { is_end = is_end; cut = at.1 }) claim)) at.1
 
     -- at each end some copy claims a start
     tally_at : (end : ℕ) → IsEnd original end → 0 < end → (start : ℕ) × IsClaimedStart copies end start
     tally_at end is_end after =
-        let at = link_at original near.sound.whole end is_end after in
+        let at = link_at original near.undamaged.whole end is_end after in
         (at.0, claim_link is.before.copy is.before.there at.0 end (record { is_end = is_end; cut = at.1 }))
 
-    cuts : (start end : ℕ) (bytes : List ℕ) (standing : Standing) → IsEnd original end → StandsAs copies start end bytes standing → IsCut original start end
+    cuts : (start end : ℕ) (bytes : List ℕ) (standing : Standing) → IsEnd original end → StandsAs copies start end bytes standing → FooterGives original start end
     cuts start end bytes Settled is_end h =
         claim_cut start end is_end (record { copy = h.there.copy; there = h.there.there; cut = h.there.cut; content = h.there.content })
     cuts start end bytes (Woven count) is_end h = elim h [
@@ -148,7 +148,7 @@ module _ (original : List ℕ) (copies : List (List ℕ)) (near : AreNearCopies 
 
     goes_on : (end : ℕ) → IsEnd original end → 0 < end → IsStop copies end → ⊥
     goes_on end is_end after stop =
-        let at = link_at original near.sound.whole end is_end after in
+        let at = link_at original near.undamaged.whole end is_end after in
         let link : IsLinkOf original at.0 end = record { is_end = is_end; cut = at.1 } in
         stop.no_claim at.0 (record {
           there = claim_link is.before.copy is.before.there at.0 end link;

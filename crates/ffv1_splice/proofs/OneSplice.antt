@@ -6,7 +6,7 @@ use Rattle.ffv1_slice.specs.Chain.{LinkValue, link_of}
 use Rattle.ffv1_slice.specs.Members.{IsOnly, HasSameMembers}
 use Rattle.ffv1_splice.specs.Pieces.{IsPiece, IsClaimedStart, PieceFrom, IsPieceFrom, IsShortest}
 use Rattle.ffv1_splice.specs.Standings.{versions_at, StandsAs}
-use Rattle.ffv1_splice.specs.Splice.{SplicedValue, LieFrom, RiseFrom, IsSettledDown, IsSettledUp, IsWalkDown, IsBound, IsWalkUp, IsClaimedEnd, IsLostUpTo, IsCrossed, Leg, AreLegs, IsWalkAcross, leg_places, IsDivisionOf, hole_places, front_of, IsSpliceOf}
+use Rattle.ffv1_splice.specs.Splice.{SplicedValue, LieFrom, RiseFrom, IsSettledDown, IsSettledUp, IsWalkDown, IsBound, IsWalkUp, IsClaimedEnd, IsLostUpTo, IsCrossed, Crossing, AreCrossings, IsWalkAcross, crossing_places, IsDivisionOf, hole_places, front_of, IsSpliceOf}
 use Rattle.ffv1_splice.specs.Laws.{SameCopiesSplice}
 use Rattle.ffv1_splice.specs.declared.place.Place.{Place}
 use Rattle.ffv1_splice.specs.declared.crossing.TheConstants.{MOST_CROSSED}
@@ -88,29 +88,29 @@ module _ (copies others : List (List ℕ)) (same : HasSameMembers copies others)
       }
 
 module _ (copies others : List (List ℕ)) (same : HasSameMembers copies others) where
-  legs_there : (bound : ℕ) (payload : List ℕ) (start : ℕ) (legs : List Leg) (top : ℕ) → AreLegs copies bound payload start legs top
-      → AreLegs others bound payload start legs top
-  legs_there bound payload start [] top are = are
-  legs_there bound payload start (leg ∷ legs) top are = (
+  crossings_there : (bound : ℕ) (payload : List ℕ) (start : ℕ) (crossings : List Crossing) (top : ℕ) → AreCrossings copies bound payload start crossings top
+      → AreCrossings others bound payload start crossings top
+  crossings_there bound payload start [] top are = are
+  crossings_there bound payload start (crossing ∷ crossings) top are = (
     are.0,
     record {
       size = are.1.size;
       ends = are.1.ends;
-      lost = lost_there (versions_at copies leg.over.start bound) (versions_at others leg.over.start bound)
-          (same_versions copies others same leg.over.start bound) (bound - leg.over.start) are.1.size are.1.lost;
-      stands = stands_there (versions_at copies leg.over.start bound) (versions_at others leg.over.start bound)
-          (same_versions copies others same leg.over.start bound) 0 are.1.size (slice_range payload leg.over.start leg.over.end) leg.over.standing are.1.stands;
+      lost = lost_there (versions_at copies crossing.over.start bound) (versions_at others crossing.over.start bound)
+          (same_versions copies others same crossing.over.start bound) (bound - crossing.over.start) are.1.size are.1.lost;
+      stands = stands_there (versions_at copies crossing.over.start bound) (versions_at others crossing.over.start bound)
+          (same_versions copies others same crossing.over.start bound) 0 are.1.size (slice_range payload crossing.over.start crossing.over.end) crossing.over.standing are.1.stands;
     },
     are.2,
-    up_there copies others same bound payload leg.over.end leg.settled are.2 are.3,
-    legs_there bound payload are.2 legs top are.4,
+    up_there copies others same bound payload crossing.over.end crossing.settled are.2 are.3,
+    crossings_there bound payload are.2 crossings top are.4,
   )
 
-  across_there : (bound : ℕ) (payload : List ℕ) (start : ℕ) (legs : List Leg) (top : ℕ) → IsWalkAcross copies bound payload start legs top
-      → IsWalkAcross others bound payload start legs top
-  across_there bound payload start legs top h =
+  across_there : (bound : ℕ) (payload : List ℕ) (start : ℕ) (crossings : List Crossing) (top : ℕ) → IsWalkAcross copies bound payload start crossings top
+      → IsWalkAcross others bound payload start crossings top
+  across_there bound payload start crossings top h =
       record {
-        are = legs_there bound payload start legs top h.are;
+        are = crossings_there bound payload start crossings top h.are;
         few = h.few;
         stop = elim h.stop [
           | inl most ↦ inl most
@@ -125,7 +125,7 @@ module _ (copies others : List (List ℕ)) (same : HasSameMembers copies others)
       record {
         above = is.above;
         below = is.below;
-        legs = is.legs;
+        crossings = is.crossings;
         floor = is.floor;
         start = is.start;
         end = is.end;
@@ -135,7 +135,7 @@ module _ (copies others : List (List ℕ)) (same : HasSameMembers copies others)
         down = down_there copies others same spliced.payload is.above is.end is.down;
         room = bound_there copies others same is.end is.bound is.room;
         up = up_there copies others same is.bound spliced.payload 0 is.below is.floor is.up;
-        across = across_there is.bound spliced.payload is.floor is.legs is.start is.across;
+        across = across_there is.bound spliced.payload is.floor is.crossings is.start is.across;
         divided = division_there (versions_at copies is.start is.end) (versions_at others is.start is.end)
             (same_versions copies others same is.start is.end) is.hole is.divided;
         bytes = is.bytes;
@@ -276,31 +276,31 @@ module _ (copies : List (List ℕ)) (bound : ℕ) (a b : List ℕ) where
         bytes = ap (λ (z : StandingValue). z.bytes) one;
       }
 
-  one_across : (most start : ℕ) (legs others : List Leg) (s t : ℕ) → AreLegs copies bound a start legs s → AreLegs copies bound b start others t
-      → length legs ≤ most → length others ≤ most → (length legs ≡ most) ⊎ StopsAcross copies bound s
-      → (length others ≡ most) ⊎ StopsAcross copies bound t → IsOneWalk a b (leg_places legs) (leg_places others) s t
+  one_across : (most start : ℕ) (crossings others : List Crossing) (s t : ℕ) → AreCrossings copies bound a start crossings s → AreCrossings copies bound b start others t
+      → length crossings ≤ most → length others ≤ most → (length crossings ≡ most) ⊎ StopsAcross copies bound s
+      → (length others ≡ most) ⊎ StopsAcross copies bound t → IsOneWalk a b (crossing_places crossings) (crossing_places others) s t
   one_across most start [] [] s t are be few less stop halt = record { places = refl; stop = sym are ∙ be; bytes = All-nil (IsSameAt a b) }
-  one_across most start [] (leg ∷ others) s t are be few less stop halt =
+  one_across most start [] (crossing ∷ others) s t are be few less stop halt =
       absurd (elim stop [
         | inl same ↦ omega arith
         | inr none ↦ subst (StopsAcross copies bound) (sym (be.0 ∙ are)) none be.1.size be.1.lost
       ])
-  one_across most start (leg ∷ legs) [] s t are be few less stop halt =
+  one_across most start (crossing ∷ crossings) [] s t are be few less stop halt =
       absurd (elim halt [
         | inl same ↦ omega arith
         | inr none ↦ subst (StopsAcross copies bound) (sym (are.0 ∙ be)) none are.1.size are.1.lost
       ])
-  one_across most start (leg ∷ legs) (other ∷ others) s t are be few less stop halt =
-      let starts : leg.over.start ≡ other.over.start = are.0 ∙ sym be.0 in
-      let over = one_crossed leg.over other.over starts are.1 be.1 in
-      let rising : IsWalkUp copies bound b leg.over.end other.settled be.2 =
+  one_across most start (crossing ∷ crossings) (other ∷ others) s t are be few less stop halt =
+      let starts : crossing.over.start ≡ other.over.start = are.0 ∙ sym be.0 in
+      let over = one_crossed crossing.over other.over starts are.1 be.1 in
+      let rising : IsWalkUp copies bound b crossing.over.end other.settled be.2 =
       subst (λ n. IsWalkUp copies bound b n other.settled be.2) (sym over.end') be.3 in
-      let up = one_up copies bound a b leg.over.end leg.settled other.settled are.2 be.2 are.3.rise rising.rise are.3.settled rising.settled are.3.stop rising.stop in
-      let rest = one_across (most - 1) are.2 legs others s t are.4 (subst (λ n. AreLegs copies bound b n others t) (sym up.stop) be.4)
+      let up = one_up copies bound a b crossing.over.end crossing.settled other.settled are.2 be.2 are.3.rise rising.rise are.3.settled rising.settled are.3.stop rising.stop in
+      let rest = one_across (most - 1) are.2 crossings others s t are.4 (subst (λ n. AreCrossings copies bound b n others t) (sym up.stop) be.4)
       (omega arith) (omega arith) (elim stop [ inl same ↦ inl (omega arith) | inr none ↦ inr none ])
       (elim halt [ inl same ↦ inl (omega arith) | inr none ↦ inr none ]) in
-      one_more a b leg.over other.over starts over.end' (leg.settled ++ leg_places legs) (other.settled ++ leg_places others) s t over.standing over.bytes
-      (joined_walks a b leg.settled other.settled (leg_places legs) (leg_places others) are.2 be.2 s t up rest)
+      one_more a b crossing.over other.over starts over.end' (crossing.settled ++ crossing_places crossings) (other.settled ++ crossing_places others) s t over.standing over.bytes
+      (joined_walks a b crossing.settled other.settled (crossing_places crossings) (crossing_places others) are.2 be.2 s t up rest)
 
 -- ---- one splice
 
@@ -321,11 +321,11 @@ one_splice copies one other is k =
     subst (λ n. IsWalkUp copies n other.payload 0 k.below k.floor) (sym bounds) k.up in
     let first = one_up copies is.bound one.payload other.payload 0 is.below k.below is.floor k.floor is.up.rise rising.rise is.up.settled rising.settled
     is.up.stop rising.stop in
-    let across : IsWalkAcross copies is.bound other.payload is.floor k.legs k.start =
-    subst (λ n. IsWalkAcross copies is.bound other.payload n k.legs k.start) (sym first.stop)
-    (subst (λ n. IsWalkAcross copies n other.payload k.floor k.legs k.start) (sym bounds) k.across) in
-    let up = joined_walks one.payload other.payload is.below k.below (leg_places is.legs) (leg_places k.legs) is.floor k.floor is.start k.start first
-    (one_across copies is.bound one.payload other.payload MOST_CROSSED is.floor is.legs k.legs is.start k.start is.across.are across.are is.across.few
+    let across : IsWalkAcross copies is.bound other.payload is.floor k.crossings k.start =
+    subst (λ n. IsWalkAcross copies is.bound other.payload n k.crossings k.start) (sym first.stop)
+    (subst (λ n. IsWalkAcross copies n other.payload k.floor k.crossings k.start) (sym bounds) k.across) in
+    let up = joined_walks one.payload other.payload is.below k.below (crossing_places is.crossings) (crossing_places k.crossings) is.floor k.floor is.start k.start first
+    (one_across copies is.bound one.payload other.payload MOST_CROSSED is.floor is.crossings k.crossings is.start k.start is.across.are across.are is.across.few
     across.few is.across.stop across.stop) in
     let divided : IsDivisionOf (versions_at copies is.start is.end) k.hole =
     subst (λ n. IsDivisionOf (versions_at copies n is.end) k.hole) (sym up.stop)

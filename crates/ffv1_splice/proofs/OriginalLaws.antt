@@ -3,11 +3,11 @@ use Rattle.std.proofs.Common.{◌≡◌, ℕ, ◌+◌, ◌-◌, ◌<◌, ◌≤�
 use Rattle.std.specs.Prelude.{All, slice_range}
 use Rattle.std.proofs.lemmas.List.Elements.{All-nil, All-cons, All-head, All-tail, All-append, All-weaker}
 use Rattle.std.proofs.lemmas.Bool.{cases_lt}
-use Rattle.ffv1_slice.specs.Chain.{IsCut, IsEnd, IsLinkOf, LinkValue, link_of}
+use Rattle.ffv1_slice.specs.Chain.{FooterGives, IsEnd, IsLinkOf, LinkValue, link_of}
 use Rattle.ffv1_slice.specs.Chain.IsEnd.{last, before}
 use Rattle.ffv1_splice.specs.Pieces.{HasContent, IsClaimedStart, PieceFrom}
 use Rattle.ffv1_splice.specs.Standings.{versions_at}
-use Rattle.ffv1_splice.specs.Splice.{SplicedValue, LieFrom, RiseFrom, IsSettledDown, IsSettledUp, IsCrossed, Leg, AreLegs, leg_places, IsSpliceOf, moved_by}
+use Rattle.ffv1_splice.specs.Splice.{SplicedValue, LieFrom, RiseFrom, IsSettledDown, IsSettledUp, IsCrossed, Crossing, AreCrossings, crossing_places, IsSpliceOf, moved_by}
 use Rattle.ffv1_splice.specs.Originals.{AreCopiesOf, AreConsistentWith, AreConsistentFromBelow, HaveEachLink}
 use Rattle.ffv1_splice.specs.Laws.{IsSplicedOriginal, OriginalIsSpliced, SettledIsOriginal, IsItsLink, SettledWalksAreOriginal, IsLinkIfSettled, WalkAcrossIsOriginal}
 use Rattle.ffv1_splice.specs.declared.place.Standing.TheVariants.{Settled}
@@ -78,9 +78,9 @@ module _ (original : List ℕ) (copies : List (List ℕ)) (spliced : SplicedValu
         let rest = links_up place.end places top here.link.is_end rise.1 (All-tail (IsSettledUp copies bound spliced.payload) place places settled) in
         record { links = All-cons (IsItsLink original spliced) place places here rest.links; is_end = rest.is_end }
 
--- The places of legs are links of the original, and they stop at an end of the original.
-pub record AreLegLinks (original : List ℕ) (spliced : SplicedValue) (legs : List Leg) (stop : ℕ) : Type 0 where
-  pub links : All (IsLinkIfSettled original spliced) (leg_places legs)
+-- The places of crossings are links of the original, and they stop at an end of the original.
+pub record AreLegLinks (original : List ℕ) (spliced : SplicedValue) (crossings : List Crossing) (stop : ℕ) : Type 0 where
+  pub links : All (IsLinkIfSettled original spliced) (crossing_places crossings)
   pub is_end : IsEnd original stop
 
 -- ---- both walks
@@ -124,7 +124,7 @@ module _ (original : List ℕ) (copies : List (List ℕ)) (spliced : SplicedValu
         let rises = crossed_rising copies is.bound spliced.payload place crossed in
         let within = crossed_within copies is.bound spliced.payload place crossed in
         let next = next_end original place.start is.bound bound_end is_end (omega arith) in
-        let cut : IsCut original place.start next.0 = next.1.cut in
+        let cut : FooterGives original place.start next.0 = next.1.cut in
         let inside : next.0 ≤ is.bound = next.2 in
         let there : next.0 ≡ place.start + (next.0 - place.start) = omega arith in
         let here : place.start ≡ place.start + 0 = omega arith in
@@ -137,25 +137,25 @@ module _ (original : List ℕ) (copies : List (List ℕ)) (spliced : SplicedValu
         let ends : next.0 ≡ place.end = omega (arith, crossed.ends) in
         subst (IsLinkOf original place.start) ends next.1
 
-    links_across : (start : ℕ) (legs : List Leg) (top : ℕ) → IsEnd original start → AreLegs copies is.bound spliced.payload start legs top
-        → AreLegLinks original spliced legs top
+    links_across : (start : ℕ) (crossings : List Crossing) (top : ℕ) → IsEnd original start → AreCrossings copies is.bound spliced.payload start crossings top
+        → AreLegLinks original spliced crossings top
     links_across start [] top is_end are =
         record { links = All-nil (IsLinkIfSettled original spliced); is_end = subst (IsEnd original) are is_end }
-    links_across start (leg ∷ legs) top is_end are =
-        let link = crossed_link leg.over (subst (IsEnd original) (sym are.0) is_end) are.1 in
-        let up = links_up original copies spliced from_below is.bound bound_inside leg.over.end leg.settled are.2 link.is_end are.3.rise are.3.settled in
-        let rest = links_across are.2 legs top up.is_end are.4 in
+    links_across start (crossing ∷ crossings) top is_end are =
+        let link = crossed_link crossing.over (subst (IsEnd original) (sym are.0) is_end) are.1 in
+        let up = links_up original copies spliced from_below is.bound bound_inside crossing.over.end crossing.settled are.2 link.is_end are.3.rise are.3.settled in
+        let rest = links_across are.2 crossings top up.is_end are.4 in
         record {
-          links = All-append (IsLinkIfSettled original spliced) (leg.over ∷ leg.settled) (leg_places legs)
-              (All-cons (IsLinkIfSettled original spliced) leg.over leg.settled
-              (record { link = link; settled = λ settled. absurd (crossed_unsettled copies is.bound spliced.payload leg.over are.1 settled) })
+          links = All-append (IsLinkIfSettled original spliced) (crossing.over ∷ crossing.settled) (crossing_places crossings)
+              (All-cons (IsLinkIfSettled original spliced) crossing.over crossing.settled
+              (record { link = link; settled = λ settled. absurd (crossed_unsettled copies is.bound spliced.payload crossing.over are.1 settled) })
               (All-weaker (IsItsLink original spliced) (IsLinkIfSettled original spliced)
-              (λ place its. record { link = its.link; settled = λ _. its }) leg.settled up.links)) rest.links;
+              (λ place its. record { link = its.link; settled = λ _. its }) crossing.settled up.links)) rest.links;
           is_end = rest.is_end;
         }
 
-    pub across_links : AreLegLinks original spliced is.legs is.start
-    across_links = links_across is.floor is.legs is.start (below_links from_below).is_end is.across.are
+    pub across_links : AreLegLinks original spliced is.crossings is.start
+    across_links = links_across is.floor is.crossings is.start (below_links from_below).is_end is.across.are
 
 pub walk_across_is_original : WalkAcrossIsOriginal
 walk_across_is_original original copies spliced of agree below claim is = (across_links original copies spliced is of agree below claim).links
@@ -179,10 +179,10 @@ has_links original copies spliced is long whole links =
       each = links;
     }
 
--- They are where the walks agree with the original, the places of the legs are its links, and the hole's places are links of what it has
+-- They are where the walks agree with the original, the places of the crossings are its links, and the hole's places are links of what it has
 -- there.
 pub joined_links : (original : List ℕ) (copies : List (List ℕ)) (spliced : SplicedValue) (is : IsSpliceOf copies spliced) → AreCopiesOf original copies
-    → AreConsistentWith original copies → AreConsistentFromBelow original copies → All (IsLinkIfSettled original spliced) (leg_places is.legs)
+    → AreConsistentWith original copies → AreConsistentFromBelow original copies → All (IsLinkIfSettled original spliced) (crossing_places is.crossings)
     → All (λ place. IsLinkOf (slice_range original is.start is.end) place.start place.end) is.hole.places → is.hole.front ≡ 0
     → AreLinkPlaces original (length original) spliced.places spliced.front
 joined_links original copies spliced is of agree from_below across hole none =
@@ -193,9 +193,9 @@ joined_links original copies spliced is of agree from_below across hole none =
     (All-weaker (IsItsLink original spliced) (λ place. IsLinkOf original place.start place.end) (λ place its. its.link) is.above above.links)
     (λ k d lt. link_out is.start is.end original (start_within copies spliced is) above.is_end (get_or is.hole.places k d).start
     (get_or is.hole.places k d).end (hole k d lt)) (no_undivided (λ place. IsLinkOf original place.start place.end) is.start is.hole.front none)
-    (All-append (λ place. IsLinkOf original place.start place.end) is.below (leg_places is.legs)
+    (All-append (λ place. IsLinkOf original place.start place.end) is.below (crossing_places is.crossings)
     (All-weaker (IsItsLink original spliced) (λ place. IsLinkOf original place.start place.end) (λ place its. its.link) is.below below.links)
-    (All-weaker (IsLinkIfSettled original spliced) (λ place. IsLinkOf original place.start place.end) (λ place its. its.link) (leg_places is.legs) across)))
+    (All-weaker (IsLinkIfSettled original spliced) (λ place. IsLinkOf original place.start place.end) (λ place its. its.link) (crossing_places is.crossings) across)))
 
 -- ---- copies that have each link
 

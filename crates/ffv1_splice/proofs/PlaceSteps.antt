@@ -1,7 +1,7 @@
 -- The place that ends at an end of the splice: how long it is, and how it stands.
 use Rattle.std.proofs.Common.{◌≡◌, ℕ, ◌+◌, ◌≤◌, List, length, refl, sym, ap, ◌∙◌, inl, inr, arith}
 use Rattle.std.specs.Prelude.{Contains}
-use Rattle.ffv1_slice.specs.Chain.{IsCut, LinkValue}
+use Rattle.ffv1_slice.specs.Chain.{FooterGives, LinkValue}
 use Rattle.ffv1_slice.proofs.NearLaws.{length-range}
 use Rattle.ffv1_slice.specs.Members.{IsOnly, IsOfTwo, IsOfNone}
 use Rattle.ffv1_splice.specs.Pieces.{IsPiece, IsClaimedStart, IsLeast}
@@ -39,7 +39,7 @@ two_not_none P two none = none two.one two.one_there
 abbrev pub AllReach : List (List ℕ) → ℕ → Type 0
 AllReach copies end = (copy : List ℕ) → Contains copies copy → end ≤ length copy
 
-pub cut_below : (copy : List ℕ) (start end : ℕ) → IsCut copy start end → start + 8 ≤ end
+pub cut_below : (copy : List ℕ) (start end : ℕ) → FooterGives copy start end → start + 8 ≤ end
 cut_below copy start end cut = omega arith
 
 pub claim_below : (copies : List (List ℕ)) (start end : ℕ) → IsClaimedStart copies end start → start + 8 ≤ end

@@ -19,44 +19,44 @@ unwoven_by copies start end true missed many = inl (missed refl)
 unwoven_by copies start end false missed many = inr (many refl)
 
 -- what is returned: bytes that are made, and the number of those that are tried, or that none are
-abbrev pub IsAnswer : (List ℕ → ℕ → Type 0) → Option (Vec ℕ Global × ℕ) → Type 0
-IsAnswer P found = MatchOption found ((bytes : List ℕ) (count : ℕ) → P bytes count → ⊥) (λ (bytes, count). P bytes.items count)
+abbrev pub IsResult : (List ℕ → ℕ → Type 0) → Option (Vec ℕ Global × ℕ) → Type 0
+IsResult P found = MatchOption found ((bytes : List ℕ) (count : ℕ) → P bytes count → ⊥) (λ (bytes, count). P bytes.items count)
 
 -- what is returned for versions, said of them as the copies have them
 module _ (P : List (List ℕ) → List ℕ → ℕ → Type 0) (versions all : List (List ℕ)) (are : versions ≡ all) (found : Option (Vec ℕ Global × ℕ))
-    (answer : IsAnswer (P versions) found) where
+    (returned : IsResult (P versions) found) where
   made_there : (bytes : Vec ℕ Global) (count : ℕ) → found ≡ Some (bytes, count) → P all bytes.items count
   made_there bytes count is =
       subst (λ vs. P vs bytes.items count) are
       (MatchOption-at_some ((bytes : List ℕ) (count : ℕ) → P versions bytes count → ⊥) (λ (bytes, count). P versions bytes.items count) (bytes, count) is
-      answer)
+      returned)
 
   none_there : ((x : Vec ℕ Global × ℕ) → found ≡ Some x → ⊥) → (bytes : List ℕ) (count : ℕ) → P all bytes count → ⊥
   none_there apart =
       subst (λ vs. (bytes : List ℕ) (count : ℕ) → P vs bytes count → ⊥) are
       (MatchOption-at_none ((bytes : List ℕ) (count : ℕ) → P versions bytes count → ⊥) (λ (bytes, count). P versions bytes.items count)
-      (absent found apart) answer)
+      (absent found apart) returned)
 
 module _ (copies : List (List ℕ)) (start end : ℕ) (versions : List (List ℕ)) (are : versions ≡ versions_at copies start end)
     (found : Option (Vec ℕ Global × ℕ)) where
-  pub is_voted : IsUnwovenAt copies start end → IsAnswer (IsVoteOf versions) found → (bytes : Vec ℕ Global) (count : ℕ) → found ≡ Some (bytes, count)
+  pub is_voted : IsUnwovenAt copies start end → IsResult (IsVoteOf versions) found → (bytes : Vec ℕ Global) (count : ℕ) → found ≡ Some (bytes, count)
       → IsVoteAt copies start end bytes.items count
-  is_voted unwoven answer bytes count is =
-      record { unwoven = unwoven; vote = made_there IsVoteOf versions (versions_at copies start end) are found answer bytes count is }
+  is_voted unwoven returned bytes count is =
+      record { unwoven = unwoven; vote = made_there IsVoteOf versions (versions_at copies start end) are found returned bytes count is }
 
-  pub is_unvoted : IsAnswer (IsVoteOf versions) found → ((x : Vec ℕ Global × ℕ) → found ≡ Some x → ⊥) → IsUnvotedAt copies start end
-  is_unvoted answer apart = none_there IsVoteOf versions (versions_at copies start end) are found answer apart
+  pub is_unvoted : IsResult (IsVoteOf versions) found → ((x : Vec ℕ Global × ℕ) → found ≡ Some x → ⊥) → IsUnvotedAt copies start end
+  is_unvoted returned apart = none_there IsVoteOf versions (versions_at copies start end) are found returned apart
 
   module _ (missed : (count : ℕ) × IsWeaveAt copies start end (missing count)) (unvoted : IsUnvotedAt copies start end)
-      (answer : IsAnswer (IsRepairOf versions) found) where
+      (returned : IsResult (IsRepairOf versions) found) where
     pub is_repaired : (bytes : Vec ℕ Global) (count : ℕ) → found ≡ Some (bytes, count) → IsRepairAt copies start end bytes.items count
     is_repaired bytes count is =
         record {
           combinations = missed.0;
           missed = missed.1;
           unvoted = unvoted;
-          repair = made_there IsRepairOf versions (versions_at copies start end) are found answer bytes count is;
+          repair = made_there IsRepairOf versions (versions_at copies start end) are found returned bytes count is;
         }
 
     pub is_missing : ((x : Vec ℕ Global × ℕ) → found ≡ Some x → ⊥) → IsMissingAt copies start end
-    is_missing apart = (inl (missed, none_there IsRepairOf versions (versions_at copies start end) are found answer apart), unvoted)
+    is_missing apart = (inl (missed, none_there IsRepairOf versions (versions_at copies start end) are found returned apart), unvoted)

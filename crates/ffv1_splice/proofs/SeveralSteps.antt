@@ -12,7 +12,7 @@ use Rattle.ffv1_weave.specs.Weave.Weave.{woven, disputed, missing, too_many}
 use Rattle.ffv1_weave.specs.declared.check.Check.TheVariants.{Slice}
 use Rattle.ffv1_weave.proofs.WeaveLaws.{same_versions_weave, weave_as}
 use Rattle.ffv1_bits.specs.Parity.{AreBytes}
-use Rattle.ffv1_slice.specs.Chain.{IsCut}
+use Rattle.ffv1_slice.specs.Chain.{FooterGives}
 use Rattle.ffv1_slice.specs.Members.{HasSameMembers, IsOfTwo, IsOfNone}
 use Rattle.ffv1_splice.specs.Pieces.{HasContent, IsPiece, IsClaimedStart}
 use Rattle.ffv1_splice.specs.Standings.{versions_at, sized, IsWeaveOfSeveral}
@@ -388,7 +388,7 @@ IsNext copies end from next =
 
 module _ (copies : List (List ℕ)) (copy : List ℕ) (end from : ℕ) where
   -- a copy that claims no start from the place on
-  pub next_kept : (next : Option ℕ) → ((start : ℕ) → IsCut copy start end → HasContent start end → start < from) → IsNext copies end from next
+  pub next_kept : (next : Option ℕ) → ((start : ℕ) → FooterGives copy start end → HasContent start end → start < from) → IsNext copies end from next
       → IsNext (copies ++ copy ∷ []) end from next
   next_kept None below h = λ start claim. elim (start_back copies copy end start claim) [ inl there ↦ h start there | inr new ↦ below start new.0 new.1 ]
   next_kept (Some first) below h =
@@ -402,7 +402,7 @@ module _ (copies : List (List ℕ)) (copy : List ℕ) (end from : ℕ) where
       }
 
   -- and one that does
-  pub next_more : (next : Option ℕ) (start after : ℕ) → IsCut copy start end → HasContent start end → from ≤ start
+  pub next_more : (next : Option ℕ) (start after : ℕ) → FooterGives copy start end → HasContent start end → from ≤ start
       → MatchOption next (after ≡ start) (λ first. after ≡ min first start) → IsNext copies end from next
       → IsNextClaimedStart (copies ++ copy ∷ []) end from after
   next_more None start after cut content low is h =

@@ -1,4 +1,4 @@
--- Two copies of a slice, of which one is hurt in its first byte, and the other in its size field, so that they claim two starts: it is
+-- Two copies of a slice, of which one is damaged in its first byte, and the other in its size field, so that they claim two starts: it is
 -- woven from the one at which it begins.
 use Rattle.std.proofs.Common.{◌≡◌, ℕ, zero, suc, ◌<◌, true, List, [], ◌∷◌, length, get_or, map, replicate, refl, sym, ap, ◌∙◌, subst, arith, inl, inr, ltb, ltb-true}
 use Rattle.std.specs.Prelude.{◌⊎◌, Contains, slice_range}
@@ -7,11 +7,11 @@ use Rattle.std.proofs.lemmas.Bool.{and_parts}
 use Rattle.std.proofs.lemmas.List.{ext_get_or}
 use Rattle.ffv1_bits.specs.Bits.{number_bits, bits_of}
 use Rattle.ffv1_bits.specs.Parity.{AreBytes, PassesParity, polynomial_of, divided, remainder_of}
-use Rattle.ffv1_slice.specs.Chain.{IsCut}
+use Rattle.ffv1_slice.specs.Chain.{FooterGives}
 use Rattle.ffv1_slice.specs.Members.{IsOfNone}
 use Rattle.ffv1_slice.proofs.NearVectors as vectors
-use Rattle.ffv1_weave.specs.Grains.{grains}
-use Rattle.ffv1_weave.specs.Seams.{IsSegment}
+use Rattle.ffv1_weave.specs.Splits.{splits}
+use Rattle.ffv1_weave.specs.Boundaries.{IsSegment}
 use Rattle.ffv1_weave.specs.Combinations.{IsCombinationBy, IsTriedBy}
 use Rattle.ffv1_weave.specs.Weave.{IsWeaveOf}
 use Rattle.ffv1_weave.specs.Weave.Weave.{woven, missing}
@@ -24,32 +24,32 @@ use Rattle.ffv1_splice.proofs.FirstSlices.{same_inside}
 use Rattle.ffv1_splice.proofs.SeveralSteps.{zeros_anywhere}
 use Rattle.ffv1_splice.proofs.Vectors.{slice_with, first_of, tried_first, twice_one, twice_few, first_slice_passes}
 
-abbrev hurt_first : List ℕ
-hurt_first = slice_with 0xFC 0 0 3
+abbrev damaged_first : List ℕ
+damaged_first = slice_with 0xFC 0 0 3
 
 -- its size field gives a slice that begins a byte later
-abbrev hurt_size : List ℕ
-hurt_size = slice_with 0xFD 0 0 2
+abbrev damaged_size : List ℕ
+damaged_size = slice_with 0xFD 0 0 2
 
-abbrev pub torn_copies : List (List ℕ)
-torn_copies = hurt_first ∷ hurt_size ∷ []
+abbrev pub damaged_copies : List (List ℕ)
+damaged_copies = damaged_first ∷ damaged_size ∷ []
 
 -- what both copies have from there on
 abbrev later : List ℕ
 later = 0xF6 ∷ 0x80 ∷ 0 ∷ 0 ∷ 2 ∷ 0 ∷ 0x1C ∷ 0x3E ∷ 0xA0 ∷ 0x9B ∷ []
 
 abbrev two : List (List ℕ)
-two = hurt_first ∷ vectors.first_slice ∷ []
+two = damaged_first ∷ vectors.first_slice ∷ []
 
-from_its_start : map sized (versions_at torn_copies 0 11) ≡ two
+from_its_start : map sized (versions_at damaged_copies 0 11) ≡ two
 from_its_start = refl
 
-from_the_other : map sized (versions_at torn_copies 1 11) ≡ later ∷ later ∷ []
+from_the_other : map sized (versions_at damaged_copies 1 11) ≡ later ∷ later ∷ []
 from_the_other = refl
 
-hurt_first_fails : PassesParity hurt_first → ⊥
+damaged_first_fails : PassesParity damaged_first → ⊥
 unfolding number_bits bits_of polynomial_of divided remainder_of
-hurt_first_fails passes = absurd (omega arith)
+damaged_first_fails passes = absurd (omega arith)
 
 later_fails : PassesParity later → ⊥
 unfolding number_bits bits_of polynomial_of divided remainder_of
@@ -57,24 +57,24 @@ later_fails passes = absurd (omega arith)
 
 -- ---- what is claimed
 
-claim_which : (copy : List ℕ) (start : ℕ) → Contains torn_copies copy → IsCut copy start 11
-    → ((copy ≡ hurt_first) × (start ≡ 0)) ⊎ ((copy ≡ hurt_size) × (start ≡ 1))
+claim_which : (copy : List ℕ) (start : ℕ) → Contains damaged_copies copy → FooterGives copy start 11
+    → ((copy ≡ damaged_first) × (start ≡ 0)) ⊎ ((copy ≡ damaged_size) × (start ≡ 1))
 claim_which copy start (zero, lt, is) cut =
-    let claim : IsCut hurt_first start 11 = subst (λ c. IsCut c start 11) (sym is) cut in inl (sym is, omega arith)
+    let claim : FooterGives damaged_first start 11 = subst (λ c. FooterGives c start 11) (sym is) cut in inl (sym is, omega arith)
 claim_which copy start (suc zero, lt, is) cut =
-    let claim : IsCut hurt_size start 11 = subst (λ c. IsCut c start 11) (sym is) cut in inr (sym is, omega arith)
+    let claim : FooterGives damaged_size start 11 = subst (λ c. FooterGives c start 11) (sym is) cut in inr (sym is, omega arith)
 claim_which copy start (suc (suc k), lt, is) cut = absurd (omega arith)
 
-first_claim : IsClaimedStart torn_copies 11 0
-first_claim = record { copy = hurt_first; there = (0, omega arith, refl); cut = refl; content = omega arith }
+first_claim : IsClaimedStart damaged_copies 11 0
+first_claim = record { copy = damaged_first; there = (0, omega arith, refl); cut = refl; content = omega arith }
 
-other_claim : IsClaimedStart torn_copies 11 1
-other_claim = record { copy = hurt_size; there = (1, omega arith, refl); cut = refl; content = omega arith }
+other_claim : IsClaimedStart damaged_copies 11 1
+other_claim = record { copy = damaged_size; there = (1, omega arith, refl); cut = refl; content = omega arith }
 
 -- neither is a piece
-no_piece : IsOfNone (IsPiece torn_copies 11)
+no_piece : IsOfNone (IsPiece damaged_copies 11)
 no_piece piece h = elim (claim_which h.copy piece.start h.there h.cut) [
-  | inl at ↦ hurt_first_fails (subst PassesParity
+  | inl at ↦ damaged_first_fails (subst PassesParity
       (h.bytes ∙ ap (λ s. slice_range h.copy s 11) at.1 ∙ ap (λ c. slice_range c 0 11) at.0) h.passes)
   | inr at ↦ later_fails (subst PassesParity
       (h.bytes ∙ ap (λ s. slice_range h.copy s 11) at.1 ∙ ap (λ c. slice_range c 1 11) at.0) h.passes)
@@ -82,13 +82,13 @@ no_piece piece h = elim (claim_which h.copy piece.start h.there h.cut) [
 
 -- ---- from the first start
 
-which : (version : List ℕ) → Contains two version → (version ≡ hurt_first) ⊎ (version ≡ vectors.first_slice)
+which : (version : List ℕ) → Contains two version → (version ≡ damaged_first) ⊎ (version ≡ vectors.first_slice)
 which version (zero, lt, is) = inl (sym is)
 which version (suc zero, lt, is) = inr (sym is)
 which version (suc (suc k), lt, is) = absurd (omega arith)
 
-hurt_there : Contains two hurt_first
-hurt_there = (0, omega arith, refl)
+damaged_there : Contains two damaged_first
+damaged_there = (0, omega arith, refl)
 
 right_there : Contains two vectors.first_slice
 right_there = (1, omega arith, refl)
@@ -99,36 +99,36 @@ first_byte =
       some = omega arith;
       first = inl refl;
       last = inl (record {
-        one = hurt_first;
+        one = damaged_first;
         other = vectors.first_slice;
-        one_there = hurt_there;
+        one_there = damaged_there;
         other_there = right_there;
         parted = inr (record { last = 0; next = refl; differ = λ same. absurd (omega arith); after = λ i low lt. absurd (omega arith) });
       });
-      within = λ i low lt seam. absurd (omega arith);
+      within = λ i low lt boundary. absurd (omega arith);
     }
 
 same_rest : (i : ℕ) (one other : List ℕ) → Contains two one → Contains two other → get_or one (suc i) 0 ≡ get_or other (suc i) 0
 same_rest i one other there here = rest one there ∙ sym (rest other here)
   where
-    rest : (version : List ℕ) → Contains two version → get_or version (suc i) 0 ≡ get_or hurt_first (suc i) 0
+    rest : (version : List ℕ) → Contains two version → get_or version (suc i) 0 ≡ get_or damaged_first (suc i) 0
     rest version there = elim (which version there) [ inl is ↦ ap (λ v. get_or v (suc i) 0) is | inr is ↦ ap (λ v. get_or v (suc i) 0) is ]
 
 length_eleven : (version : List ℕ) → Contains two version → length version ≡ 11
 length_eleven version there = elim (which version there) [ inl is ↦ ap length is | inr is ↦ ap length is ]
 
-either : (bytes : List ℕ) → IsCombinationBy (first_of grains (omega arith)) two bytes → (bytes ≡ hurt_first) ⊎ (bytes ≡ vectors.first_slice)
+either : (bytes : List ℕ) → IsCombinationBy (first_of splits (omega arith)) two bytes → (bytes ≡ damaged_first) ⊎ (bytes ≡ vectors.first_slice)
 either bytes is =
     let version = is.parts 0 1 first_byte in
     let front : get_or bytes 0 0 ≡ get_or version.0 0 0 = same_inside bytes version.0 0 1 0 (omega arith) (omega arith) version.2 in
     let same : bytes ≡ version.0 = ext_get_or 0 bytes version.0 (is.same_length version.0 version.1) (λ i lt. at version.0 version.1 front i) in
-    elim (which version.0 version.1) [ inl hurt ↦ inl (same ∙ hurt) | inr right ↦ inr (same ∙ right) ]
+    elim (which version.0 version.1) [ inl damaged ↦ inl (same ∙ damaged) | inr right ↦ inr (same ∙ right) ]
   where
     at : (version : List ℕ) → Contains two version → get_or bytes 0 0 ≡ get_or version 0 0 → (i : ℕ) → get_or bytes i 0 ≡ get_or version i 0
     at version there front zero = front
     at version there front (suc i) = is.agrees (suc i) (λ one other in_one in_other. same_rest i one other in_one in_other) version there
 
-itself : (version : List ℕ) → Contains two version → IsCombinationBy (first_of grains (omega arith)) two version
+itself : (version : List ℕ) → Contains two version → IsCombinationBy (first_of splits (omega arith)) two version
 itself version here =
     record {
       same_length = λ other there. length_eleven version here ∙ sym (length_eleven other there);
@@ -137,15 +137,15 @@ itself version here =
     }
 
 abbrev numbered : ℕ → List ℕ
-numbered zero = hurt_first
+numbered zero = damaged_first
 numbered (suc k) = vectors.first_slice
 
 number_there : (k : ℕ) → Contains two (numbered k)
-number_there zero = hurt_there
+number_there zero = damaged_there
 number_there (suc k) = right_there
 
-apart : hurt_first ≡ vectors.first_slice → ⊥
-apart same = let e : get_or hurt_first 0 0 ≡ get_or vectors.first_slice 0 0 = ap (λ z. get_or z 0 0) same in absurd (omega arith)
+apart : damaged_first ≡ vectors.first_slice → ⊥
+apart same = let e : get_or damaged_first 0 0 ≡ get_or vectors.first_slice 0 0 = ap (λ z. get_or z 0 0) same in absurd (omega arith)
 
 once : (j k : ℕ) → j < 2 → k < 2 → numbered j ≡ numbered k → j ≡ k
 once zero zero low lt same = refl
@@ -153,12 +153,12 @@ once zero (suc k) low lt same = absurd (apart same)
 once (suc j) zero low lt same = absurd (apart (sym same))
 once (suc j) (suc k) low lt same = omega arith
 
-tried_two : IsTriedBy two (first_of grains (omega arith)) 2
+tried_two : IsTriedBy two (first_of splits (omega arith)) 2
 tried_two = tried_first two 2 (record {
   numbered = record {
     at = numbered;
     are = λ k lt. itself (numbered k) (number_there k);
-    all = λ bytes is. elim (either bytes is) [ inl hurt ↦ (0, omega arith, sym hurt) | inr right ↦ (1, omega arith, sym right) ];
+    all = λ bytes is. elim (either bytes is) [ inl damaged ↦ (0, omega arith, sym damaged) | inr right ↦ (1, omega arith, sym right) ];
     once = once;
   };
   few = omega arith;
@@ -168,22 +168,22 @@ woven_of_two : IsWeaveOf Slice two (woven vectors.first_slice 2)
 woven_of_two = (
   record {
     there = record {
-      grain = _;
+      split = _;
       count = 2;
       tried = tried_two;
       combination = itself vectors.first_slice right_there;
       passes = (record { footer = omega arith; size = refl }, first_slice_passes);
     };
-    others = λ other valid. elim (either other (tried_combination two Slice (first_of grains (omega arith)) 2 tried_two other valid)) [
-      | inl hurt ↦ absurd (hurt_first_fails (subst PassesParity hurt valid.passes.1))
+    others = λ other valid. elim (either other (tried_combination two Slice (first_of splits (omega arith)) 2 tried_two other valid)) [
+      | inl damaged ↦ absurd (damaged_first_fails (subst PassesParity damaged valid.passes.1))
       | inr right ↦ right
     ];
   },
-  record { grain = _; tried = tried_two },
+  record { split = _; tried = tried_two },
 )
 
 missing_of_later : IsWeaveOf Slice (later ∷ later ∷ []) (missing 1)
-missing_of_later = (λ bytes valid. later_fails (subst PassesParity (twice_one later valid.grain bytes valid.combination) valid.passes.1), twice_few later)
+missing_of_later = (λ bytes valid. later_fails (subst PassesParity (twice_one later valid.split bytes valid.combination) valid.passes.1), twice_few later)
 
 -- ---- from both
 
@@ -192,30 +192,30 @@ bytes_by [] h i = omega arith
 bytes_by (x ∷ xs) h zero = ltb-true x 256 (and_parts (ltb x 256) (list_all (λ b. ltb b 256) xs) h).0
 bytes_by (x ∷ xs) h (suc i) = bytes_by xs (and_parts (ltb x 256) (list_all (λ b. ltb b 256) xs) h).1 i
 
-are_bytes : (copy : List ℕ) → Contains torn_copies copy → AreBytes copy
-are_bytes copy (zero, lt, is) = subst AreBytes is (bytes_by hurt_first refl)
-are_bytes copy (suc zero, lt, is) = subst AreBytes is (bytes_by hurt_size refl)
+are_bytes : (copy : List ℕ) → Contains damaged_copies copy → AreBytes copy
+are_bytes copy (zero, lt, is) = subst AreBytes is (bytes_by damaged_first refl)
+are_bytes copy (suc zero, lt, is) = subst AreBytes is (bytes_by damaged_size refl)
 are_bytes copy (suc (suc k), lt, is) = absurd (omega arith)
 
 -- how many combinations were tried from each place
 abbrev tried : List ℕ
 tried = 2 ∷ 1 ∷ replicate 9 0
 
-none_tried : (start : ℕ) → (IsClaimedStart torn_copies 11 start → ⊥) → get_or tried start 0 ≡ 0
+none_tried : (start : ℕ) → (IsClaimedStart damaged_copies 11 start → ⊥) → get_or tried start 0 ≡ 0
 none_tried zero no_claim = absurd (no_claim first_claim)
 none_tried (suc zero) no_claim = absurd (no_claim other_claim)
 none_tried (suc (suc start)) no_claim = zeros_anywhere 9 start
 
-from_another : (start : ℕ) → IsClaimedStart torn_copies 11 start → (start ≡ 0 → ⊥)
-    → IsWeaveOf Slice (map sized (versions_at torn_copies start 11)) (missing (get_or tried start 0))
+from_another : (start : ℕ) → IsClaimedStart damaged_copies 11 start → (start ≡ 0 → ⊥)
+    → IsWeaveOf Slice (map sized (versions_at damaged_copies start 11)) (missing (get_or tried start 0))
 from_another start claim other = elim (claim_which claim.copy start claim.there claim.cut) [
   | inl at ↦ absurd (other at.1)
-  | inr at ↦ subst (λ s. IsWeaveOf Slice (map sized (versions_at torn_copies s 11)) (missing (get_or tried s 0))) (sym at.1) missing_of_later
+  | inr at ↦ subst (λ s. IsWeaveOf Slice (map sized (versions_at damaged_copies s 11)) (missing (get_or tried s 0))) (sym at.1) missing_of_later
 ]
 
 -- so the slice is woven, of two combinations from its start and one from the other
-pub torn_stands : StandsAs torn_copies 0 11 vectors.first_slice (Woven 3)
-torn_stands = inr (inr (record {
+pub damaged_stands : StandsAs damaged_copies 0 11 vectors.first_slice (Woven 3)
+damaged_stands = inr (inr (record {
   are_bytes = are_bytes;
   none = no_piece;
   several = record { one = 0; other = 1; one_there = first_claim; other_there = other_claim; differ = λ same. absurd (omega arith) };

@@ -10,7 +10,7 @@ use Rattle.ffv1_bits.specs.Bits.{bits_of}
 use Rattle.ffv1_bits.specs.Limits.{slice_limit}
 use Rattle.ffv1_bits.specs.Parity.{AreBytes, PassesParity, divided, remainder_of, polynomial_of}
 use Rattle.ffv1_bits.proofs.Bytes.{AreBytes-range}
-use Rattle.ffv1_slice.specs.Chain.{IsCut, footer_before}
+use Rattle.ffv1_slice.specs.Chain.{FooterGives, footer_before}
 use Rattle.ffv1_slice.specs.Members.{IsOfNone}
 use Rattle.ffv1_slice.proofs.NearLaws.{length-range}
 use Rattle.ffv1_splice.specs.Inner.Claims.{LacksClaims}
@@ -21,7 +21,7 @@ use Rattle.ffv1_weave.proofs.ChoiceSteps.{alone}
 
 -- A piece of the copy from a place ends there.
 pub record EndsPiece (copy : List ℕ) (start end : ℕ) : Type 0 where
-  pub cut : IsCut copy start end
+  pub cut : FooterGives copy start end
   pub content : HasContent start end
   pub passes : PassesParity (slice_range copy start end)
 
@@ -41,7 +41,7 @@ pub end_of_piece : (copy : List ℕ) (start end : ℕ) (bytes : List ℕ) → Is
 end_of_piece copy start end bytes h =
     let same : h.copy ≡ copy = alone copy h.copy h.there in
     let lies : bytes ≡ slice_range copy start end = h.bytes ∙ ap (λ c. slice_range c start end) same in (
-      record { cut = subst (λ c. IsCut c start end) same h.cut; content = h.content; passes = subst PassesParity lies h.passes },
+      record { cut = subst (λ c. FooterGives c start end) same h.cut; content = h.content; passes = subst PassesParity lies h.passes },
       lies,
     )
 
@@ -56,17 +56,17 @@ claims_not P Q None start none one h apart claim = none h claim
 claims_not P Q (Some other) start none one h apart claim = eqb-false other start apart (one other h claim)
 
 -- so it says whether the footer gives the place
-pub claims_if : (copy : List ℕ) (start end : ℕ) (found : Option ℕ) (answer : Bool)
-    → MatchOption found ((p : ℕ) → IsCut copy p end → ⊥) (λ p. IsCut copy p end) → answer ≡ option_eq eqb found (Some start)
-    → (answer ≡ true) ↔ IsCut copy start end
-claims_if copy start end found answer h is = (
-  λ yes. claims (λ p. IsCut copy p end) _ found start h (sym is ∙ yes),
-  λ cut. true_from_ne_false answer (λ no.
-      claims_not (λ p. IsCut copy p end) _ found start (λ none here. none start here) (λ other here there. omega arith) h (sym is ∙ no) cut),
+pub claims_if : (copy : List ℕ) (start end : ℕ) (found : Option ℕ) (returned : Bool)
+    → MatchOption found ((p : ℕ) → FooterGives copy p end → ⊥) (λ p. FooterGives copy p end) → returned ≡ option_eq eqb found (Some start)
+    → (returned ≡ true) ↔ FooterGives copy start end
+claims_if copy start end found returned h is = (
+  λ yes. claims (λ p. FooterGives copy p end) _ found start h (sym is ∙ yes),
+  λ cut. true_from_ne_false returned (λ no.
+      claims_not (λ p. FooterGives copy p end) _ found start (λ none here. none start here) (λ other here there. omega arith) h (sym is ∙ no) cut),
 )
 
 -- a size field has three bytes
-pub cut_is_short : (copy : List ℕ) (start end : ℕ) → AreBytes copy → IsCut copy start end → end ≤ start + slice_limit
+pub cut_is_short : (copy : List ℕ) (start end : ℕ) → AreBytes copy → FooterGives copy start end → end ≤ start + slice_limit
 cut_is_short copy start end small cut =
     let footer : AreBytes (footer_before copy end) = AreBytes-range copy (end - 8) end small in
     omega (arith, footer 0, footer 1, footer 2)
@@ -140,7 +140,7 @@ module _ (copy : List ℕ) (start judged end left : ℕ) (so_far : AreJudged cop
       record { from = omega (arith, so_far.from, so_far.to); to = omega arith; left' = is; none = none_on (λ h. some (is ∙ h.passes.1)) }
 
   -- a claimed end where nothing is left
-  pub judged_passed : (bound : ℕ) → IsCut copy start end → HasContent start end → 0 ≡ remainder_of (bits_of (slice_range copy start end)) → end ≤ bound
+  pub judged_passed : (bound : ℕ) → FooterGives copy start end → HasContent start end → 0 ≡ remainder_of (bits_of (slice_range copy start end)) → end ≤ bound
       → end ≤ length copy → IsShortest (copy ∷ []) bound start (record { end = end; bytes = slice_range copy start end })
   judged_passed bound cut content is within room =
       let size : length (slice_range copy start end) ≡ end - start = length-range copy start end (omega arith) room in
@@ -154,7 +154,7 @@ module _ (copy : List ℕ) (start judged end left : ℕ) (so_far : AreJudged cop
       }
 
   -- where no end is left within the bound that a footer claims, no piece ends there
-  pub judged_all : (bound : ℕ) → AreBytes copy → ((later : ℕ) → end ≤ later → later ≤ bound → later ≤ start + slice_limit → IsCut copy start later → ⊥)
+  pub judged_all : (bound : ℕ) → AreBytes copy → ((later : ℕ) → end ≤ later → later ≤ bound → later ≤ start + slice_limit → FooterGives copy start later → ⊥)
       → IsOfNone (IsPieceFrom (copy ∷ []) bound start)
   judged_all bound small past piece p =
       let ends : EndsPiece copy start piece.end = (end_of_piece copy start piece.end piece.bytes p.there).0 in

@@ -6,37 +6,37 @@ use Rattle.std.proofs.lemmas.List.Elements.{All-nil, All-cons, All-append, All-m
 use Rattle.ffv1_slice.proofs.NearLaws.{length-range}
 use Rattle.ffv1_splice.specs.Pieces.{HasContent}
 use Rattle.ffv1_splice.specs.Standings.{versions_at}
-use Rattle.ffv1_splice.specs.Splice.{SplicedValue, LieFrom, RiseFrom, IsSettledDown, IsSettledUp, IsCrossed, leg_places, IsSpliceOf, moved_by, undivided_places, front_of, hole_places}
+use Rattle.ffv1_splice.specs.Splice.{SplicedValue, LieFrom, RiseFrom, IsSettledDown, IsSettledUp, IsCrossed, crossing_places, IsSpliceOf, moved_by, undivided_places, front_of, hole_places}
 use Rattle.ffv1_splice.specs.declared.place.Standing.TheVariants.{Undivided}
 use Rattle.ffv1_splice.specs.declared.place.Place.{Place}
 use Rattle.ffv1_splice.proofs.Versions.{version_of}
 use Rattle.ffv1_splice.proofs.Walks.{stands_below, front_below, ends_below}
 use Rattle.ffv1_splice.proofs.BoundSteps.{bound_within}
-use Rattle.ffv1_splice.proofs.Crossings.{rise_append, crossed_rising, crossed_within, all_legs, legs_rise}
+use Rattle.ffv1_splice.proofs.Crossings.{rise_append, crossed_rising, crossed_within, all_crossings, crossings_rise}
 use Rattle.ffv1_splice.proofs.PlaceLists.{All-reverse, All-left, All-right, All-mapped, lie_append, lie_moved, top_below, lie_below}
 
 -- ---- the places below the hole
 
--- from the frame's start up: those that are settled, and those of the legs
+-- from the frame's start up: those that are settled, and those of the crossings
 abbrev pub lower : (copies : List (List ℕ)) (spliced : SplicedValue) → IsSpliceOf copies spliced → List Place
-lower copies spliced is = is.below ++ leg_places is.legs
+lower copies spliced is = is.below ++ crossing_places is.crossings
 
 module _ (copies : List (List ℕ)) (spliced : SplicedValue) (is : IsSpliceOf copies spliced) where
   -- what is so of settled places, and of those over lost slices, is so of all of them
-  pub all_legs_lower : (P : Place → Type 0) → ((place : Place) → IsSettledUp copies is.bound spliced.payload place → P place)
-      → ((place : Place) → IsCrossed copies is.bound spliced.payload place → P place) → All P (leg_places is.legs)
-  all_legs_lower P settled crossed = all_legs copies is.bound P spliced.payload crossed settled is.floor is.legs is.start is.across.are
+  pub all_crossings_lower : (P : Place → Type 0) → ((place : Place) → IsSettledUp copies is.bound spliced.payload place → P place)
+      → ((place : Place) → IsCrossed copies is.bound spliced.payload place → P place) → All P (crossing_places is.crossings)
+  all_crossings_lower P settled crossed = all_crossings copies is.bound P spliced.payload crossed settled is.floor is.crossings is.start is.across.are
 
   pub all_lower : (P : Place → Type 0) → ((place : Place) → IsSettledUp copies is.bound spliced.payload place → P place)
       → ((place : Place) → IsCrossed copies is.bound spliced.payload place → P place) → All P (lower copies spliced is)
   all_lower P settled crossed =
-      All-append P is.below (leg_places is.legs) (All-weaker (IsSettledUp copies is.bound spliced.payload) P settled is.below is.up.settled)
-      (all_legs_lower P settled crossed)
+      All-append P is.below (crossing_places is.crossings) (All-weaker (IsSettledUp copies is.bound spliced.payload) P settled is.below is.up.settled)
+      (all_crossings_lower P settled crossed)
 
   pub lower_rise : RiseFrom 0 (lower copies spliced is) is.start
   lower_rise =
-      rise_append 0 is.floor is.start is.below (leg_places is.legs) is.up.rise
-      (legs_rise copies is.bound spliced.payload is.floor is.legs is.start is.across.are)
+      rise_append 0 is.floor is.start is.below (crossing_places is.crossings) is.up.rise
+      (crossings_rise copies is.bound spliced.payload is.floor is.crossings is.start is.across.are)
 
 -- ---- what is so of all places
 

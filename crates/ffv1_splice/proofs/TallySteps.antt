@@ -3,7 +3,7 @@ use Rattle.std.proofs.Common.{◌≡◌, ℕ, List, [], ◌∷◌, ◌++◌, ref
 use Rattle.std.specs.Prelude.{◌⊎◌, Contains, slice_range}
 use Rattle.std.proofs.lemmas.List.Elements.{Contains-append_left, Contains-append_right, Contains-append_cases}
 use Rattle.ffv1_bits.specs.Parity.{PassesParity}
-use Rattle.ffv1_slice.specs.Chain.{IsCut, LinkValue, link_of}
+use Rattle.ffv1_slice.specs.Chain.{FooterGives, LinkValue, link_of}
 use Rattle.ffv1_splice.specs.Pieces.{HasContent, IsPiece, IsClaimedStart}
 use Rattle.ffv1_weave.proofs.ChoiceSteps.{alone}
 use Rattle.ffv1_weave.proofs.FoundSteps.{two_as}
@@ -70,7 +70,7 @@ module _ (copies : List (List ℕ)) (copy : List ℕ) (end : ℕ) where
 
   pub piece_back : (piece : LinkValue) → IsPiece (copies ++ copy ∷ []) end piece
       → IsPiece copies end piece
-      ⊎ (IsCut copy piece.start end × HasContent piece.start end × (piece ≡ link_of copy piece.start end) × PassesParity (slice_range copy piece.start end))
+      ⊎ (FooterGives copy piece.start end × HasContent piece.start end × (piece ≡ link_of copy piece.start end) × PassesParity (slice_range copy piece.start end))
   piece_back piece h =
       elim (Contains-append_cases copies (copy ∷ []) h.copy h.there) [
         | inl there ↦ inl (record { copy = h.copy; there = there; cut = h.cut; content = h.content; bytes = h.bytes; passes = h.passes })
@@ -78,39 +78,39 @@ module _ (copies : List (List ℕ)) (copy : List ℕ) (end : ℕ) where
             let same : h.copy ≡ copy = alone copy h.copy there in
             let lies : piece.bytes ≡ slice_range copy piece.start end = h.bytes ∙ ap (λ c. slice_range c piece.start end) same in
             inr (
-              subst (λ c. IsCut c piece.start end) same h.cut,
+              subst (λ c. FooterGives c piece.start end) same h.cut,
               h.content,
               ap (λ b. record { start = piece.start; bytes = b }) lies,
               subst PassesParity lies h.passes,
             )
       ]
 
-  pub start_back : (start : ℕ) → IsClaimedStart (copies ++ copy ∷ []) end start → IsClaimedStart copies end start ⊎ (IsCut copy start end × HasContent start end)
+  pub start_back : (start : ℕ) → IsClaimedStart (copies ++ copy ∷ []) end start → IsClaimedStart copies end start ⊎ (FooterGives copy start end × HasContent start end)
   start_back start h =
       elim (Contains-append_cases copies (copy ∷ []) h.copy h.there) [
         | inl there ↦ inl (record { copy = h.copy; there = there; cut = h.cut; content = h.content })
-        | inr there ↦ inr (subst (λ c. IsCut c start end) (alone copy h.copy there) h.cut, h.content)
+        | inr there ↦ inr (subst (λ c. FooterGives c start end) (alone copy h.copy there) h.cut, h.content)
       ]
 
   -- a copy's footer claims one start
-  pub one_cut : (start other : ℕ) → IsCut copy start end → IsCut copy other end → other ≡ start
+  pub one_cut : (start other : ℕ) → FooterGives copy start end → FooterGives copy other end → other ≡ start
   one_cut start other h k = omega arith
 
   -- a copy with no cut there, or one without content, adds no piece and no claimed start
-  pub pieces-uncut : (claim : Tally LinkValue) → ((start : ℕ) → IsCut copy start end → HasContent start end → ⊥) → Tallies (IsPiece copies end) claim
+  pub pieces-uncut : (claim : Tally LinkValue) → ((start : ℕ) → FooterGives copy start end → HasContent start end → ⊥) → Tallies (IsPiece copies end) claim
       → Tallies (IsPiece (copies ++ copy ∷ []) end) claim
   pieces-uncut claim uncut h =
       tallies_same (IsPiece copies end) (IsPiece (copies ++ copy ∷ []) end) claim piece_on
       (λ piece q. elim (piece_back piece q) [ inl p ↦ p | inr cut ↦ absurd (uncut piece.start cut.0 cut.1) ]) h
 
-  pub starts-uncut : (claim : Tally ℕ) → ((start : ℕ) → IsCut copy start end → HasContent start end → ⊥) → Tallies (IsClaimedStart copies end) claim
+  pub starts-uncut : (claim : Tally ℕ) → ((start : ℕ) → FooterGives copy start end → HasContent start end → ⊥) → Tallies (IsClaimedStart copies end) claim
       → Tallies (IsClaimedStart (copies ++ copy ∷ []) end) claim
   starts-uncut claim uncut h =
       tallies_same (IsClaimedStart copies end) (IsClaimedStart (copies ++ copy ∷ []) end) claim start_on
       (λ start q. elim (start_back start q) [ inl p ↦ p | inr cut ↦ absurd (uncut start cut.0 cut.1) ]) h
 
   -- nor does one that fails its parity add a piece
-  pub pieces-failed : (claim : Tally LinkValue) (start : ℕ) → IsCut copy start end → (PassesParity (slice_range copy start end) → ⊥) → Tallies (IsPiece copies end) claim
+  pub pieces-failed : (claim : Tally LinkValue) (start : ℕ) → FooterGives copy start end → (PassesParity (slice_range copy start end) → ⊥) → Tallies (IsPiece copies end) claim
       → Tallies (IsPiece (copies ++ copy ∷ []) end) claim
   pieces-failed claim start cut fails h =
       tallies_same (IsPiece copies end) (IsPiece (copies ++ copy ∷ []) end) claim piece_on
@@ -119,7 +119,7 @@ module _ (copies : List (List ℕ)) (copy : List ℕ) (end : ℕ) where
         | inr new ↦ absurd (fails (subst (λ s. PassesParity (slice_range copy s end)) (one_cut start piece.start cut new.0) new.3))
       ]) h
 
-  pub pieces-passed : (claim after : Tally LinkValue) (start : ℕ) → IsCut copy start end → HasContent start end → PassesParity (slice_range copy start end)
+  pub pieces-passed : (claim after : Tally LinkValue) (start : ℕ) → FooterGives copy start end → HasContent start end → PassesParity (slice_range copy start end)
       → TalliesMore claim (link_of copy start end) after → Tallies (IsPiece copies end) claim → Tallies (IsPiece (copies ++ copy ∷ []) end) after
   pieces-passed claim after start cut content passes more h =
       tallies_more (IsPiece copies end) (IsPiece (copies ++ copy ∷ []) end) claim after (link_of copy start end) piece_on
@@ -130,7 +130,7 @@ module _ (copies : List (List ℕ)) (copy : List ℕ) (end : ℕ) where
       ]) more h
 
   -- a slice with which the pieces stay as they are is a piece that was found already, or two others differ
-  pub pieces-kept : (claim : Tally LinkValue) (start : ℕ) → IsCut copy start end → TalliesMore claim (link_of copy start end) claim
+  pub pieces-kept : (claim : Tally LinkValue) (start : ℕ) → FooterGives copy start end → TalliesMore claim (link_of copy start end) claim
       → Tallies (IsPiece copies end) claim → Tallies (IsPiece (copies ++ copy ∷ []) end) claim
   pieces-kept none start cut more h = absurd (cc)
   pieces-kept (one first) start cut more h =
@@ -142,7 +142,7 @@ module _ (copies : List (List ℕ)) (copy : List ℕ) (end : ℕ) where
       ]
   pieces-kept two start cut more h = two_as (IsPiece copies end) (IsPiece (copies ++ copy ∷ []) end) piece_on h
 
-  pub starts-cut : (claim after : Tally ℕ) (start : ℕ) → IsCut copy start end → HasContent start end → TalliesMore claim start after
+  pub starts-cut : (claim after : Tally ℕ) (start : ℕ) → FooterGives copy start end → HasContent start end → TalliesMore claim start after
       → Tallies (IsClaimedStart copies end) claim
       → Tallies (IsClaimedStart (copies ++ copy ∷ []) end) after
   starts-cut claim after start cut content more h =

@@ -12,20 +12,20 @@ use Rattle.std.proofs.lemmas.List.Elements.{All-nil}
 use Rattle.ffv1_bits.specs.Bits.{number_bits, bits_of}
 use Rattle.ffv1_bits.specs.Parity.{AreBytes, PassesParity, polynomial_of, divided, remainder_of}
 use Rattle.ffv1_slice.specs.Setup.{SetupValue}
-use Rattle.ffv1_slice.specs.Chain.{size_before, IsCut, IsEnd, IsLinkOf}
+use Rattle.ffv1_slice.specs.Chain.{size_before, FooterGives, IsEnd, IsLinkOf}
 use Rattle.ffv1_slice.specs.Slices.{IsSliceOf, IsOriginal}
-use Rattle.ffv1_slice.specs.Near.{starts_at, version_at, IsHurtWithin32, IsNear}
-use Rattle.ffv1_slice.proofs.Places.{starts_none, IsCutAt, end_of_tile, tile_of_cut}
+use Rattle.ffv1_slice.specs.Near.{starts_at, version_at, IsDamagedWithin32, IsNear}
+use Rattle.ffv1_slice.proofs.Places.{starts_none, FooterGivesAt, end_of_tile, tile_of_cut}
 use Rattle.ffv1_slice.proofs.FoundLaws.{original_cut, bytes_of_tile}
 use Rattle.ffv1_slice.proofs.NearLaws.{length-range, size_of_range}
 use Rattle.ffv1_slice.proofs.NearVectors as vectors
-use Rattle.ffv1_weave.specs.Grains.{grains}
+use Rattle.ffv1_weave.specs.Splits.{splits}
 use Rattle.ffv1_weave.specs.Combinations.{IsCombinationBy, HasFew, IsTriedBy}
 use Rattle.ffv1_weave.specs.Weave.{AreFew}
 use Rattle.ffv1_splice.specs.Pieces.{HasContent, IsLeast}
 use Rattle.ffv1_splice.specs.Standings.{versions_at, sized, StandsAs, IsStop}
 use Rattle.ffv1_splice.specs.Splice.{SplicedValue, IsSettledDown, IsSettledUp, IsDivisionOf, IsSpliceOf}
-use Rattle.ffv1_splice.specs.Originals.{IsSound, IsIntact, IsNearCopy, AreNearCopies, IsIntactInSome}
+use Rattle.ffv1_splice.specs.Originals.{IsUndamaged, IsIntact, IsNearCopy, AreNearCopies, IsIntactInSome}
 use Rattle.ffv1_splice.specs.Laws as laws
 use Rattle.ffv1_splice.specs.Text.{standing_word, place_words}
 use Rattle.ffv1_splice.specs.declared.place.Standing.TheVariants.{Woven, Voted, Repaired}
@@ -35,7 +35,7 @@ use Rattle.ffv1_splice.proofs.NearCopies.{near_copies_splice}
 -- ---- slices of a setup
 
 module _ (setup : SetupValue) (original : List ℕ) (slices : List (List ℕ)) (is : IsOriginal setup original slices) where
-  cut : IsCutAt original slices
+  cut : FooterGivesAt original slices
   cut = original_cut setup original slices is
 
   -- a link is a tile's slice
@@ -58,12 +58,12 @@ module _ (setup : SetupValue) (original : List ℕ) (slices : List (List ℕ)) (
       let size = length-take (length slice - 8) slice in
       omega (arith, after)
 
-  pub sound_of_setup : AreBytes original → IsSound original
-  sound_of_setup bytes = record {
+  pub undamaged_of_setup : AreBytes original → IsUndamaged original
+  undamaged_of_setup bytes = record {
     whole = subst (IsEnd original) (starts_none slices) (end_of_tile original slices cut 0 (omega arith));
     are_bytes = bytes;
     content = λ start end link.
-        let cut : IsCut original start end = link.cut in
+        let cut : FooterGives original start end = link.cut in
         let at = slice_of_link start end link in
         let size = length-range original start end (omega arith) (end_within original end link.is_end) in
         let filled = slice_filled (get_or slices at.0 []) (at.0 == 0) at.0 (is.each at.0 [] at.1) in
@@ -76,33 +76,33 @@ pub near_of_setup : (setup : SetupValue) (original : List ℕ) (slices : List (L
 near_of_setup setup original slices copy near = record { are_bytes = near.copy_bytes; same_length = near.same_length; each = each }
   where
     each : (start end : ℕ) → IsLinkOf original start end
-        → IsIntact original copy start end ⊎ IsHurtWithin32 (slice_range original start end) (slice_range copy start end)
+        → IsIntact original copy start end ⊎ IsDamagedWithin32 (slice_range original start end) (slice_range copy start end)
     each start end link =
         let at = slice_of_link setup original slices near.is_original start end link in
         let piece : version_at slices copy at.0 ≡ slice_range copy start end =
         ap (λ s. slice_range copy s (starts_at slices (at.0 + 1))) (sym at.2) ∙ ap (λ e. slice_range copy start e) (sym at.3) in
         elim (near.each at.0 [] at.1) [
           | inl intact ↦ inl (sym piece ∙ intact ∙ sym at.4)
-          | inr hurt ↦ inr (subst (λ p. IsHurtWithin32 (slice_range original start end) p) piece
-              (subst (λ s. IsHurtWithin32 s (version_at slices copy at.0)) (sym at.4) hurt))
+          | inr damaged ↦ inr (subst (λ p. IsDamagedWithin32 (slice_range original start end) p) piece
+              (subst (λ s. IsDamagedWithin32 s (version_at slices copy at.0)) (sym at.4) damaged))
         ]
 
 -- ---- two copies of a frame
 
 abbrev pub copies : List (List ℕ)
-copies = vectors.hurt_frame ∷ vectors.other_frame ∷ []
+copies = vectors.damaged_frame ∷ vectors.other_frame ∷ []
 
 near_each : (copy : List ℕ) → Contains copies copy → IsNearCopy vectors.frame copy
 near_each copy there = at there.0 there.1 there.2
   where
     at : (k : ℕ) → k < 2 → get_or copies k copy ≡ copy → IsNearCopy vectors.frame copy
-    at zero lt same = subst (IsNearCopy vectors.frame) same (near_of_setup vectors.setup vectors.frame vectors.slices vectors.hurt_frame vectors.near)
+    at zero lt same = subst (IsNearCopy vectors.frame) same (near_of_setup vectors.setup vectors.frame vectors.slices vectors.damaged_frame vectors.near)
     at (suc zero) lt same =
         subst (IsNearCopy vectors.frame) same (near_of_setup vectors.setup vectors.frame vectors.slices vectors.other_frame vectors.other_near)
     at (suc (suc k)) lt same = absurd (omega arith)
 
 pub are_near : AreNearCopies vectors.frame copies
-are_near = record { sound = sound_of_setup vectors.setup vectors.frame vectors.slices vectors.is_original vectors.near.original_bytes; near = near_each }
+are_near = record { undamaged = undamaged_of_setup vectors.setup vectors.frame vectors.slices vectors.is_original vectors.near.original_bytes; near = near_each }
 
 intact_each : (start end : ℕ) → IsLinkOf vectors.frame start end → IsIntactInSome vectors.frame copies start end
 intact_each start end link = let at = slice_of_link vectors.setup vectors.frame vectors.slices vectors.is_original start end link in
@@ -115,7 +115,7 @@ intact_each start end link = let at = slice_of_link vectors.setup vectors.frame 
     intact : (k : ℕ) → k < 2 → start ≡ starts_at vectors.slices k → end ≡ starts_at vectors.slices (k + 1)
         → slice_range vectors.frame start end ≡ get_or vectors.slices k [] → IsIntactInSome vectors.frame copies start end
     intact zero lt s e is = (vectors.other_frame, (1, omega arith, refl), piece vectors.other_frame 0 s e ∙ vectors.first_intact ∙ sym is)
-    intact (suc zero) lt s e is = (vectors.hurt_frame, (0, omega arith, refl), piece vectors.hurt_frame 1 s e ∙ vectors.second_intact ∙ sym is)
+    intact (suc zero) lt s e is = (vectors.damaged_frame, (0, omega arith, refl), piece vectors.damaged_frame 1 s e ∙ vectors.second_intact ∙ sym is)
     intact (suc (suc k)) lt s e is = absurd (omega arith)
 
 -- neither has the frame, and both together have it
@@ -128,7 +128,7 @@ abbrev zeros : List ℕ
 zeros = replicate 16 0
 
 -- eight zeros are a footer of size 0 that passes its parity
-zeros_pass : IsCut zeros 8 16 × PassesParity (slice_range zeros 8 16)
+zeros_pass : FooterGives zeros 8 16 × PassesParity (slice_range zeros 8 16)
 unfolding number_bits bits_of polynomial_of divided remainder_of
 zeros_pass = (omega arith, (omega arith, refl))
 
@@ -147,9 +147,9 @@ zeros_size end footer within =
     ap (λ n. take n (drop (end - 8) zeros)) eight ∙ ap (take 8) rest ∙ take-replicate 8 (16 - (end - 8)) 0 (omega arith) in
     size_of_range zeros (end - 8) end (omega arith) within ∙ ap (λ slice. size_before slice (length slice)) all
 
-zeros_cut : (copy : List ℕ) (start end : ℕ) → Contains (zeros ∷ []) copy → end ≤ 16 → IsCut copy start end → HasContent start end → ⊥
+zeros_cut : (copy : List ℕ) (start end : ℕ) → Contains (zeros ∷ []) copy → end ≤ 16 → FooterGives copy start end → HasContent start end → ⊥
 zeros_cut copy start end there within cut content =
-    let claim : IsCut zeros start end = subst (λ c. IsCut c start end) (only_copy zeros copy there) cut in
+    let claim : FooterGives zeros start end = subst (λ c. FooterGives c start end) (only_copy zeros copy there) cut in
     let size = zeros_size end (omega arith) within in
     absurd (omega arith)
 
@@ -202,7 +202,7 @@ pub zeros_are_spliced : IsSpliceOf (zeros ∷ []) zeros_spliced
 zeros_are_spliced = record {
   above = [];
   below = [];
-  legs = [];
+  crossings = [];
   floor = 0;
   start = 0;
   end = 16;
@@ -242,12 +242,12 @@ lost_copies = slice_with 0xFD 0xFF 0xFF 0xFF ∷ slice_with 0xFD 0 0 0 ∷ []
 both_sized : map sized (versions_at lost_copies 0 11) ≡ vectors.first_slice ∷ vectors.first_slice ∷ []
 both_sized = refl
 
-lost_cut : (copy : List ℕ) (start : ℕ) → Contains lost_copies copy → IsCut copy start 11 → HasContent start 11 → ⊥
+lost_cut : (copy : List ℕ) (start : ℕ) → Contains lost_copies copy → FooterGives copy start 11 → HasContent start 11 → ⊥
 lost_cut copy start there cut content = at there.0 there.1 there.2
   where
     at : (k : ℕ) → k < 2 → get_or lost_copies k copy ≡ copy → ⊥
-    at zero lt same = let claim : IsCut (slice_with 0xFD 0xFF 0xFF 0xFF) start 11 = subst (λ c. IsCut c start 11) (sym same) cut in absurd (omega arith)
-    at (suc zero) lt same = let claim : IsCut (slice_with 0xFD 0 0 0) start 11 = subst (λ c. IsCut c start 11) (sym same) cut in absurd (omega arith)
+    at zero lt same = let claim : FooterGives (slice_with 0xFD 0xFF 0xFF 0xFF) start 11 = subst (λ c. FooterGives c start 11) (sym same) cut in absurd (omega arith)
+    at (suc zero) lt same = let claim : FooterGives (slice_with 0xFD 0 0 0) start 11 = subst (λ c. FooterGives c start 11) (sym same) cut in absurd (omega arith)
     at (suc (suc k)) lt same = absurd (omega arith)
 
 -- ---- a slice that both copies have
@@ -256,9 +256,9 @@ abbrev pub first_of : {X : Type 0} → (xs : List X) → 0 < length xs → X
 first_of [] some = absurd (omega arith)
 first_of (x ∷ xs) some = x
 
--- the finest grain is tried, where it has few enough combinations
-pub tried_first : (versions : List (List ℕ)) (count : ℕ) → HasFew versions (first_of grains (omega arith)) count
-    → IsTriedBy versions (first_of grains (omega arith)) count
+-- the finest split is tried, where it has few enough combinations
+pub tried_first : (versions : List (List ℕ)) (count : ℕ) → HasFew versions (first_of splits (omega arith)) count
+    → IsTriedBy versions (first_of splits (omega arith)) count
 tried_first versions count few = record { place = 0; there = omega arith; is = refl; finer = λ k lt. absurd (omega arith); few = few }
 
 module _ (slice : List ℕ) where
@@ -270,13 +270,13 @@ module _ (slice : List ℕ) where
       at (suc zero) lt same = sym same
       at (suc (suc k)) lt same = absurd (omega arith)
 
-  pub twice_one : (grain : _) (bytes : List ℕ) → IsCombinationBy grain (slice ∷ slice ∷ []) bytes → bytes ≡ slice
-  twice_one grain bytes is =
+  pub twice_one : (split : _) (bytes : List ℕ) → IsCombinationBy split (slice ∷ slice ∷ []) bytes → bytes ≡ slice
+  twice_one split bytes is =
       let here : Contains (slice ∷ slice ∷ []) slice = (0, omega arith, refl) in
       ext_get_or 0 bytes slice (is.same_length slice here) (λ i lt.
       is.agrees i (λ one other in_one in_other. ap (λ v. get_or v i 0) (twice one in_one ∙ sym (twice other in_other))) slice here)
 
-  twice_combination : IsCombinationBy (first_of grains (omega arith)) (slice ∷ slice ∷ []) slice
+  twice_combination : IsCombinationBy (first_of splits (omega arith)) (slice ∷ slice ∷ []) slice
   twice_combination =
       record {
         same_length = λ version there. ap length (sym (twice version there));
@@ -284,7 +284,7 @@ module _ (slice : List ℕ) where
         parts = λ start end part. (slice, (0, omega arith, refl), refl);
       }
 
-  twice_tried : IsTriedBy (slice ∷ slice ∷ []) (first_of grains (omega arith)) 1
+  twice_tried : IsTriedBy (slice ∷ slice ∷ []) (first_of splits (omega arith)) 1
   twice_tried = tried_first (slice ∷ slice ∷ []) 1 (record {
     numbered = record {
       at = λ k. slice;
@@ -296,7 +296,7 @@ module _ (slice : List ℕ) where
   })
 
   pub twice_few : AreFew (slice ∷ slice ∷ []) 1
-  twice_few = record { grain = first_of grains (omega arith); tried = twice_tried }
+  twice_few = record { split = first_of splits (omega arith); tried = twice_tried }
 
 -- so the first slice is, once both copies have its size
 pub first_slice_passes : PassesParity vectors.first_slice
@@ -315,13 +315,13 @@ lost_stands = inr (inl (
     weave' = (
       record {
         there = record {
-          grain = first_of grains (omega arith);
+          split = first_of splits (omega arith);
           count = 1;
           tried = twice_tried vectors.first_slice;
           combination = twice_combination vectors.first_slice;
           passes = (record { footer = omega arith; size = refl }, first_slice_passes);
         };
-        others = λ other valid. twice_one vectors.first_slice valid.grain other valid.combination;
+        others = λ other valid. twice_one vectors.first_slice valid.split other valid.combination;
       },
       twice_few vectors.first_slice,
     );

@@ -3,7 +3,7 @@ use Rattle.std.proofs.Common.{◌≡◌, ℕ, ◌+◌, ◌≤◌, List, [], ◌�
 use Rattle.std.specs.Prelude.{All, slice_range}
 use Rattle.std.proofs.lemmas.List.Elements.{All-head, All-tail, All-contains_itself}
 use Rattle.ffv1_bits.specs.Parity.{PassesParity}
-use Rattle.ffv1_slice.specs.Chain.{IsCut, IsEnd, IsFramed, LinkValue, link_of}
+use Rattle.ffv1_slice.specs.Chain.{FooterGives, IsEnd, IsFramed, LinkValue, link_of}
 use Rattle.ffv1_slice.specs.Chain.IsEnd.{last, before}
 use Rattle.ffv1_slice.proofs.NearLaws.{length-range, size_of_range}
 use Rattle.ffv1_splice.specs.Pieces.{HasContent, IsPiece}
@@ -24,7 +24,7 @@ use Rattle.ffv1_splice.specs.Whole.{IsWholeFrame, GivenBackIsWhole}
 
 pub record IsLinkPlace (frame : List ℕ) (place : Place) : Type 0 where
   pub content : HasContent place.start place.end
-  pub cut : IsCut frame place.start place.end
+  pub cut : FooterGives frame place.start place.end
   pub passes : PassesParity (slice_range frame place.start place.end)
 
 -- places back from an end to the first byte
@@ -48,7 +48,7 @@ module _ (frame : List ℕ) where
     pub link : IsLinkPlace frame place
     pub rest : ArePlacesTo frame place.start
 
-  next_place : (end start : ℕ) → IsCut frame start end → ArePlacesTo frame end → IsNextPlace end
+  next_place : (end start : ℕ) → FooterGives frame start end → ArePlacesTo frame end → IsNextPlace end
   next_place end start cut to = at to.places to.lie to.links
     where
       at : (places : List Place) → LieFrom end places 0 → All (IsLinkPlace frame) places → IsNextPlace end
@@ -60,9 +60,9 @@ module _ (frame : List ℕ) where
         rest = record { places = places; lie = lie.1; links = All-tail (IsLinkPlace frame) place places links };
       }
 
-  same_start : (end start : ℕ) → IsCut frame start end → (next : IsNextPlace end) → next.place.start ≡ start
+  same_start : (end start : ℕ) → FooterGives frame start end → (next : IsNextPlace end) → next.place.start ≡ start
   same_start end start cut next =
-      let own : IsCut frame next.place.start end = subst (IsCut frame next.place.start) next.ends next.link.cut in
+      let own : FooterGives frame next.place.start end = subst (FooterGives frame next.place.start) next.ends next.link.cut in
       omega arith
 
   module _ (all : ArePlacesTo frame (length frame)) where
@@ -98,7 +98,7 @@ slice_of_piece : (copies : List (List ℕ)) (end : ℕ) (piece : LinkValue) → 
     → IsWholeSlice piece.start end piece.bytes
 slice_of_piece copies end piece reach h =
     let content : HasContent piece.start end = h.content in
-    let cut : IsCut h.copy piece.start end = h.cut in
+    let cut : FooterGives h.copy piece.start end = h.cut in
     let long = reach h.copy h.there in
     let size = length-range h.copy piece.start end (omega arith) long in
     let claim = size_of_range h.copy piece.start end (omega arith) long in

@@ -4,7 +4,7 @@ use Rattle.std.specs.Prelude.{All, Contains, slice_range}
 use Rattle.std.proofs.lemmas.List.Elements.{All-contains_itself}
 use Rattle.std.proofs.lemmas.Bool.{cases_eq}
 use Rattle.ffv1_bits.specs.Parity.{AreBytes, PassesParity}
-use Rattle.ffv1_slice.specs.Chain.{IsCut, IsEnd, IsLinkOf, IsFramed}
+use Rattle.ffv1_slice.specs.Chain.{FooterGives, IsEnd, IsLinkOf, IsFramed}
 use Rattle.ffv1_slice.specs.Chain.IsEnd.{last}
 use Rattle.ffv1_slice.specs.Members.{IsOnly}
 use Rattle.ffv1_slice.proofs.NearLaws.{length-range, size_of_range}
@@ -37,7 +37,7 @@ use Rattle.ffv1_splice.proofs.OriginalLaws.{settled_is_original, as_long, above_
 -- a link's slice has its footer
 framed_link : (original : List ℕ) (start end : ℕ) → IsLinkOf original start end → IsFramed (slice_range original start end)
 framed_link original start end link =
-    let cut : IsCut original start end = link.cut in
+    let cut : FooterGives original start end = link.cut in
     let within = end_within original end link.is_end in
     let size = length-range original start end (omega arith) within in
     let same = size_of_range original start end (omega arith) within in
@@ -190,10 +190,10 @@ woven_is_original original copies spliced place is there = keeps_link original c
 module _ (original : List ℕ) (copies : List (List ℕ)) (spliced : SplicedValue) (of : AreCopiesOf original copies)
     (weavable : AreWeavableDown original copies) (is : IsDivisionOf copies spliced) (given : IsGivenBack spliced) where
   -- a start that is claimed alone is the link's
-  claim_cut : (start end : ℕ) → IsEnd original end → 0 < end → IsOnly (IsClaimedStart copies end) start → IsCut original start end
+  claim_cut : (start end : ℕ) → IsEnd original end → 0 < end → IsOnly (IsClaimedStart copies end) start → FooterGives original start end
   claim_cut start end is_end after only =
       let at = link_at original of.whole end is_end after in
-      subst (λ s. IsCut original s end) (only.others at.0 (weavable.claim at.0 end (record { is_end = is_end; cut = at.1 }))) at.1
+      subst (λ s. FooterGives original s end) (only.others at.0 (weavable.claim at.0 end (record { is_end = is_end; cut = at.1 }))) at.1
 
   -- a link's slice is a combination of what the copies have there with its size
   among_sized : (start end : ℕ) → IsLinkOf original start end → ((copy : List ℕ) → Contains copies copy → AreBytes copy)
@@ -205,20 +205,20 @@ module _ (original : List ℕ) (copies : List (List ℕ)) (spliced : SplicedValu
       (claim_below copies start end claim) are_bytes (framed_link original start end link) (weavable.among start end link)
 
   -- of several starts the one that gives a slice is the link's, since something comes of that
-  several_cut : (start end : ℕ) (bytes : List ℕ) (count : ℕ) → IsEnd original end → IsWeaveOfSeveral copies start end bytes count → IsCut original start end
+  several_cut : (start end : ℕ) (bytes : List ℕ) (count : ℕ) → IsEnd original end → IsWeaveOfSeveral copies start end bytes count → FooterGives original start end
   several_cut start end bytes count is_end h =
       let below = claim_below copies start end h.claim in
       let at = link_at original of.whole end is_end (omega arith) in
       let link : IsLinkOf original at.0 end = record { is_end = is_end; cut = at.1 } in
       elim (cases_eq at.0 start) [
-        | inl same ↦ subst (λ s. IsCut original s end) same at.1
+        | inl same ↦ subst (λ s. FooterGives original s end) same at.1
         | inr apart ↦
             absurd (original_is_woven Slice (slice_range original at.0 end) (map sized (versions_at copies at.0 end)) (weave_missing (get_or h.tried at.0 0))
             (framed_link original at.0 end link, weavable.passes at.0 end link) (among_sized at.0 end link h.are_bytes)
             (h.others at.0 (weavable.claim at.0 end link) apart))
       ]
 
-  cuts : (start end : ℕ) (bytes : List ℕ) (standing : Standing) → IsEnd original end → StandsAs copies start end bytes standing → IsCut original start end
+  cuts : (start end : ℕ) (bytes : List ℕ) (standing : Standing) → IsEnd original end → StandsAs copies start end bytes standing → FooterGives original start end
   cuts start end bytes Settled is_end h = (weavable.agree end (record { start = start; bytes = bytes }) is_end h.there).0.cut
   cuts start end bytes (Woven count) is_end (inl h) =
       let below = claim_below copies start end h.claim.there in claim_cut start end is_end (omega arith) h.claim

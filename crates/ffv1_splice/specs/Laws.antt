@@ -10,7 +10,7 @@ use Rattle.ffv1_weave.specs.Repairs.{IsRepair}
 use Rattle.ffv1_weave.specs.Votes.{IsVote}
 use Rattle.ffv1_splice.specs.Pieces.{IsClaimedStart}
 use Rattle.ffv1_splice.specs.Standings.{versions_at, sized}
-use Rattle.ffv1_splice.specs.Splice.{SplicedValue, IsSpliceOf, IsGivenBack, leg_places}
+use Rattle.ffv1_splice.specs.Splice.{SplicedValue, IsSpliceOf, IsGivenBack, crossing_places}
 use Rattle.ffv1_splice.specs.Originals.{AreCopiesOf, AreConsistentWith, AreConsistentFromBelow, HaveEachLink, IsAmong, AreWeavable, AreNearCopies, IsIntactInSome}
 use Rattle.ffv1_splice.specs.declared.place.Standing.TheVariants.{Settled, Woven, Voted, Repaired, Missing}
 use Rattle.ffv1_splice.specs.declared.place.Place.{Place}
@@ -69,7 +69,7 @@ abbrev pub WalkAcrossIsOriginal : Type 0
 WalkAcrossIsOriginal =
     (original : List ℕ) (copies : List (List ℕ)) (spliced : SplicedValue) → AreCopiesOf original copies → AreConsistentWith original copies
     → AreConsistentFromBelow original copies → ((start end : ℕ) → IsLinkOf original start end → IsClaimedStart copies end start)
-    → (is : IsSpliceOf copies spliced) → All (IsLinkIfSettled original spliced) (leg_places is.legs)
+    → (is : IsSpliceOf copies spliced) → All (IsLinkIfSettled original spliced) (crossing_places is.crossings)
 
 -- ---- what is woven
 

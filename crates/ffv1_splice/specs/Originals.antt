@@ -2,7 +2,7 @@
 use Rattle.std.specs.Prelude.{ℕ, ◌≡◌, ◌≤◌, ◌⊎◌, List, Contains, length, slice_range}
 use Rattle.ffv1_bits.specs.Parity.{AreBytes, PassesParity}
 use Rattle.ffv1_slice.specs.Chain.{IsEnd, IsLinkOf, LinkValue, link_of}
-use Rattle.ffv1_slice.specs.Near.{IsHurtWithin32}
+use Rattle.ffv1_slice.specs.Near.{IsDamagedWithin32}
 use Rattle.ffv1_weave.specs.Combinations.{IsCombination}
 use Rattle.ffv1_splice.specs.Pieces.{HasContent, IsPiece, IsClaimedStart, PieceFrom}
 use Rattle.ffv1_splice.specs.Standings.{versions_at}
@@ -45,7 +45,7 @@ pub record AreWeavable (original : List ℕ) (copies : List (List ℕ)) : Type 0
 -- ---- copies that are near an original
 
 -- An original whose chain is whole, and whose links all have content and pass their parity.
-pub record IsSound (original : List ℕ) : Type 0 where
+pub record IsUndamaged (original : List ℕ) : Type 0 where
   pub whole : IsEnd original 0
   pub are_bytes : AreBytes original
   pub content : (start end : ℕ) → IsLinkOf original start end → HasContent start end
@@ -55,15 +55,15 @@ pub record IsSound (original : List ℕ) : Type 0 where
 abbrev pub IsIntact : List ℕ → List ℕ → (start end : ℕ) → Type 0
 IsIntact original copy start end = slice_range copy start end ≡ slice_range original start end
 
--- A copy as long as the original. Where a link of the original stands, it is intact, or hurt within 32 consecutive bits off the size field.
+-- A copy as long as the original. Where a link of the original stands, it is intact, or damaged within 32 consecutive bits off the size field.
 pub record IsNearCopy (original copy : List ℕ) : Type 0 where
   pub are_bytes : AreBytes copy
   pub same_length : length copy ≡ length original
   pub each : (start end : ℕ) → IsLinkOf original start end
-      → IsIntact original copy start end ⊎ IsHurtWithin32 (slice_range original start end) (slice_range copy start end)
+      → IsIntact original copy start end ⊎ IsDamagedWithin32 (slice_range original start end) (slice_range copy start end)
 
 pub record AreNearCopies (original : List ℕ) (copies : List (List ℕ)) : Type 0 where
-  pub sound : IsSound original
+  pub undamaged : IsUndamaged original
   pub near : (copy : List ℕ) → Contains copies copy → IsNearCopy original copy
 
 -- some copy has the link intact

@@ -5,7 +5,7 @@ use Rattle.std.specs.Ordering.{nat_cmp}
 use Rattle.std.specs.Cmp.Lexicographic.{slice_cmp}
 use Rattle.std.specs.declared.cmp.Ordering.TheVariants.{Less}
 use Rattle.ffv1_bits.specs.Parity.{PassesParity}
-use Rattle.ffv1_slice.specs.Chain.{IsCut, LinkValue}
+use Rattle.ffv1_slice.specs.Chain.{FooterGives, LinkValue}
 
 -- The slice between two places has content before its footer. One without is neither a piece nor a claimed start: a sector of zeros reads
 -- as a row of links of size 0, each of which passes its parity, and no slice of a frame is without content.
@@ -17,7 +17,7 @@ HasContent start end = start + 8 < end
 pub record IsPiece (copies : List (List ℕ)) (end : ℕ) (piece : LinkValue) : Type 0 where
   pub copy : List ℕ
   pub there : Contains copies copy
-  pub cut : IsCut copy piece.start end
+  pub cut : FooterGives copy piece.start end
   pub content : HasContent piece.start end
   pub bytes : piece.bytes ≡ slice_range copy piece.start end
   pub passes : PassesParity piece.bytes
@@ -26,7 +26,7 @@ pub record IsPiece (copies : List (List ℕ)) (end : ℕ) (piece : LinkValue) : 
 pub record IsClaimedStart (copies : List (List ℕ)) (end start : ℕ) : Type 0 where
   pub copy : List ℕ
   pub there : Contains copies copy
-  pub cut : IsCut copy start end
+  pub cut : FooterGives copy start end
   pub content : HasContent start end
 
 -- ---- pieces by where they begin

@@ -88,26 +88,26 @@ pub record IsCrossed (copies : List (List ℕ)) (bound : ℕ) (payload : List �
   pub stands : StandsAs (versions_at copies place.start bound) 0 size (slice_range payload place.start place.end) place.standing
 
 -- one such place, and the places that are settled after it
-pub record Leg : Type 0 where
+pub record Crossing : Type 0 where
   pub over : Place
   pub settled : List Place
 
--- Legs from a start up to a top, each from where the one before it ends.
-abbrev pub AreLegs : List (List ℕ) → (bound : ℕ) → (payload : List ℕ) → (start : ℕ) → List Leg → (top : ℕ) → Type 0
-AreLegs copies bound payload start [] top = start ≡ top
-AreLegs copies bound payload start (leg ∷ legs) top =
-    (leg.over.start ≡ start) × IsCrossed copies bound payload leg.over
-    × (next : ℕ) × IsWalkUp copies bound payload leg.over.end leg.settled next × AreLegs copies bound payload next legs top
+-- Crossings from a start up to a top, each from where the one before it ends.
+abbrev pub AreCrossings : List (List ℕ) → (bound : ℕ) → (payload : List ℕ) → (start : ℕ) → List Crossing → (top : ℕ) → Type 0
+AreCrossings copies bound payload start [] top = start ≡ top
+AreCrossings copies bound payload start (crossing ∷ crossings) top =
+    (crossing.over.start ≡ start) × IsCrossed copies bound payload crossing.over
+    × (next : ℕ) × IsWalkUp copies bound payload crossing.over.end crossing.settled next × AreCrossings copies bound payload next crossings top
 
--- Legs as far as there are any, and 64 at most.
-pub record IsWalkAcross (copies : List (List ℕ)) (bound : ℕ) (payload : List ℕ) (start : ℕ) (legs : List Leg) (top : ℕ) : Type 0 where
-  pub are : AreLegs copies bound payload start legs top
-  pub few : length legs ≤ MOST_CROSSED
-  pub stop : (length legs ≡ MOST_CROSSED) ⊎ ((end : ℕ) → IsLostUpTo (versions_at copies top bound) (bound - top) end → ⊥)
+-- Crossings as far as there are any, and 64 at most.
+pub record IsWalkAcross (copies : List (List ℕ)) (bound : ℕ) (payload : List ℕ) (start : ℕ) (crossings : List Crossing) (top : ℕ) : Type 0 where
+  pub are : AreCrossings copies bound payload start crossings top
+  pub few : length crossings ≤ MOST_CROSSED
+  pub stop : (length crossings ≡ MOST_CROSSED) ⊎ ((end : ℕ) → IsLostUpTo (versions_at copies top bound) (bound - top) end → ⊥)
 
 -- their places, from the start up
-abbrev pub leg_places : List Leg → List Place
-leg_places legs = flat_map (λ leg. leg.over ∷ leg.settled) legs
+abbrev pub crossing_places : List Crossing → List Place
+crossing_places crossings = flat_map (λ crossing. crossing.over ∷ crossing.settled) crossings
 
 -- ---- the hole between them
 
@@ -146,7 +146,7 @@ hole_places start hole = map (moved_by start) hole.places ++ undivided_places st
 pub record IsSpliceOf (copies : List (List ℕ)) (spliced : SplicedValue) : Type 0 where
   pub above : List Place
   pub below : List Place
-  pub legs : List Leg
+  pub crossings : List Crossing
   pub floor : ℕ
   pub start : ℕ
   pub end : ℕ
@@ -156,10 +156,10 @@ pub record IsSpliceOf (copies : List (List ℕ)) (spliced : SplicedValue) : Type
   pub down : IsWalkDown copies spliced.payload above end
   pub room : IsBound copies end bound
   pub up : IsWalkUp copies bound spliced.payload 0 below floor
-  pub across : IsWalkAcross copies bound spliced.payload floor legs start
+  pub across : IsWalkAcross copies bound spliced.payload floor crossings start
   pub divided : IsDivisionOf (versions_at copies start end) hole
   pub bytes : hole.payload ≡ slice_range spliced.payload start end
-  pub places : spliced.places ≡ above ++ (hole_places start hole ++ reverse (below ++ leg_places legs))
+  pub places : spliced.places ≡ above ++ (hole_places start hole ++ reverse (below ++ crossing_places crossings))
   pub front : spliced.front ≡ front_of start hole.front
 
 -- a slice that passes its parity stands there

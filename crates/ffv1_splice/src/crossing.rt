@@ -1,10 +1,10 @@
 //! The walk of a splice up from its start: places are settled, and where that stops, the walk goes on over slices that are lost in all
 //! copies.
 ghost use Rattle.std.specs.Prelude.{◌≡◌, ◌+◌, ◌-◌, ◌++◌, ◌<◌, ◌≤◌, ℕ, List, [], ◌∷◌, length, map, take, All, IfOk, MatchOption};
-ghost use Rattle.ffv1_slice.specs.Chain.{IsCut};
+ghost use Rattle.ffv1_slice.specs.Chain.{FooterGives};
 ghost use Rattle.ffv1_splice.specs.Standings.{versions_at};
 ghost use Rattle.ffv1_splice.specs.Inner.Tally.{Tallies, starts_tally};
-ghost use Rattle.ffv1_splice.specs.Splice.{IsWalkUp, IsWalkAcross, IsCrossed, IsClaimedEnd, IsLostUpTo, Leg, leg_places};
+ghost use Rattle.ffv1_splice.specs.Splice.{IsWalkUp, IsWalkAcross, IsCrossed, IsClaimedEnd, IsLostUpTo, Crossing, crossing_places};
 ghost use Rattle.ffv1_splice.specs.Inner.Splice.{IsNextClaimed};
 ghost use Rattle.ffv1_splice.specs.declared.place.Place.{Place};
 
@@ -29,10 +29,10 @@ pub(crate) fn walk_up(
 ) -> Result<(Vec<Place>, usize), AllocError>
     requires some { 0 < length copies.now }
     requires long { All (λ copy. length payload.old ≤ length copy.now) copies.now }
-    ensures walk { IfOk result (λ walk. (below : List Place) × (legs : List Leg) × (floor : ℕ)
-        × (walk.0.items ≡ below ++ leg_places legs)
+    ensures walk { IfOk result (λ walk. (below : List Place) × (crossings : List Crossing) × (floor : ℕ)
+        × (walk.0.items ≡ below ++ crossing_places crossings)
         × IsWalkUp (map (λ copy. copy.now) copies.now) (length payload.old) payload.new 0 below floor
-        × IsWalkAcross (map (λ copy. copy.now) copies.now) (length payload.old) payload.new floor legs walk.1) }
+        × IsWalkAcross (map (λ copy. copy.now) copies.now) (length payload.old) payload.new floor crossings walk.1) }
     ensures within { IfOk result (λ walk. walk.1 ≤ length payload.new) }
     ensures long { IfOk result (λ _. length payload.new ≡ length payload.old) }
 {

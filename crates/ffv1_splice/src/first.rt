@@ -8,7 +8,7 @@ ghost use Rattle.ffv1_splice.specs.declared.place.Standing.TheVariants.{Woven};
 use crate::sized::weave_sized;
 use ffv1_bits::SLICE_LIMIT;
 use ffv1_slice::FOOTER_LENGTH;
-use ffv1_weave::Outcome;
+use ffv1_weave::WeaveResult;
 use std::alloc::{AllocError, Global};
 
 /// What is woven from the copies' start up to an end at which no piece ends and no start is claimed, and of how many combinations. It is
@@ -30,7 +30,7 @@ pub(crate) fn first_woven(
         return Ok(None);
     }
     match weave_sized(alloc, copies, 0, end)? {
-        Outcome::Woven(bytes, count) => Ok(Some((bytes, count))),
+        WeaveResult::Woven(bytes, count) => Ok(Some((bytes, count))),
         _ => Ok(None),
     }
 }

@@ -13,7 +13,7 @@ use crate::first::first_woven;
 use crate::place::{Place, Standing};
 use crate::several::several_woven;
 use crate::tally::{Pieces, Starts, least_at, tally_at};
-use ffv1_weave::{Check, Outcome, repair, vote, weave};
+use ffv1_weave::{Check, WeaveResult, repair, vote, weave};
 use std::alloc::{AllocError, Global};
 
 /// The place that ends there, which is written over the payload's bytes. Each copy has the end, and so has the payload.
@@ -133,16 +133,16 @@ pub(crate) fn weave_at(
     let versions = versions_at(alloc, copies, start, end)?;
     let versions = versions.as_slice();
     let all_tried = match weave(alloc, Check::Slice, versions)? {
-        Outcome::Woven(bytes, count) => {
+        WeaveResult::Woven(bytes, count) => {
             write_at(payload, start, bytes.as_slice());
             return Ok(Standing::Woven(count));
         }
-        Outcome::Disputed => {
+        WeaveResult::Disputed => {
             write_at(payload, start, least_at(copies, start, end));
             return Ok(Standing::Disputed);
         }
-        Outcome::Missing(_) => true,
-        Outcome::TooMany => false,
+        WeaveResult::Missing(_) => true,
+        WeaveResult::TooMany => false,
     };
     vote_at(alloc, copies, versions, all_tried, start, end, payload)
 }

@@ -1,7 +1,7 @@
 //! The slice that ends at a place where the footers claim several starts: it begins at the one from which it can be woven.
 ghost use Rattle.std.specs.Prelude.{◌≡◌, ◌≤◌, ◌<◌, ℕ, List, Contains, length, map, min, All, IfOk, MatchOption};
 ghost use Rattle.ffv1_bits.specs.Parity.{AreBytes};
-ghost use Rattle.ffv1_slice.specs.Chain.{IsCut};
+ghost use Rattle.ffv1_slice.specs.Chain.{FooterGives};
 ghost use Rattle.ffv1_slice.specs.Members.{IsOfNone, IsOfTwo};
 ghost use Rattle.ffv1_weave.specs.Weave.{weave_tally};
 ghost use Rattle.ffv1_weave.specs.Weave.Weave.{woven, missing};
@@ -12,7 +12,7 @@ ghost use Rattle.ffv1_splice.specs.Inner.Several.{IsNextClaimedStart, AreTriedBe
 
 use crate::sized::weave_sized;
 use crate::tally::claimed_start;
-use ffv1_weave::Outcome;
+use ffv1_weave::WeaveResult;
 use std::alloc::{AllocError, Global};
 
 /// What came of the starts that were tried.
@@ -28,13 +28,13 @@ pub(crate) enum Tried {
 
 impl Tried {
     /// The same with what comes of one more start.
-    fn with(self, start: usize, outcome: Outcome) -> Tried
+    fn with(self, start: usize, outcome: WeaveResult) -> Tried
         ensures { tried_tally result ≡ tried_more (tried_tally self) start (weave_tally outcome) }
     {
         match outcome {
-            Outcome::Woven(bytes, more) => self.with_woven(start, bytes, more),
-            Outcome::Missing(more) => self.with_missing(more),
-            Outcome::Disputed | Outcome::TooMany => Tried::Undecided,
+            WeaveResult::Woven(bytes, more) => self.with_woven(start, bytes, more),
+            WeaveResult::Missing(more) => self.with_missing(more),
+            WeaveResult::Disputed | WeaveResult::TooMany => Tried::Undecided,
         }
     }
 
@@ -119,8 +119,8 @@ fn next_claimed_start(copies: &[&[u8]], end: usize, from: usize) -> Option<usize
 /// The start that a copy claims at an end, if it is not before a place.
 fn claimed_from(copy: &[u8], end: usize, from: usize) -> Option<usize>
     requires { end ≤ length copy.now }
-    ensures claim { MatchOption result ((start : ℕ) → IsCut copy.now start end → HasContent start end → start < from)
-        (λ start. IsCut copy.now start end × HasContent start end × from ≤ start) }
+    ensures claim { MatchOption result ((start : ℕ) → FooterGives copy.now start end → HasContent start end → start < from)
+        (λ start. FooterGives copy.now start end × HasContent start end × from ≤ start) }
     ensures bytes { AreBytes copy.now }
 {
     let Some(start) = claimed_start(copy, end) else {

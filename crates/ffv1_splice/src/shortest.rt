@@ -1,6 +1,6 @@
 //! The shortest slice that begins at a place: of those with content that pass their parity, one that ends first.
 ghost use Rattle.std.specs.Prelude.{◌+◌, ◌≤◌, ◌↔◌, [], ◌∷◌, length, map, slice_range, All, IsTrue, MatchOption};
-ghost use Rattle.ffv1_slice.specs.Chain.{IsCut};
+ghost use Rattle.ffv1_slice.specs.Chain.{FooterGives};
 ghost use Rattle.ffv1_slice.specs.Members.{IsOfNone};
 ghost use Rattle.ffv1_splice.specs.Pieces.{IsPieceFrom, IsShortest};
 ghost use Rattle.ffv1_splice.specs.Inner.Claims.{LacksClaims, IsFirstClaim};
@@ -111,7 +111,7 @@ pub(crate) fn first_claim(copy: &[u8], start: usize, from: usize, last: usize) -
 fn claims(copy: &[u8], start: usize, end: usize) -> bool
     requires content { start + 8 ≤ end }
     requires within { end ≤ length copy.now }
-    ensures { IsTrue result ↔ IsCut copy.now start end }
+    ensures { IsTrue result ↔ FooterGives copy.now start end }
 {
     let size = end - FOOTER_LENGTH - start;
     usize::from(copy[end - 6]) == size % 256 && slice_start(copy, end) == Some(start)

@@ -1,4 +1,4 @@
-//! What copies have of a slice whose size field may be hurt in each, woven with the size that the slice has.
+//! What copies have of a slice whose size field may be damaged in each, woven with the size that the slice has.
 ghost use Rattle.std.specs.Prelude.{◌≡◌, ◌+◌, ◌-◌, ◌≤◌, ◌<◌, ◌^◌, length, map, All, IfOk};
 ghost use Rattle.ffv1_splice.specs.Standings.{versions_at, sized};
 ghost use Rattle.ffv1_weave.specs.Weave.{IsWeaveOf, weave_tally};
@@ -6,7 +6,7 @@ ghost use Rattle.ffv1_weave.specs.declared.check.Check.TheVariants.{Slice};
 
 use byteorder::{BigEndian, ByteOrder};
 use ffv1_slice::FOOTER_LENGTH;
-use ffv1_weave::{Check, Outcome, weave};
+use ffv1_weave::{Check, WeaveResult, weave};
 use std::alloc::{AllocError, Global};
 
 /// The weave of what copies have from a start up to an end, each with the size of a slice that is as long. Each copy has the end. It takes
@@ -16,7 +16,7 @@ pub(crate) fn weave_sized(
     copies: &[&[u8]],
     start: usize,
     end: usize,
-) -> Result<Outcome, AllocError>
+) -> Result<WeaveResult, AllocError>
     requires some { 0 < length copies.now }
     requires within { All (λ copy. end ≤ length copy.now) copies.now }
     requires footer { start + 8 ≤ end }

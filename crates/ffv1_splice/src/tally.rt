@@ -1,6 +1,6 @@
 //! The pieces that end at a place, and the starts that copies claim there, each copy looked at once.
 ghost use Rattle.std.specs.Prelude.{◌≡◌, ◌≤◌, ◌<◌, ◌↔◌, ℕ, IsTrue, length, map, All, MatchOption};
-ghost use Rattle.ffv1_slice.specs.Chain.{IsCut};
+ghost use Rattle.ffv1_slice.specs.Chain.{FooterGives};
 ghost use Rattle.ffv1_splice.specs.Pieces.{HasContent, IsPiece, IsClaimedStart, IsLeast};
 ghost use Rattle.ffv1_splice.specs.Inner.Tally.{Tallies, TalliesMore, TalliesBoth, pieces_tally, starts_tally};
 
@@ -81,8 +81,8 @@ impl Starts {
 /// as a row of such slices, each of which passes its parity.
 pub(crate) fn claimed_start(copy: &[u8], end: usize) -> Option<usize>
     requires { end ≤ length copy.now }
-    ensures { MatchOption result ((start : ℕ) → IsCut copy.now start end → HasContent start end → ⊥)
-        (λ start. IsCut copy.now start end × HasContent start end) }
+    ensures { MatchOption result ((start : ℕ) → FooterGives copy.now start end → HasContent start end → ⊥)
+        (λ start. FooterGives copy.now start end × HasContent start end) }
 {
     match slice_start(copy, end) {
         Some(start) if start + FOOTER_LENGTH < end => Some(start),

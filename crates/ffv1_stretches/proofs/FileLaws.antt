@@ -12,9 +12,9 @@ use Rattle.ffv1_mend.proofs.MendLaws.{same_versions_mend}
 use Rattle.ffv1_mend.proofs.Vouched.{good_is_vouched}
 use Rattle.ffv1_mend.proofs.Covered.{original_is_mended}
 use Rattle.ffv1_stretches.specs.Stretches.{StretchValue}
-use Rattle.ffv1_stretches.specs.Cells.{cell_of, cells_of, versions_in, IsOutcome}
+use Rattle.ffv1_stretches.specs.Cells.{cell_of, cells_of, versions_in, IsStretchMend}
 use Rattle.ffv1_stretches.specs.Passes.{bytes_of}
-use Rattle.ffv1_stretches.specs.Laws.{AreOutcomes, IsReordered, AnyOrderMends, GoodStretchesAreVouched, OriginalFileIsMended, AreFronts, FrontsAreEnough}
+use Rattle.ffv1_stretches.specs.Laws.{AreStretchMends, IsReordered, AnyOrderMends, GoodStretchesAreVouched, OriginalFileIsMended, AreFronts, FrontsAreEnough}
 use Rattle.ffv1_stretches.proofs.FileLemmas.{joined, kept_all}
 
 -- ---- the versions among cells in another order
@@ -79,7 +79,7 @@ module _ (files others : List (List ℕ)) (stretch other : StretchValue) (is : I
       ∙ ap (λ pair. cell_of other.size pair.0 pair.1) is.from'
       ∙ sym (get_or-map (λ pair. cell_of other.size pair.0 pair.1) (zip others other.places) other.from ([], None))
 
-  mend_alike : (one again : MendedValue) → IsOutcome (cells_of files stretch) stretch one → IsOutcome (cells_of others other) other again → one ≡ again
+  mend_alike : (one again : MendedValue) → IsStretchMend (cells_of files stretch) stretch one → IsStretchMend (cells_of others other) other again → one ≡ again
   mend_alike one again mends mends_again =
       let same : Some mends.from ≡ Some mends_again.from = sym mends.from_is ∙ from_moved ∙ mends_again.from_is in
       let from : mends.from ≡ mends_again.from = cc in
@@ -154,6 +154,6 @@ wholes_joined (f ∷ files) (w ∷ wholes) fronts =
 
 pub fronts_are_enough : FrontsAreEnough
 fronts_are_enough files wholes stretches mended order ends fronts outcomes =
-    subst (λ contents. AreOutcomes contents stretches mended) (wholes_joined files wholes fronts)
+    subst (λ contents. AreStretchMends contents stretches mended) (wholes_joined files wholes fronts)
     (kept_all (length files) 1 (replicate (length files) 0) stretches mended files (rests_of files wholes fronts) order
     (length-replicate (length files) 0) ends (rests_counted files wholes fronts) outcomes).0

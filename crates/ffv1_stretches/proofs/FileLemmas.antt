@@ -10,7 +10,7 @@ use Rattle.ffv1_devices.specs.Exact.{StopsReading}
 use Rattle.ffv1_devices.proofs.Steps.{Reads-trans}
 use Rattle.ffv1_mend.specs.Mended.{MendedValue}
 use Rattle.ffv1_stretches.specs.Stretches.{StretchValue, HasPlace, IsAfter, end_after, ends_after, AreInOrder}
-use Rattle.ffv1_stretches.specs.Cells.{cell_of, cells_of, IsOutcome}
+use Rattle.ffv1_stretches.specs.Cells.{cell_of, cells_of, IsStretchMend}
 use Rattle.ffv1_stretches.specs.Inner.CellSteps.{HasVersion, IsAsLong, HasRoom, held_cell, held_cells}
 use Rattle.ffv1_stretches.specs.Copies.{CopyState}
 use Rattle.ffv1_stretches.specs.Lines.{stretch_text, mend_text}
@@ -77,10 +77,10 @@ step_cell : (size : ℕ) (place : Option ℕ) (old new : CopyState) (more : List
 step_cell size None old new more step file long = refl
 step_cell size (Some place) old new more step file long =
     let front : List ℕ = file ++ step.before in
-    let seam : length (file ++ step.before) ≡ place = omega (arith, length-append file step.before, long, step.gap) in
+    let boundary : length (file ++ step.before) ≡ place = omega (arith, length-append file step.before, long, step.gap) in
     let whole : file ++ more ≡ (file ++ step.before) ++ step.here = ap (λ m. file ++ m) step.whole ∙ sym (append_assoc file step.before step.here) in
     let there : take size (drop place (file ++ more)) ≡ step.here =
-    ap (λ b. take size (drop place b)) whole ∙ ap (λ n. take size (drop n ((file ++ step.before) ++ step.here))) (sym seam)
+    ap (λ b. take size (drop place b)) whole ∙ ap (λ n. take size (drop n ((file ++ step.before) ++ step.here))) (sym boundary)
     ∙ ap (take size) (drop-append_seam (file ++ step.before) step.here) ∙ ap (λ n. take n step.here) (sym step.long) ∙ take-length step.here in
     ap Some (step.held ∙ sym there)
 
@@ -247,9 +247,9 @@ module _ (size : ℕ) where
   stopped_short Went (s ∷ steps) place old new more rest (o ∷ olds) (f ∷ files) stop read =
       stopped_short Went steps place old new more rest olds files stop read.1
 
-pub at_seam : {X : Type 0} (xs : List X) (x : X) (ys : List X) (d : X) → get_or (xs ++ x ∷ ys) (length xs) d ≡ x
-at_seam [] x ys d = refl
-at_seam (y ∷ xs) x ys d = at_seam xs x ys d
+pub at_boundary : {X : Type 0} (xs : List X) (x : X) (ys : List X) (d : X) → get_or (xs ++ x ∷ ys) (length xs) d ≡ x
+at_boundary [] x ys d = refl
+at_boundary (y ∷ xs) x ys d = at_boundary xs x ys d
 
 -- ---- the cells of a stretch that was read
 
@@ -363,8 +363,8 @@ ends_rise copies ends (s ∷ rest) order long =
 -- What became of stretches is so with more of the copies read, and so are their lines.
 pub kept_all : (copies number : ℕ) (ends : List ℕ) (front : List StretchValue) (mended : List MendedValue) (files mores : List (List ℕ))
     → AreInOrder copies ends front → length ends ≡ copies → AreBelow (fold ends_after ends front) files → length mores ≡ length files
-    → AllZip (λ stretch one. IsOutcome (cells_of files stretch) stretch one) front mended
-    → AllZip (λ stretch one. IsOutcome (cells_of (joined files mores) stretch) stretch one) front mended
+    → AllZip (λ stretch one. IsStretchMend (cells_of files stretch) stretch one) front mended
+    → AllZip (λ stretch one. IsStretchMend (cells_of (joined files mores) stretch) stretch one) front mended
     × (mend_text number (joined files mores) front mended ≡ mend_text number files front mended)
 kept_all copies number ends [] [] files mores order long below as_many outcomes = (tt, refl)
 kept_all copies number ends [] (m ∷ mended) files mores order long below as_many outcomes = absurd outcomes
@@ -376,7 +376,7 @@ kept_all copies number ends (s ∷ front) (m ∷ mended) files mores order long 
     let cells : cells_of (joined files mores) s ≡ cells_of files s =
     cells_kept s.size files mores s.places (lies_within s.size ends s.places files count own) as_many in
     let rest = kept_all copies (number + 1) (ends_after ends s) front mended files mores order.2 next below as_many outcomes.1 in (
-      (subst (λ cells. IsOutcome cells s m) (sym cells) outcomes.0, rest.0),
+      (subst (λ cells. IsStretchMend cells s m) (sym cells) outcomes.0, rest.0),
       ap (λ cells. stretch_text number cells s m ++ mend_text (number + 1) (joined files mores) front mended) cells
           ∙ ap (λ lines. stretch_text number (cells_of files s) s m ++ lines) rest.1,
     )
@@ -384,7 +384,7 @@ kept_all copies number ends (s ∷ front) (m ∷ mended) files mores order long 
 -- ---- one stretch more
 
 pub text_push : (number : ℕ) (files : List (List ℕ)) (front : List StretchValue) (mended : List MendedValue) (s : StretchValue) (m : MendedValue)
-    → AllZip (λ stretch one. IsOutcome (cells_of files stretch) stretch one) front mended
+    → AllZip (λ stretch one. IsStretchMend (cells_of files stretch) stretch one) front mended
     → mend_text number files (front ++ s ∷ []) (mended ++ m ∷ []) ≡ mend_text number files front mended ++ stretch_text (number + length front) (cells_of files s) s m
 text_push number files [] [] s m outcomes =
     append-nil (stretch_text number (cells_of files s) s m) ∙ ap (λ n. stretch_text n (cells_of files s) s m) (let e : number ≡ number + 0 = omega arith in e)

@@ -10,7 +10,7 @@ use Rattle.ffv1_mend.specs.Mended.{MendedValue, IsMendOf, IsElementMend, HasPart
 use Rattle.ffv1_mend.specs.Improved.{IsPartMend}
 use Rattle.ffv1_mend.specs.declared.part.Part.{Part}
 use Rattle.ffv1_stretches.specs.Stretches.{StretchValue}
-use Rattle.ffv1_stretches.specs.Cells.{versions_in, IsOutcome}
+use Rattle.ffv1_stretches.specs.Cells.{versions_in, IsStretchMend}
 use Rattle.ffv1_stretches.specs.Inner.CellSteps.{cell_now, IsUnspliced}
 use Rattle.ffv1_stretches.specs.Lines.{is_same}
 use Rattle.ffv1_stretches.proofs.CellLemmas.{cell_at, there_among}
@@ -32,7 +32,7 @@ same_cell : (cells : List (Option (List ℕ))) (bytes : List ℕ) → IsOnly (Co
 same_cell cells bytes only k None is = refl
 same_cell cells bytes only k (Some version) is = same_bytes version bytes (only.others version (there_among cells k version is))
 
-pub known_same : (cells : List (Option (Bor (List ℕ)))) (stretch : StretchValue) (mended : MendedValue) → IsOutcome (map cell_now cells) stretch mended
+pub known_same : (cells : List (Option (Bor (List ℕ)))) (stretch : StretchValue) (mended : MendedValue) → IsStretchMend (map cell_now cells) stretch mended
     → IsUnspliced stretch mended → All (λ cell. is_same mended.bytes (cell_now cell) ≡ true) cells
 known_same cells stretch mended outcome is k d lt =
     let versions : List (List ℕ) = versions_in (map cell_now cells) in

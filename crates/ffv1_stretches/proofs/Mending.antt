@@ -16,7 +16,7 @@ use Rattle.ffv1_mend.proofs.PartSteps.{zip_push}
 use Rattle.ffv1_stretches.specs.declared.pass.MendFault.{MendFault}
 use Rattle.ffv1_stretches.specs.declared.pass.MendFault.TheVariants as faults
 use Rattle.ffv1_stretches.specs.Stretches.{StretchValue, IsStretchOf, FollowsStretch, ends_after, ends_of, AreInOrder}
-use Rattle.ffv1_stretches.specs.Cells.{cells_of, IsOutcome}
+use Rattle.ffv1_stretches.specs.Cells.{cells_of, IsStretchMend}
 use Rattle.ffv1_stretches.specs.Inner.CellSteps.{HasVersion, IsAsLong, HasRoom, held_cells}
 use Rattle.ffv1_stretches.specs.Copies.{CopyState, state_of}
 use Rattle.ffv1_stretches.specs.declared.copy.CopyReader.{CopyReader}
@@ -28,7 +28,7 @@ use Rattle.ffv1_stretches.proofs.ListLemmas.{ends_of-push}
 use Rattle.ffv1_stretches.proofs.OrderLemmas.{in_order_last, in_order_front}
 use Rattle.ffv1_stretches.proofs.Pairs.{pairs_so, pairs_long}
 use Rattle.ffv1_stretches.proofs.PassLemmas.{parted_at}
-use Rattle.ffv1_stretches.proofs.FileLemmas.{joined, AreReadAs, ends_are_lengths, as_many_files, all_are_read, places_of, olds_of, mores_of, read_on, held_all, cells_here, ends_on, stopped_mores, but_one_read, all_read_so_far, stopped_most, stopped_short, at_seam, long_cells, has_version, AreBelow, Rise, most_later, ends_rise, kept_all, text_push}
+use Rattle.ffv1_stretches.proofs.FileLemmas.{joined, AreReadAs, ends_are_lengths, as_many_files, all_are_read, places_of, olds_of, mores_of, read_on, held_all, cells_here, ends_on, stopped_mores, but_one_read, all_read_so_far, stopped_most, stopped_short, at_boundary, long_cells, has_version, AreBelow, Rise, most_later, ends_rise, kept_all, text_push}
 
 abbrev pub ends_at : List CopyState → List ℕ
 ends_at states = map (λ state. state.end) states
@@ -47,7 +47,7 @@ pub record IsMended (copies : ℕ) (front : List StretchValue) (olds : List Read
   pub read : AreReadAs olds states files
   pub ends : ends_at states ≡ ends_of copies front
   pub mended : List MendedValue
-  pub outcomes : AllZip (λ stretch one. IsOutcome (cells_of files stretch) stretch one) front mended
+  pub outcomes : AllZip (λ stretch one. IsStretchMend (cells_of files stretch) stretch one) front mended
   pub wrote : Writes out_old out_new (bytes_of mended)
   pub printed : Writes output_old output_new (mend_text 1 files front mended)
   pub all : good ≡ list_all (λ one. is_good one.state) mended
@@ -171,7 +171,7 @@ module _ (copies : ℕ) (stretches front : List StretchValue) (s : StretchValue)
     abbrev more_files : List (List ℕ)
     more_files = joined so_far.files mores
 
-    kept : AllZip (λ stretch one. IsOutcome (cells_of more_files stretch) stretch one) front so_far.mended
+    kept : AllZip (λ stretch one. IsStretchMend (cells_of more_files stretch) stretch one) front so_far.mended
         × (mend_text 1 more_files front so_far.mended ≡ mend_text 1 so_far.files front so_far.mended)
     kept = kept_all copies 1 (replicate copies 0) front so_far.mended so_far.files mores front_order (length-replicate copies 0) below as_many so_far.outcomes
 
@@ -264,7 +264,7 @@ module _ (copies : ℕ) (stretches front : List StretchValue) (s : StretchValue)
           place = stops.stop.start;
           there = ap (λ (ps : List (Option ℕ)). get_or ps copy None) stops.places'
               ∙ ap (λ n. get_or (places_of stops.steps ++ stops.place ∷ stops.later) n None) (stop.1 ∙ sym (length-map stops.steps (λ (t : CopyStep s.size). t.place)))
-              ∙ at_seam (places_of stops.steps) stops.place stops.later None ∙ stops.stop.there;
+              ∙ at_boundary (places_of stops.steps) stops.place stops.later None ∙ stops.stop.there;
           short = subst (λ n. length (get_or (joined so_far.files mores) n []) < stops.stop.start + s.size) (sym stop.1)
               (stopped_short s.size StopsReading stops.steps stops.place stops.old stops.new stops.more stops.rest olds so_far.files stops.stop read);
         },
@@ -350,16 +350,16 @@ module _ (copies : ℕ) (stretches front : List StretchValue) (s : StretchValue)
       subst (Writes x y) (sym (same_text mores next_many next_most)) so_far.printed,
     )
 
-    module _ (one : MendedValue) (outcome : IsOutcome (held_cells s.size s.places (rooms_at news)) s one) where
+    module _ (one : MendedValue) (outcome : IsStretchMend (held_cells s.size s.places (rooms_at news)) s one) where
       abbrev next_mended : List MendedValue
       next_mended = so_far.mended ++ one ∷ []
 
-      kept' : AllZip (λ stretch one. IsOutcome (cells_of next_files stretch) stretch one) front so_far.mended
+      kept' : AllZip (λ stretch one. IsStretchMend (cells_of next_files stretch) stretch one) front so_far.mended
       kept' = (front_more mores next_many next_most).outcomes
 
-      next_outcomes : AllZip (λ stretch one. IsOutcome (cells_of next_files stretch) stretch one) (front ++ s ∷ []) next_mended
-      next_outcomes = zip_push (λ stretch one. IsOutcome (cells_of next_files stretch) stretch one) front so_far.mended s one kept'
-          (subst (λ cells. IsOutcome cells s one) cells_are outcome)
+      next_outcomes : AllZip (λ stretch one. IsStretchMend (cells_of next_files stretch) stretch one) (front ++ s ∷ []) next_mended
+      next_outcomes = zip_push (λ stretch one. IsStretchMend (cells_of next_files stretch) stretch one) front so_far.mended s one kept'
+          (subst (λ cells. IsStretchMend cells s one) cells_are outcome)
 
       next_bytes : bytes_of next_mended ≡ bytes_of so_far.mended ++ one.bytes
       next_bytes = flat_map-append (λ (m : MendedValue). m.bytes) so_far.mended (one ∷ []) ∙ ap (λ last. bytes_of so_far.mended ++ last) (append-nil one.bytes)
@@ -462,7 +462,7 @@ all_mended copies stretches olds states a b x y good done count =
       };
       wrote = done.wrote;
       printed = done.printed;
-      answer = done.all;
+      returned = done.all;
     }
 
 -- ---- the first and the last of copies as they are held

@@ -18,7 +18,7 @@ abbrev pub versions_in : List (Option (List ℕ)) → List (List ℕ)
 versions_in cells = filter_map (λ cell. cell) cells
 
 -- What becomes of a stretch of which the copies have this. The version of its copy FROM is taken where nothing vouches for any.
-pub record IsOutcome (cells : List (Option (List ℕ))) (stretch : StretchValue) (mended : MendedValue) : Type 0 where
+pub record IsStretchMend (cells : List (Option (List ℕ))) (stretch : StretchValue) (mended : MendedValue) : Type 0 where
   pub from : List ℕ
   pub from_is : slice_index_or cells stretch.from None ≡ Some from
   pub mends : IsMendOf stretch.kind (versions_in cells) from stretch.parts mended

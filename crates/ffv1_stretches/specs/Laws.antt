@@ -5,12 +5,12 @@ use Rattle.std.specs.List.Sorted.{IsPermutation}
 use Rattle.ffv1_mend.specs.Mended.{MendedValue, is_good}
 use Rattle.ffv1_mend.specs.Laws.{IsVouched, HasOriginal}
 use Rattle.ffv1_stretches.specs.Stretches.{StretchValue, AreInOrder, ends_of}
-use Rattle.ffv1_stretches.specs.Cells.{cells_of, versions_in, IsOutcome}
+use Rattle.ffv1_stretches.specs.Cells.{cells_of, versions_in, IsStretchMend}
 use Rattle.ffv1_stretches.specs.Passes.{bytes_of}
 
 -- What becomes of the stretches of copies that are these files.
-abbrev pub AreOutcomes : List (List ℕ) → List StretchValue → List MendedValue → Type 0
-AreOutcomes files stretches mended = AllZip (λ stretch one. IsOutcome (cells_of files stretch) stretch one) stretches mended
+abbrev pub AreStretchMends : List (List ℕ) → List StretchValue → List MendedValue → Type 0
+AreStretchMends files stretches mended = AllZip (λ stretch one. IsStretchMend (cells_of files stretch) stretch one) stretches mended
 
 -- ---- the copies in another order
 
@@ -26,14 +26,14 @@ pub record IsReordered (files others : List (List ℕ)) (stretch other : Stretch
 abbrev pub AnyOrderMends : Type 0
 AnyOrderMends =
     (files others : List (List ℕ)) (stretches reordered : List StretchValue) (mended again : List MendedValue)
-    → AllZip (IsReordered files others) stretches reordered → AreOutcomes files stretches mended → AreOutcomes others reordered again → mended ≡ again
+    → AllZip (IsReordered files others) stretches reordered → AreStretchMends files stretches mended → AreStretchMends others reordered again → mended ≡ again
 
 -- ---- what vouches
 
 -- What is good is vouched for.
 abbrev pub GoodStretchesAreVouched : Type 0
 GoodStretchesAreVouched =
-    (files : List (List ℕ)) (stretches : List StretchValue) (mended : List MendedValue) → AreOutcomes files stretches mended
+    (files : List (List ℕ)) (stretches : List StretchValue) (mended : List MendedValue) → AreStretchMends files stretches mended
     → AllZip (λ stretch one. is_good one.state ≡ true → IsVouched stretch.kind (versions_in (cells_of files stretch)) one.bytes) stretches mended
 
 -- ---- an original
@@ -48,7 +48,7 @@ HaveOriginals files _ _ _ = ⊥
 -- Then, where all stretches are good, OUT is the original file.
 abbrev pub OriginalFileIsMended : Type 0
 OriginalFileIsMended =
-    (files : List (List ℕ)) (stretches : List StretchValue) (mended : List MendedValue) (originals : List (List ℕ)) → AreOutcomes files stretches mended
+    (files : List (List ℕ)) (stretches : List StretchValue) (mended : List MendedValue) (originals : List (List ℕ)) → AreStretchMends files stretches mended
     → HaveOriginals files stretches mended originals → list_all (λ one. is_good one.state) mended ≡ true
     → bytes_of mended ≡ flat_map (λ original. original) originals
 
@@ -63,4 +63,4 @@ abbrev pub FrontsAreEnough : Type 0
 FrontsAreEnough =
     (files wholes : List (List ℕ)) (stretches : List StretchValue) (mended : List MendedValue)
     → AreInOrder (length files) (replicate (length files) 0) stretches → AllZip (λ end file. end ≤ length file) (ends_of (length files) stretches) files
-    → AreFronts files wholes → AreOutcomes files stretches mended → AreOutcomes wholes stretches mended
+    → AreFronts files wholes → AreStretchMends files stretches mended → AreStretchMends wholes stretches mended

@@ -5,7 +5,7 @@ use Rattle.ffv1_devices.specs.Logs.{ReadLog, WriteLog, Reads, Writes, StopsWriti
 use Rattle.ffv1_devices.specs.Exact.{StopsReading}
 use Rattle.ffv1_mend.specs.Mended.{MendedValue, is_good}
 use Rattle.ffv1_stretches.specs.Stretches.{StretchValue, ends_of}
-use Rattle.ffv1_stretches.specs.Cells.{cells_of, IsOutcome}
+use Rattle.ffv1_stretches.specs.Cells.{cells_of, IsStretchMend}
 use Rattle.ffv1_stretches.specs.Lines.{mend_text}
 use Rattle.ffv1_stretches.specs.declared.pass.MendFault.{MendFault}
 use Rattle.ffv1_stretches.specs.declared.pass.MendFault.TheVariants as faults
@@ -30,7 +30,7 @@ AreReadBut _ _ _ _ = ⊥
 pub record MendsFront (stretches front : List StretchValue) (files : List (List ℕ)) (mended : List MendedValue) : Type 0 where
   pub rest : List StretchValue
   pub split : stretches ≡ front ++ rest
-  pub outcomes : AllZip (λ stretch one. IsOutcome (cells_of files stretch) stretch one) front mended
+  pub outcomes : AllZip (λ stretch one. IsStretchMend (cells_of files stretch) stretch one) front mended
   pub least : AllZip (λ end file. end ≤ length file) (ends_of (length files) front) files
   pub most : AllZip (λ end file. length file ≤ end) (ends_of (length files) stretches) files
 
@@ -56,7 +56,7 @@ pub record MendsAll (stretches : List StretchValue) (old new : List ReadLog) (ou
   pub mends : MendsFront stretches stretches files mended
   pub wrote : Writes out_old out_new (bytes_of mended)
   pub printed : Writes output_old output_new (mend_text 1 files stretches mended)
-  pub answer : good ≡ list_all (λ one. is_good one.state) mended
+  pub returned : good ≡ list_all (λ one. is_good one.state) mended
 
 -- What a pass did that stopped. `Read`: the copy of this number was given up, or ended within the first stretch after a front, and all of
 -- the front was written and printed. `Memory`: the same, but no copy stopped. `Out`: OUT was given up; a front of what becomes of the

@@ -2,7 +2,7 @@
 ghost use Rattle.std.specs.Prelude.{◌≡◌, ◌∷◌, ◌++◌, [], IsTrue, true, All, map, slice_range, OnOk, IfOk, string_bytes};
 ghost use Rattle.std.specs.List.{flat_map, list_all, zip};
 ghost use Rattle.std.specs.Str.{bytes_eq};
-ghost use Rattle.ffv1_stretches.specs.Cells.{IsOutcome};
+ghost use Rattle.ffv1_stretches.specs.Cells.{IsStretchMend};
 ghost use Rattle.ffv1_stretches.specs.Inner.CellSteps.{cell_now, IsUnspliced};
 ghost use Rattle.ffv1_stretches.specs.Listed.{kind_word};
 ghost use Rattle.ffv1_mend.specs.Improved.{part_value};
@@ -337,7 +337,7 @@ fn push_stretch_marks(
     cells: &[Option<&[u8]>],
     mended: &Mended<'_>,
 ) -> Result<(), AllocError>
-    requires { IsOutcome (map cell_now cells.now) stretch.now mended.now }
+    requires { IsStretchMend (map cell_now cells.now) stretch.now mended.now }
     ensures { OnOk result (string_bytes text.new ≡ string_bytes text.old ++ marks_of (map cell_now cells.now) mended.now.bytes) }
 {
     let known = is_whole_in_all(stretch, mended);
@@ -352,7 +352,7 @@ fn push_line(
     cells: &[Option<&[u8]>],
     mended: &Mended<'_>,
 ) -> Result<(), AllocError>
-    requires { IsOutcome (map cell_now cells.now) stretch.now mended.now }
+    requires { IsStretchMend (map cell_now cells.now) stretch.now mended.now }
     ensures { OnOk result (string_bytes text.new ≡ string_bytes text.old ++ stretch_line number (map cell_now cells.now) stretch.now mended.now) }
 {
     let kind = kind_word(stretch.kind);
@@ -395,7 +395,7 @@ pub(crate) fn stretch_text(
     cells: &[Option<&[u8]>],
     mended: &Mended<'_>,
 ) -> Result<String, AllocError>
-    requires { IsOutcome (map cell_now cells.now) stretch.now mended.now }
+    requires { IsStretchMend (map cell_now cells.now) stretch.now mended.now }
     ensures { IfOk result (λ text. string_bytes text ≡ stretch_text number (map cell_now cells.now) stretch.now mended.now) }
 {
     let mut text = String::new(alloc);

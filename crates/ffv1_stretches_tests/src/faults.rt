@@ -25,7 +25,7 @@ static ENDING: [(&[u8], &[u8], usize, &[u8], &str); 4] = [
 fn copy_that_ends_within_a_stretch_is_reported(rt: HostRuntime) {
     for &(one, other, copy, made, printed) in &ENDING {
         let wanted = Wanted {
-            answer: Err(MendFault::Read(copy)),
+            returned: Err(MendFault::Read(copy)),
             made,
             printed,
         };
@@ -37,7 +37,7 @@ fn copy_that_ends_within_a_stretch_is_reported(rt: HostRuntime) {
 fn copy_that_fails_is_reported(rt: HostRuntime) {
     let (one, other) = (Input::ending(b"ab.cd"), Input::failing(b"abc"));
     let wanted = Wanted {
-        answer: Err(MendFault::Read(1)),
+        returned: Err(MendFault::Read(1)),
         made: b"ab",
         printed: FIRST,
     };
@@ -46,7 +46,7 @@ fn copy_that_fails_is_reported(rt: HostRuntime) {
 
 /// What both stretches come to.
 const ALL: Wanted<'static> = Wanted {
-    answer: Ok(false),
+    returned: Ok(false),
     made: b"abcx",
     printed: BOTH,
 };
@@ -57,7 +57,7 @@ fn copies_are_read_no_further_than_their_stretches(rt: HostRuntime) {
     let is_whole = two_come_to(rt.alloc(), LIST, one, other, AMPLE, ALL);
     let (one, other) = (Input::failing(b""), Input::ending(b"ab"));
     let wanted = Wanted {
-        answer: Ok(false),
+        returned: Ok(false),
         made: b"ab",
         printed: "stretch 1 plain alone -1\n",
     };
@@ -79,7 +79,7 @@ fn out_has_front(alloc: Global, room: usize) -> bool {
     };
     let wanted = match ALL.made.get(..room) {
         Some(made) if room < 4 => Wanted {
-            answer: Err(MendFault::Out),
+            returned: Err(MendFault::Out),
             made,
             printed: if room < 2 { "" } else { FIRST },
         },
@@ -103,7 +103,7 @@ fn output_has_front(alloc: Global, room: usize) -> bool {
     };
     let wanted = match BOTH.get(..room) {
         Some(printed) if room < BOTH.len() => Wanted {
-            answer: Err(MendFault::Output),
+            returned: Err(MendFault::Output),
             made: if room < FIRST.len() { b"ab" } else { b"abcx" },
             printed,
         },

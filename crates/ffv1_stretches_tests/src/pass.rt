@@ -10,7 +10,7 @@ use std::alloc::Global;
 /// What a pass is to return, make and print.
 #[derive(Clone, Copy)]
 pub(crate) struct Wanted<'a> {
-    pub(crate) answer: Result<bool, MendFault>,
+    pub(crate) returned: Result<bool, MendFault>,
     pub(crate) made: &'a [u8],
     pub(crate) printed: &'a str,
 }
@@ -43,9 +43,9 @@ fn comes_to<S: Source>(
     };
     let mut out = narrow_sink(alloc, rooms.out);
     let mut output = narrow_sink(alloc, rooms.output);
-    let answer = mend_stretches(alloc, stretches.as_slice(), copies, &mut out, &mut output);
+    let returned = mend_stretches(alloc, stretches.as_slice(), copies, &mut out, &mut output);
     let (made, printed) = (out.into_inner().bytes, output.into_inner().bytes);
-    answer == wanted.answer
+    returned == wanted.returned
         && made.as_slice() == wanted.made
         && printed.as_slice() == wanted.printed.as_bytes()
 }

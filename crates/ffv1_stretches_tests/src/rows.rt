@@ -170,7 +170,7 @@ static ROWS: [Row; 16] = [
 fn passes_make_and_print_their_stretches(rt: HostRuntime) {
     for &(shown, list, copies, is_good, made, printed) in &ROWS {
         let wanted = Wanted {
-            answer: Ok(is_good),
+            returned: Ok(is_good),
             made,
             printed,
         };
@@ -180,20 +180,20 @@ fn passes_make_and_print_their_stretches(rt: HostRuntime) {
 
 #[test]
 fn frame_that_is_missing_has_lines_where_one_copy_has_it(rt: HostRuntime) {
-    let mut torn = LEFT_DAMAGED;
-    torn[1] ^= 1;
+    let mut damaged = LEFT_DAMAGED;
+    damaged[1] ^= 1;
     let wanted = Wanted {
-        answer: Ok(false),
-        made: &torn,
+        returned: Ok(false),
+        made: &damaged,
         printed: "stretch 1 frame missing -1\n  11..22 settled -1\n  0..11 missing -1\n  end whole\n",
     };
-    assert!(rt; files_come_to(rt.alloc(), "frame 22 2 - 0\n", (b"", &torn), wanted));
+    assert!(rt; files_come_to(rt.alloc(), "frame 22 2 - 0\n", (b"", &damaged), wanted));
 }
 
 #[test]
 fn bytes_that_three_copies_have_are_agreed(rt: HostRuntime) {
     let wanted = Wanted {
-        answer: Ok(true),
+        returned: Ok(true),
         made: b"abc",
         printed: "stretch 1 plain agreed 111\n",
     };
@@ -268,7 +268,7 @@ static ELEMENTS: [ElementRow; 7] = [
 fn comes_to(alloc: Global, (list, (one, other), is_good, made, printed): &ElementRow) -> bool {
     let (one, other) = (changed(one), changed(other));
     let wanted = Wanted {
-        answer: Ok(*is_good),
+        returned: Ok(*is_good),
         made: &changed(made),
         printed,
     };
@@ -286,7 +286,7 @@ fn elements_are_woven_and_their_parts_spliced(rt: HostRuntime) {
 fn an_element_that_a_third_copy_lacks_is_woven(rt: HostRuntime) {
     let (one, other) = (changed(&[10]), changed(&[78]));
     let wanted = Wanted {
-        answer: Ok(true),
+        returned: Ok(true),
         made: &changed(&[]),
         printed: "stretch 1 crc32 woven 4 00-\n",
     };
@@ -306,7 +306,7 @@ fn pieces_between_stretches_are_passed_over(rt: HostRuntime) {
     one[0] = b'a';
     one[19999] = b'b';
     let wanted = Wanted {
-        answer: Ok(false),
+        returned: Ok(false),
         made: b"ab",
         printed: "stretch 1 plain alone 1-\nstretch 2 plain alone 1-\n",
     };

@@ -110,7 +110,7 @@ choices_some versions choices start end some h =
 
 -- some reference is to the same bytes
 abbrev pub IsAsked : List (Bor (List ℕ)) → List ℕ → Bool → Type 0
-IsAsked choices choice answer = IsAnyAnswer (λ other b. pointwise eqb other.now choice ≡ b) choices answer
+IsAsked choices choice returned = IsAnyAnswer (λ other b. pointwise eqb other.now choice ≡ b) choices returned
 
 pub choices_have : (choices : List (Bor (List ℕ))) (choice : List ℕ) → IsAsked choices choice true → Contains (map (λ p. p.now) choices) choice
 choices_have choices choice h =

@@ -8,15 +8,15 @@ use Rattle.std.proofs.lemmas.List.{get_or_append_left, get_or-append_right, get_
 use Rattle.std.proofs.lemmas.List.Edits.{get_or-between, length-between}
 use Rattle.std.proofs.lemmas.List.Elements.{All-head, All-tail}
 use Rattle.ffv1_weave.specs.Regions.{AgreeAt, HaveLength}
-use Rattle.ffv1_weave.specs.Seams.{IsSeam}
-use Rattle.ffv1_weave.specs.Grains.{IsPartBy, IsChoiceBy}
+use Rattle.ffv1_weave.specs.Boundaries.{IsBoundary}
+use Rattle.ffv1_weave.specs.Splits.{IsPartBy, IsChoiceBy}
 use Rattle.ffv1_weave.specs.Numbers.{AreNumbered, AreMoreThan}
 use Rattle.ffv1_weave.specs.Combinations.{IsCombinationBy}
 use Rattle.ffv1_weave.specs.Inner.Parts.{Part, ArePartsFrom, AreAllParts, IsPartFrom, IsFit, parts_end, count_of, chosen}
 use Rattle.ffv1_weave.specs.Parts.{written}
-use Rattle.ffv1_weave.specs.declared.grains.Grain.{Grain}
-use Rattle.ffv1_weave.specs.declared.grains.Grain.TheVariants.{Pairs, Regions, Most}
-use Rattle.ffv1_weave.proofs.GrainSteps.{part_some, part_within, one_part}
+use Rattle.ffv1_weave.specs.declared.splits.Split.{Split}
+use Rattle.ffv1_weave.specs.declared.splits.Split.TheVariants.{Pairs, Regions, Most}
+use Rattle.ffv1_weave.proofs.SplitSteps.{part_some, part_within, one_part}
 use Rattle.ffv1_weave.proofs.NextSegment.{IsNextSegment, next_segment}
 use Rattle.ffv1_weave.proofs.MostSteps.{choice_of_some, some_most}
 
@@ -85,20 +85,20 @@ pub record IsAlike (versions : List (List ℕ)) (from : ℕ) (a b : List ℕ) : 
   pub front : (i : ℕ) → i < from → get_or a i 0 ≡ get_or b i 0
   pub agree : (i : ℕ) → AgreeAt versions i → get_or a i 0 ≡ get_or b i 0
 
-module _ (grain : Grain) (versions : List (List ℕ)) where
+module _ (split : Split) (versions : List (List ℕ)) where
   -- where nothing differs any more, both are the same
   alike_end : (from : ℕ) (a b : List ℕ) → ((i : ℕ) → from ≤ i → AgreeAt versions i) → IsAlike versions from a b → a ≡ b
   alike_end from a b rest h =
       ext_get_or 0 a b h.size (λ i lt. elim (cases_lt i from) [ inl below ↦ h.front i below | inr above ↦ h.agree i (rest i above) ])
 
   -- before a part too
-  alike_until : (from start end : ℕ) (a b : List ℕ) → IsPartFrom grain versions from start end → IsAlike versions from a b → (i : ℕ) → i < start
+  alike_until : (from start end : ℕ) (a b : List ℕ) → IsPartFrom split versions from start end → IsAlike versions from a b → (i : ℕ) → i < start
       → get_or a i 0 ≡ get_or b i 0
   alike_until from start end a b next h i lt =
       elim (cases_lt i from) [ inl below ↦ h.front i below | inr above ↦ h.agree i (next.until i above lt) ]
 
   -- both with the same choice
-  alike_both : (from : ℕ) (part : Part) (k : ℕ) (a b : List ℕ) → IsPartFrom grain versions from part.start part.end → IsFit (length a) part
+  alike_both : (from : ℕ) (part : Part) (k : ℕ) (a b : List ℕ) → IsPartFrom split versions from part.start part.end → IsFit (length a) part
       → k < length part.choices → IsAlike versions from a b
       → IsAlike versions part.end (written a part.start (choice_of part k)) (written b part.start (choice_of part k))
   alike_both from part k a b next fit lt h =
@@ -128,7 +128,7 @@ module _ (grain : Grain) (versions : List (List ℕ)) where
       }
 
   -- one with the choice that the other has
-  alike_choice : (from : ℕ) (part : Part) (k : ℕ) (a b : List ℕ) → IsPartFrom grain versions from part.start part.end → IsFit (length a) part
+  alike_choice : (from : ℕ) (part : Part) (k : ℕ) (a b : List ℕ) → IsPartFrom split versions from part.start part.end → IsFit (length a) part
       → k < length part.choices → slice_range b part.start part.end ≡ choice_of part k → IsAlike versions from a b
       → IsAlike versions part.end (written a part.start (choice_of part k)) b
   alike_choice from part k a b next fit lt is h =
@@ -177,9 +177,9 @@ length-chosen (part ∷ parts) code bytes fit =
     length-chosen parts (code / length part.choices) (written bytes part.start (choice_of part (code % length part.choices)))
     (fit_as _ (length bytes) parts long (fit_tail (length bytes) part parts fit)) ∙ long
 
-module _ (grain : Grain) (versions : List (List ℕ)) where
+module _ (split : Split) (versions : List (List ℕ)) where
   -- nothing is written before the place from which the parts are sought
-  pub chosen_front : (from : ℕ) (parts : List Part) (code : ℕ) (bytes : List ℕ) → ArePartsFrom grain versions from parts → All (IsFit (length bytes)) parts
+  pub chosen_front : (from : ℕ) (parts : List Part) (code : ℕ) (bytes : List ℕ) → ArePartsFrom split versions from parts → All (IsFit (length bytes)) parts
       → (i : ℕ) → i < from → get_or (chosen parts code bytes) i 0 ≡ get_or bytes i 0
   chosen_front from [] code bytes are fit i lt = refl
   chosen_front from (part ∷ parts) code bytes are fit i lt =
@@ -187,16 +187,16 @@ module _ (grain : Grain) (versions : List (List ℕ)) where
       let fits = fits_in (length bytes) part parts fit (code % length part.choices) digit in
       let long = length-written bytes part.start (choice_of part (code % length part.choices)) fits in
       let beyond = are.0.beyond in
-      let some = part_some grain versions part.start part.end are.0.part in
+      let some = part_some split versions part.start part.end are.0.part in
       chosen_front part.end parts (code / length part.choices) (written bytes part.start (choice_of part (code % length part.choices))) are.2
       (fit_as _ (length bytes) parts long (fit_tail (length bytes) part parts fit)) i (omega arith)
       ∙ written_before bytes part.start (choice_of part (code % length part.choices)) fits i (omega arith)
 
   -- of bytes that are alike the same is made
-  pub chosen_alike : (from : ℕ) (parts : List Part) (code : ℕ) (a b : List ℕ) → ArePartsFrom grain versions from parts
+  pub chosen_alike : (from : ℕ) (parts : List Part) (code : ℕ) (a b : List ℕ) → ArePartsFrom split versions from parts
       → ((i : ℕ) → parts_end from parts ≤ i → AgreeAt versions i) → All (IsFit (length a)) parts → IsAlike versions from a b
       → chosen parts code a ≡ chosen parts code b
-  chosen_alike from [] code a b are rest fit h = alike_end grain versions from a b rest h
+  chosen_alike from [] code a b are rest fit h = alike_end split versions from a b rest h
   chosen_alike from (part ∷ parts) code a b are rest fit h =
       let digit = digit_below (length a) part (fit_head (length a) part parts fit) code in
       let long = length-written a part.start (choice_of part (code % length part.choices))
@@ -204,13 +204,13 @@ module _ (grain : Grain) (versions : List (List ℕ)) where
       chosen_alike part.end parts (code / length part.choices) (written a part.start (choice_of part (code % length part.choices)))
       (written b part.start (choice_of part (code % length part.choices))) are.2 rest
       (fit_as _ (length a) parts long (fit_tail (length a) part parts fit))
-      (alike_both grain versions from part (code % length part.choices) a b are.0 (fit_head (length a) part parts fit) digit h)
+      (alike_both split versions from part (code % length part.choices) a b are.0 (fit_head (length a) part parts fit) digit h)
 
   -- each combination has a number
-  pub chosen_all : (from : ℕ) (parts : List Part) (bytes combination : List ℕ) → ArePartsFrom grain versions from parts
-      → ((i : ℕ) → parts_end from parts ≤ i → AgreeAt versions i) → All (IsFit (length bytes)) parts → IsCombinationBy grain versions combination
+  pub chosen_all : (from : ℕ) (parts : List Part) (bytes combination : List ℕ) → ArePartsFrom split versions from parts
+      → ((i : ℕ) → parts_end from parts ≤ i → AgreeAt versions i) → All (IsFit (length bytes)) parts → IsCombinationBy split versions combination
       → IsAlike versions from bytes combination → (k : ℕ) × (k < count_of parts) × (chosen parts k bytes ≡ combination)
-  chosen_all from [] bytes combination are rest fit is h = (0, omega arith, alike_end grain versions from bytes combination rest h)
+  chosen_all from [] bytes combination are rest fit is h = (0, omega arith, alike_end split versions from bytes combination rest h)
   chosen_all from (part ∷ parts) bytes combination are rest fit is h =
       let here = are.1.each (slice_range combination part.start part.end) (is.parts part.start part.end are.0.part) in
       let d : ℕ = here.0 in
@@ -220,7 +220,7 @@ module _ (grain : Grain) (versions : List (List ℕ)) where
       let long = length-written bytes part.start (choice_of part d) (fits_in (length bytes) part parts fit d here.1) in
       let number = chosen_all part.end parts (written bytes part.start (choice_of part d)) combination are.2 rest
       (fit_as _ (length bytes) parts long (fit_tail (length bytes) part parts fit)) is
-      (alike_choice grain versions from part d bytes combination are.0 (fit_head (length bytes) part parts fit) here.1 lies h) in
+      (alike_choice split versions from part d bytes combination are.0 (fit_head (length bytes) part parts fit) here.1 lies h) in
       let digit : (number.0 * n + d) % n ≡ d = mul-add-mod_self_right number.0 n d ∙ mod-eq_of_lt here.1 in
       let up : (number.0 * n + d) / n ≡ number.0 = div-mul-add number.0 n d here.1 in (
         number.0 * n + d,
@@ -231,7 +231,7 @@ module _ (grain : Grain) (versions : List (List ℕ)) where
       )
 
   -- no two numbers give the same
-  pub chosen_once : (from : ℕ) (parts : List Part) (bytes : List ℕ) (j k : ℕ) → ArePartsFrom grain versions from parts → All (IsFit (length bytes)) parts
+  pub chosen_once : (from : ℕ) (parts : List Part) (bytes : List ℕ) (j k : ℕ) → ArePartsFrom split versions from parts → All (IsFit (length bytes)) parts
       → j < count_of parts → k < count_of parts → chosen parts j bytes ≡ chosen parts k bytes → j ≡ k
   chosen_once from [] bytes j k are fit low lt same = omega arith
   chosen_once from (part ∷ parts) bytes j k are fit low lt same =
@@ -268,9 +268,9 @@ module _ (grain : Grain) (versions : List (List ℕ)) where
 
 -- ---- a choice written over a part
 
-module _ (grain : Grain) (versions : List (List ℕ)) (size : ℕ) (all_long : HaveLength versions size) where
-  module _ (part : Part) (k : ℕ) (is_part : IsPartBy grain versions part.start part.end) (fit : IsFit size part) (lt : k < length part.choices)
-      (taken : IsChoiceBy grain versions part.start part.end (choice_of part k)) (bytes : List ℕ) (long : length bytes ≡ size) where
+module _ (split : Split) (versions : List (List ℕ)) (size : ℕ) (all_long : HaveLength versions size) where
+  module _ (part : Part) (k : ℕ) (is_part : IsPartBy split versions part.start part.end) (fit : IsFit size part) (lt : k < length part.choices)
+      (taken : IsChoiceBy split versions part.start part.end (choice_of part k)) (bytes : List ℕ) (long : length bytes ≡ size) where
     fits_bytes : part.start + length (choice_of part k) ≤ length bytes
     fits_bytes = let within = fit.within in omega (arith, choice_size size part fit k lt)
 
@@ -300,21 +300,21 @@ module _ (grain : Grain) (versions : List (List ℕ)) (size : ℕ) (all_long : H
         ])
 
     -- The part, and each other one that had what can be taken there, has what can be taken there.
-    part_over : (start end : ℕ) → IsPartBy grain versions start end
-        → ((end ≤ part.start) ⊎ (part.end ≤ start) → IsChoiceBy grain versions start end (slice_range bytes start end))
-        → IsChoiceBy grain versions start end (slice_range (written bytes part.start (choice_of part k)) start end)
+    part_over : (start end : ℕ) → IsPartBy split versions start end
+        → ((end ≤ part.start) ⊎ (part.end ≤ start) → IsChoiceBy split versions start end (slice_range bytes start end))
+        → IsChoiceBy split versions start end (slice_range (written bytes part.start (choice_of part k)) start end)
     part_over start end other rest =
-        let within = part_within versions size all_long grain start end other in
-        let outside = λ (apart : (end ≤ part.start) ⊎ (part.end ≤ start)). subst (IsChoiceBy grain versions start end) (sym (has_rest start end within apart)) (rest apart) in
+        let within = part_within versions size all_long split start end other in
+        let outside = λ (apart : (end ≤ part.start) ⊎ (part.end ≤ start)). subst (IsChoiceBy split versions start end) (sym (has_rest start end within apart)) (rest apart) in
         elim (cases_lt part.start end) [
           | inr before ↦ outside (inl before)
           | inl late ↦ elim (cases_lt start part.end) [
             | inr beyond ↦ outside (inr beyond)
             | inl early ↦
-                let one = one_part versions size all_long grain part.start part.end start end is_part other late early in
-                subst (λ s. IsChoiceBy grain versions s end (slice_range (written bytes part.start (choice_of part k)) s end)) one.0
-                (subst (λ e. IsChoiceBy grain versions part.start e (slice_range (written bytes part.start (choice_of part k)) part.start e)) one.1
-                (subst (IsChoiceBy grain versions part.start part.end) (sym has_choice) taken))
+                let one = one_part versions size all_long split part.start part.end start end is_part other late early in
+                subst (λ s. IsChoiceBy split versions s end (slice_range (written bytes part.start (choice_of part k)) s end)) one.0
+                (subst (λ e. IsChoiceBy split versions part.start e (slice_range (written bytes part.start (choice_of part k)) part.start e)) one.1
+                (subst (IsChoiceBy split versions part.start part.end) (sym has_choice) taken))
           ]
         ]
 
@@ -323,7 +323,7 @@ module _ (grain : Grain) (versions : List (List ℕ)) (size : ℕ) (all_long : H
         → get_or (written bytes part.start (choice_of part k)) i 0 ≡ get_or version i 0
     agrees_over i same version there before =
         let ends = choice_size size part fit k lt in
-        let of = choice_of_some grain versions part.start part.end (choice_of part k) taken in
+        let of = choice_of_some split versions part.start part.end (choice_of part k) taken in
         elim (cases_lt i part.start) [
           | inl outside ↦ written_before bytes part.start (choice_of part k) fits_bytes i outside ∙ before
           | inr low ↦ elim (cases_lt i part.end) [
@@ -335,7 +335,7 @@ module _ (grain : Grain) (versions : List (List ℕ)) (size : ℕ) (all_long : H
         ]
 
     -- A combination stays one.
-    combination_over : IsCombinationBy grain versions bytes → IsCombinationBy grain versions (written bytes part.start (choice_of part k))
+    combination_over : IsCombinationBy split versions bytes → IsCombinationBy split versions (written bytes part.start (choice_of part k))
     combination_over h =
         record {
           same_length = λ version there. length-over ∙ sym (all_long version there);
@@ -346,27 +346,27 @@ module _ (grain : Grain) (versions : List (List ℕ)) (size : ℕ) (all_long : H
 -- ---- there is a combination
 
 -- Bytes that are a combination as far as to a place.
-record IsGoodBefore (grain : Grain) (versions : List (List ℕ)) (from : ℕ) (bytes : List ℕ) : Type 0 where
+record IsGoodBefore (split : Split) (versions : List (List ℕ)) (from : ℕ) (bytes : List ℕ) : Type 0 where
   same_length : (version : List ℕ) → Contains versions version → length bytes ≡ length version
   agrees : (i : ℕ) → AgreeAt versions i → (version : List ℕ) → Contains versions version → slice_index bytes i ≡ slice_index version i
-  parts : (start end : ℕ) → IsPartBy grain versions start end → end ≤ from → IsChoiceBy grain versions start end (slice_range bytes start end)
+  parts : (start end : ℕ) → IsPartBy split versions start end → end ≤ from → IsChoiceBy split versions start end (slice_range bytes start end)
 
 module _ (versions : List (List ℕ)) (first : List ℕ) (all_long : HaveLength versions (length first)) (there : Contains versions first) where
-  good_whole : (grain : Grain) (from : ℕ) (bytes : List ℕ) → length first ≤ from → IsGoodBefore grain versions from bytes
-      → IsCombinationBy grain versions bytes
-  good_whole grain from bytes past h =
+  good_whole : (split : Split) (from : ℕ) (bytes : List ℕ) → length first ≤ from → IsGoodBefore split versions from bytes
+      → IsCombinationBy split versions bytes
+  good_whole split from bytes past h =
       record {
         same_length = h.same_length;
         agrees = h.agrees;
-        parts = λ start end part. h.parts start end part (let within = part_within versions (length first) all_long grain start end part in omega arith);
+        parts = λ start end part. h.parts start end part (let within = part_within versions (length first) all_long split start end part in omega arith);
       }
 
-  good_first : (grain : Grain) → IsGoodBefore grain versions 0 first
-  good_first grain =
+  good_first : (split : Split) → IsGoodBefore split versions 0 first
+  good_first split =
       record {
         same_length = λ version here. sym (all_long version here);
         agrees = λ i same version here. same first version there here;
-        parts = λ start end part below. let some = part_some grain versions start end part in absurd (omega arith);
+        parts = λ start end part below. let some = part_some split versions start end part in absurd (omega arith);
       }
 
   module _ (distance : ℕ) where
@@ -404,7 +404,7 @@ module _ (versions : List (List ℕ)) (first : List ℕ) (all_long : HaveLength 
           },
         )
 
-    good_until : (fuel from : ℕ) (bytes : List ℕ) → length first ≤ from + fuel → (from ≡ 0) ⊎ IsSeam distance versions from
+    good_until : (fuel from : ℕ) (bytes : List ℕ) → length first ≤ from + fuel → (from ≡ 0) ⊎ IsBoundary distance versions from
         → IsGoodBefore (Most distance) versions from bytes → (more : List ℕ) × IsCombinationBy (Most distance) versions more
     good_until zero from bytes past edge h = (bytes, good_whole (Most distance) from bytes (omega arith) h)
     good_until (suc fuel) from bytes past edge h = elim (cases_lt from (length first)) [
@@ -414,56 +414,56 @@ module _ (versions : List (List ℕ)) (first : List ℕ) (all_long : HaveLength 
           let order = part_some (Most distance) versions from next.end next.segment in
           let more = good_next from bytes next h in
           elim next.last [
-            | inl seam ↦ good_until fuel next.end more.0 (omega arith) (inr seam) more.1
+            | inl boundary ↦ good_until fuel next.end more.0 (omega arith) (inr boundary) more.1
             | inr whole ↦ (more.0, good_whole (Most distance) next.end more.0 (omega arith) more.1)
           ]
     ]
 
-  version_by : (grain : Grain) → ((start end : ℕ) → IsChoiceBy grain versions start end (slice_range first start end)) → IsCombinationBy grain versions first
-  version_by grain has =
+  version_by : (split : Split) → ((start end : ℕ) → IsChoiceBy split versions start end (slice_range first start end)) → IsCombinationBy split versions first
+  version_by split has =
       record {
         same_length = λ version here. sym (all_long version here);
         agrees = λ i same version here. same first version there here;
         parts = λ start end part. has start end;
       }
 
-  -- By each grain there is a combination: a version, or what most versions have in each segment.
-  pub some_combination : (grain : Grain) → (bytes : List ℕ) × IsCombinationBy grain versions bytes
+  -- By each split there is a combination: a version, or what most versions have in each segment.
+  pub some_combination : (split : Split) → (bytes : List ℕ) × IsCombinationBy split versions bytes
   some_combination (Pairs distance) = (first, version_by (Pairs distance) (λ start end. (first, there, refl)))
   some_combination Regions = (first, version_by Regions (λ start end. (first, there, refl)))
   some_combination (Most distance) = good_until distance (length first) 0 first (omega arith) (inl refl) (good_first (Most distance))
 
 -- ---- each number gives a combination
 
-module _ (grain : Grain) (versions : List (List ℕ)) (size : ℕ) (all_long : HaveLength versions size) where
-  pub chosen_are : (from : ℕ) (parts : List Part) (code : ℕ) (bytes : List ℕ) → length bytes ≡ size → ArePartsFrom grain versions from parts
-      → All (IsFit size) parts → IsCombinationBy grain versions bytes → IsCombinationBy grain versions (chosen parts code bytes)
+module _ (split : Split) (versions : List (List ℕ)) (size : ℕ) (all_long : HaveLength versions size) where
+  pub chosen_are : (from : ℕ) (parts : List Part) (code : ℕ) (bytes : List ℕ) → length bytes ≡ size → ArePartsFrom split versions from parts
+      → All (IsFit size) parts → IsCombinationBy split versions bytes → IsCombinationBy split versions (chosen parts code bytes)
   chosen_are from [] code bytes long are fit h = h
   chosen_are from (part ∷ parts) code bytes long are fit h =
       let head = fit_head size part parts fit in
       let digit = digit_below size part head code in
       let taken = are.1.only (code % length part.choices) digit in
       chosen_are part.end parts (code / length part.choices) (written bytes part.start (choice_of part (code % length part.choices)))
-      (length-over grain versions size all_long part (code % length part.choices) are.0.part head digit taken bytes long) are.2
+      (length-over split versions size all_long part (code % length part.choices) are.0.part head digit taken bytes long) are.2
       (fit_tail size part parts fit)
-      (combination_over grain versions size all_long part (code % length part.choices) are.0.part head digit taken bytes long h)
+      (combination_over split versions size all_long part (code % length part.choices) are.0.part head digit taken bytes long h)
 
-module _ (grain : Grain) (versions : List (List ℕ)) (first : List ℕ) (all_long : HaveLength versions (length first)) (there : Contains versions first) where
+module _ (split : Split) (versions : List (List ℕ)) (first : List ℕ) (all_long : HaveLength versions (length first)) (there : Contains versions first) where
   -- More parts than are tried give more combinations, whatever follows them.
-  pub many_chosen : (parts : List Part) (most : ℕ) → ArePartsFrom grain versions 0 parts → All (IsFit (length first)) parts → most < count_of parts
-      → AreMoreThan (IsCombinationBy grain versions) most
+  pub many_chosen : (parts : List Part) (most : ℕ) → ArePartsFrom split versions 0 parts → All (IsFit (length first)) parts → most < count_of parts
+      → AreMoreThan (IsCombinationBy split versions) most
   many_chosen parts most are fit over =
-      let base = some_combination versions first all_long there grain in
+      let base = some_combination versions first all_long there split in
       let long = base.1.same_length first there in
       record {
         at = λ k. chosen parts k base.0;
-        are = λ k low. chosen_are grain versions (length first) all_long 0 parts k base.0 long are fit base.1;
-        once = λ j k low lt same. chosen_once grain versions 0 parts base.0 j k are (fit_as (length base.0) (length first) parts long fit)
+        are = λ k low. chosen_are split versions (length first) all_long 0 parts k base.0 long are fit base.1;
+        once = λ j k low lt same. chosen_once split versions 0 parts base.0 j k are (fit_as (length base.0) (length first) parts long fit)
             (omega arith) (omega arith) same;
       }
 
-module _ (grain : Grain) (versions : List (List ℕ)) where
-  pub combination_alike : (first combination : List ℕ) → Contains versions first → IsCombinationBy grain versions combination
+module _ (split : Split) (versions : List (List ℕ)) where
+  pub combination_alike : (first combination : List ℕ) → Contains versions first → IsCombinationBy split versions combination
       → IsAlike versions 0 combination first
   combination_alike first combination there is =
       record {
@@ -476,22 +476,22 @@ module _ (grain : Grain) (versions : List (List ℕ)) where
   alike_back from a b h = record { size = sym h.size; front = λ i lt. sym (h.front i lt); agree = λ i same. sym (h.agree i same) }
 
   module _ (parts : List Part) (first : List ℕ) (long : HaveLength versions (length first)) (there : Contains versions first)
-      (are : AreAllParts grain versions parts) (fit : All (IsFit (length first)) parts) where
+      (are : AreAllParts split versions parts) (fit : All (IsFit (length first)) parts) where
     -- written over the first version is what is written over any combination
-    pub chosen_first : (code : ℕ) → IsCombinationBy grain versions (chosen parts code first)
+    pub chosen_first : (code : ℕ) → IsCombinationBy split versions (chosen parts code first)
     chosen_first code =
-        let base = some_combination versions first long there grain in
+        let base = some_combination versions first long there split in
         let alike = alike_back 0 base.0 first (combination_alike first base.0 there base.1) in
-        subst (IsCombinationBy grain versions) (sym (chosen_alike grain versions 0 parts code first base.0 are.next are.rest fit alike))
-        (chosen_are grain versions (length first) long 0 parts code base.0 (base.1.same_length first there) are.next fit base.1)
+        subst (IsCombinationBy split versions) (sym (chosen_alike split versions 0 parts code first base.0 are.next are.rest fit alike))
+        (chosen_are split versions (length first) long 0 parts code base.0 (base.1.same_length first there) are.next fit base.1)
 
     -- the combinations are numbered
-    abbrev pub numbered : AreNumbered (IsCombinationBy grain versions) (count_of parts)
+    abbrev pub numbered : AreNumbered (IsCombinationBy split versions) (count_of parts)
     numbered =
         record {
           at = λ k. chosen parts k first;
           are = λ k lt. chosen_first k;
-          all = λ combination is. chosen_all grain versions 0 parts first combination are.next are.rest fit is
+          all = λ combination is. chosen_all split versions 0 parts first combination are.next are.rest fit is
               (alike_back 0 combination first (combination_alike first combination there is));
-          once = λ j k low lt same. chosen_once grain versions 0 parts first j k are.next fit low lt same;
+          once = λ j k low lt same. chosen_once split versions 0 parts first j k are.next fit low lt same;
         }

@@ -1,36 +1,36 @@
--- Regions are the coarsest grain: what is a combination of regions is one of segments.
+-- Regions are the coarsest split: what is a combination of regions is one of segments.
 use Rattle.std.proofs.Common.{◌≡◌, ℕ, zero, suc, ◌-◌, ◌<◌, ◌≤◌, List, length, get_or, sym, ap, ◌∙◌, subst, arith, inl, inr}
 use Rattle.std.specs.Prelude.{Contains, slice_range}
 use Rattle.std.proofs.lemmas.Bool.{cases_lt}
 use Rattle.std.proofs.lemmas.List.{get_or_default}
 use Rattle.ffv1_weave.specs.Regions.{HaveLength, DifferAt, IsRegion}
-use Rattle.ffv1_weave.specs.Seams.{IsSeam, IsSegment}
-use Rattle.ffv1_weave.specs.Grains.{grains}
+use Rattle.ffv1_weave.specs.Boundaries.{IsBoundary, IsSegment}
+use Rattle.ffv1_weave.specs.Splits.{splits}
 use Rattle.ffv1_weave.specs.Checks.{PassesBy}
 use Rattle.ffv1_weave.specs.Combinations.{IsCombinationBy, IsCombination, IsValid}
 use Rattle.ffv1_weave.specs.Weave.{Weave, IsWeaveOf, AreFew}
 use Rattle.ffv1_weave.specs.Weave.Weave.{woven, disputed, missing, too_many}
 use Rattle.ffv1_weave.specs.Laws.{KeepsOriginal, OriginalIsWoven, TriedOriginalIsWoven, RegionsAreCoarsest}
 use Rattle.ffv1_weave.specs.declared.check.Check.{Check}
-use Rattle.ffv1_weave.specs.declared.grains.Grain.TheVariants.{Pairs, Regions}
+use Rattle.ffv1_weave.specs.declared.splits.Split.TheVariants.{Pairs, Regions}
 use Rattle.ffv1_weave.specs.declared.regions.TheConstants.{SEPARATION}
 use Rattle.ffv1_weave.proofs.Agreeing.{some_differ}
 use Rattle.ffv1_weave.proofs.WiderRegions.{region_of}
-use Rattle.ffv1_weave.proofs.SeamSteps.{seam_before, seam_after, segment_within}
-use Rattle.ffv1_weave.proofs.GrainSteps.{region_within}
+use Rattle.ffv1_weave.proofs.BoundarySteps.{boundary_before, boundary_after, segment_within}
+use Rattle.ffv1_weave.proofs.SplitSteps.{region_within}
 use Rattle.ffv1_weave.proofs.Choices.{same_range, range_at}
-use Rattle.ffv1_weave.proofs.Tried.{tried_grain, valid_by}
+use Rattle.ffv1_weave.proofs.Tried.{tried_split, valid_by}
 
--- ---- the ends of a region are seams
+-- ---- the ends of a region are boundaries
 
 module _ (versions : List (List ℕ)) where
-  first_is_seam : (distance start end : ℕ) → distance ≤ SEPARATION → IsRegion versions start end → IsSeam distance versions start
-  first_is_seam distance start end near h = seam_before distance versions start h.first (λ i lt close. h.before i lt (omega arith))
+  first_is_boundary : (distance start end : ℕ) → distance ≤ SEPARATION → IsRegion versions start end → IsBoundary distance versions start
+  first_is_boundary distance start end near h = boundary_before distance versions start h.first (λ i lt close. h.before i lt (omega arith))
 
-  last_is_seam : (distance start end : ℕ) → distance ≤ SEPARATION → IsRegion versions start end → IsSeam distance versions end
-  last_is_seam distance start end near h =
+  last_is_boundary : (distance start end : ℕ) → distance ≤ SEPARATION → IsRegion versions start end → IsBoundary distance versions end
+  last_is_boundary distance start end near h =
       let some = h.some in
-      seam_after distance versions (end - 1) end (omega arith) h.last (λ i low lt. h.after i low (omega arith))
+      boundary_after distance versions (end - 1) end (omega arith) h.last (λ i low lt. h.after i low (omega arith))
 
   -- A segment in which versions differ lies in one region.
   in_region : (distance size start end place : ℕ) → distance ≤ SEPARATION → HaveLength versions size → IsSegment distance versions start end → start ≤ place
@@ -43,11 +43,11 @@ module _ (versions : List (List ℕ)) where
         region.last,
         elim (cases_lt start region.begin) [
           | inr below ↦ below
-          | inl above ↦ absurd (h.within region.begin above (omega arith) (first_is_seam distance region.begin region.last near region.region))
+          | inl above ↦ absurd (h.within region.begin above (omega arith) (first_is_boundary distance region.begin region.last near region.region))
         ],
         elim (cases_lt region.last end) [
           | inr above ↦ above
-          | inl below ↦ absurd (h.within region.last (omega arith) below (last_is_seam distance region.begin region.last near region.region))
+          | inl below ↦ absurd (h.within region.last (omega arith) below (last_is_boundary distance region.begin region.last near region.region))
         ],
         region.region,
       )
@@ -55,7 +55,7 @@ module _ (versions : List (List ℕ)) where
 -- ---- a combination of regions is one of segments
 
 segment_version : (distance : ℕ) (versions : List (List ℕ)) (start end : ℕ) → IsSegment distance versions start end → (version : List ℕ) × Contains versions version
-segment_version distance versions start end h = elim h.last [ inl seam ↦ (seam.one, seam.one_there) | inr at_end ↦ (at_end.0, at_end.1) ]
+segment_version distance versions start end h = elim h.last [ inl boundary ↦ (boundary.one, boundary.one_there) | inr at_end ↦ (at_end.0, at_end.1) ]
 
 module _ (versions : List (List ℕ)) (bytes : List ℕ) (is : IsCombination versions bytes) where
   long : HaveLength versions (length bytes)
@@ -90,18 +90,18 @@ module _ (versions : List (List ℕ)) (bytes : List ℕ) (is : IsCombination ver
   segments_of distance near =
       record { same_length = is.same_length; agrees = is.agrees; parts = λ start end segment. segment_from_one distance start end near segment }
 
-  each_grain : (k : ℕ) → k < length grains → IsCombinationBy (get_or grains k Regions) versions bytes
-  each_grain zero lt = segments_of 0 (omega arith)
-  each_grain (suc zero) lt = segments_of 2 (omega arith)
-  each_grain (suc (suc zero)) lt = segments_of 8 (omega arith)
-  each_grain (suc (suc (suc zero))) lt = segments_of 64 (omega arith)
-  each_grain (suc (suc (suc (suc zero)))) lt = is
-  each_grain (suc (suc (suc (suc (suc k))))) lt = absurd (omega arith)
+  each_split : (k : ℕ) → k < length splits → IsCombinationBy (get_or splits k Regions) versions bytes
+  each_split zero lt = segments_of 0 (omega arith)
+  each_split (suc zero) lt = segments_of 2 (omega arith)
+  each_split (suc (suc zero)) lt = segments_of 8 (omega arith)
+  each_split (suc (suc (suc zero))) lt = segments_of 64 (omega arith)
+  each_split (suc (suc (suc (suc zero)))) lt = is
+  each_split (suc (suc (suc (suc (suc k))))) lt = absurd (omega arith)
 
 pub regions_are_coarsest : RegionsAreCoarsest
-regions_are_coarsest grain versions bytes there is =
-    subst (λ g. IsCombinationBy g versions bytes) (get_or_default grains there.0 Regions grain there.1 ∙ there.2)
-    (each_grain versions bytes is there.0 there.1)
+regions_are_coarsest split versions bytes there is =
+    subst (λ g. IsCombinationBy g versions bytes) (get_or_default splits there.0 Regions split there.1 ∙ there.2)
+    (each_split versions bytes is there.0 there.1)
 
 -- ---- an original
 
@@ -109,8 +109,8 @@ regions_are_coarsest grain versions bytes there is =
 pub region_valid : (check : Check) (versions : List (List ℕ)) (original : List ℕ) (count : ℕ) → AreFew versions count → PassesBy check original
     → IsCombination versions original → IsValid check versions original
 region_valid check versions original count few passes is =
-    valid_by versions check few.grain count few.tried original
-    (regions_are_coarsest few.grain versions original (tried_grain versions few.grain count few.tried) is) passes
+    valid_by versions check few.split count few.tried original
+    (regions_are_coarsest few.split versions original (tried_split versions few.split count few.tried) is) passes
 
 kept_valid : (check : Check) (versions : List (List ℕ)) (original : List ℕ) (weave : Weave)
     → ((count : ℕ) → AreFew versions count → IsValid check versions original) → IsWeaveOf check versions weave → KeepsOriginal original weave
@@ -124,5 +124,5 @@ original_is_woven check original versions weave passes is h =
     kept_valid check versions original weave (λ count few. region_valid check versions original count few passes is) h
 
 pub tried_original_is_woven : TriedOriginalIsWoven
-tried_original_is_woven check original versions grain count weave passes tried is h =
-    kept_valid check versions original weave (λ _ few. valid_by versions check grain count tried original is passes) h
+tried_original_is_woven check original versions split count weave passes tried is h =
+    kept_valid check versions original weave (λ _ few. valid_by versions check split count tried original is passes) h

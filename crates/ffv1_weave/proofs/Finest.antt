@@ -1,35 +1,35 @@
--- The parts of a grain, as they are looked for while there are few enough combinations.
+-- The parts of a split, as they are looked for while there are few enough combinations.
 use Rattle.std.proofs.Common.{◌≡◌, ℕ, ◌*◌, ◌/◌, ◌<◌, ◌≤◌, List, [], ◌∷◌, ◌++◌, length, get_or, refl, sym, ap, ◌∙◌, subst, arith, inl, inr}
 use Rattle.std.specs.Prelude.{All}
 use Rattle.std.proofs.lemmas.List.{get_or_default}
 use Rattle.std.proofs.lemmas.List.Elements.{All-push, Contains-get_or}
 use Rattle.ffv1_weave.specs.Regions.{HaveLength, AgreeAt}
-use Rattle.ffv1_weave.specs.Grains.{grains}
+use Rattle.ffv1_weave.specs.Splits.{splits}
 use Rattle.ffv1_weave.specs.Numbers.{AreNumbered}
 use Rattle.ffv1_weave.specs.Combinations.{IsCombinationBy, HasFew, HasMany}
 use Rattle.ffv1_weave.specs.Weave.{AreMany}
 use Rattle.ffv1_weave.specs.Inner.Parts.{Part, AreChoicesBy, IsEdge, IsPartFrom, ArePartsFrom, AreFewParts, AreTriedParts, IsFit, parts_end, count_of}
-use Rattle.ffv1_weave.specs.declared.grains.Grain.{Grain}
-use Rattle.ffv1_weave.specs.declared.grains.Grain.TheVariants.{Regions}
+use Rattle.ffv1_weave.specs.declared.splits.Split.{Split}
+use Rattle.ffv1_weave.specs.declared.splits.Split.TheVariants.{Regions}
 use Rattle.ffv1_weave.specs.declared.weaving.TheConstants.{MOST_COMBINATIONS}
-use Rattle.ffv1_weave.proofs.GrainSteps.{part_some}
+use Rattle.ffv1_weave.proofs.SplitSteps.{part_some}
 use Rattle.ffv1_weave.proofs.MostSteps.{choices_fit}
 use Rattle.ffv1_weave.proofs.PartSteps.{parts_end_push, parts_push, count_push, count_over, count_fits, count_positive}
 use Rattle.ffv1_weave.proofs.Choices.{fit_as, many_chosen, numbered}
 
 -- The parts so far, which end where the next is looked for, have so many combinations.
-pub record ArePartsSoFar (grain : Grain) (versions : List (List ℕ)) (size from : ℕ) (parts : List Part) (count : ℕ) : Type 0 where
+pub record ArePartsSoFar (split : Split) (versions : List (List ℕ)) (size from : ℕ) (parts : List Part) (count : ℕ) : Type 0 where
   pub within : from ≤ size
-  pub edge : IsEdge grain versions from
-  pub after : ArePartsFrom grain versions 0 parts
+  pub edge : IsEdge split versions from
+  pub after : ArePartsFrom split versions 0 parts
   pub ends : parts_end 0 parts ≡ from
   pub fit : All (IsFit size) parts
   pub some : 0 < count
   pub counted : count ≡ count_of parts
   pub few : count ≤ MOST_COMBINATIONS
 
-pub none_so_far : (grain : Grain) (versions : List (List ℕ)) (size : ℕ) → ArePartsSoFar grain versions size 0 [] 1
-none_so_far grain versions size =
+pub none_so_far : (split : Split) (versions : List (List ℕ)) (size : ℕ) → ArePartsSoFar split versions size 0 [] 1
+none_so_far split versions size =
     record {
       within = omega arith;
       edge = inl refl;
@@ -41,9 +41,9 @@ none_so_far grain versions size =
       few = omega arith;
     }
 
-pub all_so_far : (grain : Grain) (versions : List (List ℕ)) (size from : ℕ) (parts : List Part) (count : ℕ)
-    → ArePartsSoFar grain versions size from parts count → ((i : ℕ) → from ≤ i → AgreeAt versions i) → AreFewParts grain versions size parts count
-all_so_far grain versions size from parts count h rest =
+pub all_so_far : (split : Split) (versions : List (List ℕ)) (size from : ℕ) (parts : List Part) (count : ℕ)
+    → ArePartsSoFar split versions size from parts count → ((i : ℕ) → from ≤ i → AgreeAt versions i) → AreFewParts split versions size parts count
+all_so_far split versions size from parts count h rest =
     record {
       all = record { next = h.after; rest = subst (λ place. (i : ℕ) → place ≤ i → AgreeAt versions i) (sym h.ends) rest };
       fit = h.fit;
@@ -51,18 +51,18 @@ all_so_far grain versions size from parts count h rest =
       few = h.few;
     }
 
-module _ (grain : Grain) (versions : List (List ℕ)) (size : ℕ) (long : HaveLength versions size) (some : 0 < length versions) where
-  module _ (from : ℕ) (parts : List Part) (count : ℕ) (h : ArePartsSoFar grain versions size from parts count)
-      (part : Part) (next : IsPartFrom grain versions from part.start part.end) (within : part.end ≤ size)
-      (choices : AreChoicesBy grain versions part.start part.end part.choices) where
-    more_after : ArePartsFrom grain versions 0 (parts ++ part ∷ [])
+module _ (split : Split) (versions : List (List ℕ)) (size : ℕ) (long : HaveLength versions size) (some : 0 < length versions) where
+  module _ (from : ℕ) (parts : List Part) (count : ℕ) (h : ArePartsSoFar split versions size from parts count)
+      (part : Part) (next : IsPartFrom split versions from part.start part.end) (within : part.end ≤ size)
+      (choices : AreChoicesBy split versions part.start part.end part.choices) where
+    more_after : ArePartsFrom split versions 0 (parts ++ part ∷ [])
     more_after =
-        parts_push grain versions 0 parts part h.after (subst (λ place. IsPartFrom grain versions place part.start part.end) (sym h.ends) next) choices
+        parts_push split versions 0 parts part h.after (subst (λ place. IsPartFrom split versions place part.start part.end) (sym h.ends) next) choices
 
     part_fits : IsFit size part
     part_fits =
-        let order = part_some grain versions part.start part.end next.part in
-        choices_fit grain part.start part.end versions part.choices size long some (omega arith) within choices
+        let order = part_some split versions part.start part.end next.part in
+        choices_fit split part.start part.end versions part.choices size long some (omega arith) within choices
 
     more_fit : All (IsFit size) (parts ++ part ∷ [])
     more_fit = All-push (IsFit size) parts part h.fit part_fits
@@ -71,7 +71,7 @@ module _ (grain : Grain) (versions : List (List ℕ)) (size : ℕ) (long : HaveL
     more_counted = ap (λ n. n * length part.choices) h.counted ∙ sym (count_push parts part)
 
     pub one_more : length part.choices ≤ MOST_COMBINATIONS / count
-        → ArePartsSoFar grain versions size part.end (parts ++ part ∷ []) (count * length part.choices)
+        → ArePartsSoFar split versions size part.end (parts ++ part ∷ []) (count * length part.choices)
     one_more few =
         record {
           within = within;
@@ -85,34 +85,34 @@ module _ (grain : Grain) (versions : List (List ℕ)) (size : ℕ) (long : HaveL
         }
 
     -- with the choices of this part there are too many, whatever follows
-    pub too_many_more : MOST_COMBINATIONS / count < length part.choices → HasMany versions grain
+    pub too_many_more : MOST_COMBINATIONS / count < length part.choices → HasMany versions split
     too_many_more over =
         let first : List ℕ = get_or versions 0 [] in
         let there = Contains-get_or versions 0 [] some in
         let size_is : length first ≡ size = long first there in
-        many_chosen grain versions first (subst (HaveLength versions) (sym size_is) long) there (parts ++ part ∷ []) MOST_COMBINATIONS more_after
+        many_chosen split versions first (subst (HaveLength versions) (sym size_is) long) there (parts ++ part ∷ []) MOST_COMBINATIONS more_after
         (fit_as (length first) size (parts ++ part ∷ []) size_is more_fit)
         (subst (λ n. MOST_COMBINATIONS < n) more_counted (count_over count (length part.choices) MOST_COMBINATIONS h.some over))
 
-  -- ---- the finest grain by which there are few enough
+  -- ---- the finest split by which there are few enough
 
-  pub has_few : (parts : List Part) (count : ℕ) → AreFewParts grain versions size parts count → HasFew versions grain count
+  pub has_few : (parts : List Part) (count : ℕ) → AreFewParts split versions size parts count → HasFew versions split count
   has_few parts count few =
       let first : List ℕ = get_or versions 0 [] in
       let there = Contains-get_or versions 0 [] some in
       let size_is : length first ≡ size = long first there in
-      let all = numbered grain versions parts first (subst (HaveLength versions) (sym size_is) long) there few.all
+      let all = numbered split versions parts first (subst (HaveLength versions) (sym size_is) long) there few.all
       (fit_as (length first) size parts size_is few.fit) in
-      record { numbered = subst (AreNumbered (IsCombinationBy grain versions)) (sym few.counted) all; few = few.few }
+      record { numbered = subst (AreNumbered (IsCombinationBy split versions)) (sym few.counted) all; few = few.few }
 
-  pub finest : (place : ℕ) (parts : List Part) (count : ℕ) → place < length grains → get_or grains place Regions ≡ grain
-      → ((k : ℕ) → k < place → HasMany versions (get_or grains k Regions)) → AreFewParts grain versions size parts count
+  pub finest : (place : ℕ) (parts : List Part) (count : ℕ) → place < length splits → get_or splits place Regions ≡ split
+      → ((k : ℕ) → k < place → HasMany versions (get_or splits k Regions)) → AreFewParts split versions size parts count
       → AreTriedParts versions size parts count
   finest place parts count there is finer few =
-      record { grain = grain; tried = record { place = place; there = there; is = is; finer = finer; few = has_few parts count few }; few = few }
+      record { split = split; tried = record { place = place; there = there; is = is; finer = finer; few = has_few parts count few }; few = few }
 
-pub none_few : (versions : List (List ℕ)) → ((k : ℕ) → k < length grains → HasMany versions (get_or grains k Regions)) → AreMany versions
+pub none_few : (versions : List (List ℕ)) → ((k : ℕ) → k < length splits → HasMany versions (get_or splits k Regions)) → AreMany versions
 none_few versions h =
     record {
-      each = λ grain there. subst (HasMany versions) (get_or_default grains there.0 Regions grain there.1 ∙ there.2) (h there.0 there.1);
+      each = λ split there. subst (HasMany versions) (get_or_default splits there.0 Regions split there.1 ∙ there.2) (h there.0 there.1);
     }

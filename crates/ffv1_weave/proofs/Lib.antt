@@ -2,8 +2,8 @@ pub mod References
 pub mod Agreeing
 pub mod RegionSteps
 pub mod WiderRegions
-pub mod SeamSteps
-pub mod GrainSteps
+pub mod BoundarySteps
+pub mod SplitSteps
 pub mod ChoiceSteps
 pub mod Numbering
 pub mod MostSteps
@@ -28,6 +28,6 @@ pub mod Coarsest
 pub mod Vectors
 pub mod ThreeVersions
 pub mod MostVectors
-pub mod SeamVectors
+pub mod BoundaryVectors
 pub mod RepairVectors
 pub mod VoteVectors

@@ -14,8 +14,8 @@ use Rattle.ffv1_weave.specs.Parts.{written}
 use Rattle.ffv1_weave.specs.Inner.Changes.{remainder_in, change_of, changes_of, changed}
 use Rattle.ffv1_weave.specs.declared.check.Check.{Check}
 use Rattle.ffv1_weave.specs.declared.check.Check.TheVariants.{Slice, Element, Record, Flac}
-use Rattle.ffv1_weave.specs.declared.grains.Grain.{Grain}
-use Rattle.ffv1_weave.proofs.GrainSteps.{part_some}
+use Rattle.ffv1_weave.specs.declared.splits.Split.{Split}
+use Rattle.ffv1_weave.proofs.SplitSteps.{part_some}
 use Rattle.ffv1_weave.proofs.References.{values_of, value_at, length-values_of}
 use Rattle.ffv1_weave.proofs.Choices.{length-written, written_after, same_range, choice_of, choice_size, digit_below, fit_as, fit_head, fit_tail, fits_in}
 
@@ -83,8 +83,8 @@ changed_by check a b start end choice long ends within same =
     ∙ xor_comm (remainder_in check a) (change_of check a start choice)
     ∙ xor_twice (remainder_in check (written a start choice)) (remainder_in check a)
 
-module _ (check : Check) (grain : Grain) (versions : List (List ℕ)) (first : List ℕ) where
-  pub changed_is : (from : ℕ) (parts : List Part) (code : ℕ) (bytes : List ℕ) → ArePartsFrom grain versions from parts → All (IsFit (length bytes)) parts
+module _ (check : Check) (split : Split) (versions : List (List ℕ)) (first : List ℕ) where
+  pub changed_is : (from : ℕ) (parts : List Part) (code : ℕ) (bytes : List ℕ) → ArePartsFrom split versions from parts → All (IsFit (length bytes)) parts
       → length bytes ≡ length first → ((i : ℕ) → from ≤ i → get_or bytes i 0 ≡ get_or first i 0)
       → changed (map (changes_of check first) parts) code (remainder_in check bytes) ≡ remainder_in check (chosen parts code bytes)
   changed_is from [] code bytes are fit long same = refl
@@ -96,7 +96,7 @@ module _ (check : Check) (grain : Grain) (versions : List (List ℕ)) (first : L
       let fits = fits_in (length bytes) part parts fit (code % n) digit in
       let ends = choice_size (length bytes) part head (code % n) digit in
       let beyond = are.0.beyond in
-      let some = part_some grain versions part.start part.end are.0.part in
+      let some = part_some split versions part.start part.end are.0.part in
       let within = head.within in
       let many : length (changes_of check first part) ≡ n = length-map part.choices (change_of check first part.start) in
       let entry : get_or (changes_of check first part) (code % n) 0 ≡ change_of check first part.start choice =

@@ -9,18 +9,18 @@ use Rattle.std.proofs.lemmas.List.Edits.{length-between}
 use Rattle.std.proofs.lemmas.List.Elements.{Contains-append_left, Contains-append_right, Contains-append_cases, Contains-get_or}
 use Rattle.std.proofs.lemmas.Slice.Eq.{bytes_eq-Decides}
 use Rattle.ffv1_weave.specs.Numbers.{AreNumbered}
-use Rattle.ffv1_weave.specs.Grains.{IsChoiceOf, IsChoiceBy, HasChoice, IsMost}
+use Rattle.ffv1_weave.specs.Splits.{IsChoiceOf, IsChoiceBy, HasChoice, IsMost}
 use Rattle.ffv1_weave.specs.Regions.{HaveLength}
 use Rattle.ffv1_weave.specs.Inner.Parts.{AreChoices, AreChoicesBy, AreDistinct, IsFit}
-use Rattle.ffv1_weave.specs.declared.grains.Grain.{Grain}
-use Rattle.ffv1_weave.specs.declared.grains.Grain.TheVariants.{Pairs, Regions, Most}
+use Rattle.ffv1_weave.specs.declared.splits.Split.{Split}
+use Rattle.ffv1_weave.specs.declared.splits.Split.TheVariants.{Pairs, Regions, Most}
 use Rattle.ffv1_weave.proofs.ChoiceSteps.{alone, listed_at, pushed_at, once_pushed}
 use Rattle.ffv1_weave.proofs.Numbering.{one_number}
 use Rattle.ffv1_weave.proofs.Agreeing.{at_index}
 use Rattle.ffv1_weave.proofs.NextSegment.{one_or_none}
 
 -- what is taken in a part some version has there
-pub choice_of_some : (grain : Grain) (versions : List (List ℕ)) (start end : ℕ) (choice : List ℕ) → IsChoiceBy grain versions start end choice
+pub choice_of_some : (split : Split) (versions : List (List ℕ)) (start end : ℕ) (choice : List ℕ) → IsChoiceBy split versions start end choice
     → IsChoiceOf versions start end choice
 choice_of_some (Pairs distance) versions start end choice h = h
 choice_of_some Regions versions start end choice h = h
@@ -237,7 +237,7 @@ module _ (versions : List (List ℕ)) (start end : ℕ) where
 -- ---- what can be taken in a part
 
 -- something can be taken
-pub some_taken : (grain : Grain) (versions : List (List ℕ)) (start end : ℕ) → 0 < length versions → (choice : List ℕ) × IsChoiceBy grain versions start end choice
+pub some_taken : (split : Split) (versions : List (List ℕ)) (start end : ℕ) → 0 < length versions → (choice : List ℕ) × IsChoiceBy split versions start end choice
 some_taken (Pairs distance) versions start end some =
     (slice_range (get_or versions 0 []) start end, (get_or versions 0 [], Contains-get_or versions 0 [] some, refl))
 some_taken Regions versions start end some =
@@ -246,15 +246,15 @@ some_taken (Most distance) versions start end some =
     let most = some_most versions start end some in
     (slice_range most.0 start end, ((most.0, most.1, refl), most.2))
 
-module _ (grain : Grain) (start end : ℕ) where
+module _ (split : Split) (start end : ℕ) where
   pub choices_fit : (versions choices : List (List ℕ)) (size : ℕ) → HaveLength versions size → 0 < length versions → start ≤ end → end ≤ size
-      → AreChoicesBy grain versions start end choices → IsFit size (record { start = start; end = end; choices = choices })
+      → AreChoicesBy split versions start end choices → IsFit size (record { start = start; end = end; choices = choices })
   choices_fit versions choices size long some order within h =
       record {
         order = order;
         within = within;
-        some = let taken = some_taken grain versions start end some in let there = h.each taken.0 taken.1 in omega (arith, there.1);
-        fill = λ k lt. let p = choice_of_some grain versions start end (get_or choices k []) (h.only k lt) in
+        some = let taken = some_taken split versions start end some in let there = h.each taken.0 taken.1 in omega (arith, there.1);
+        fill = λ k lt. let p = choice_of_some split versions start end (get_or choices k []) (h.only k lt) in
             ap length p.2 ∙ length-between p.0 start end (omega (arith, long p.0 p.1));
       }
 

@@ -1,10 +1,10 @@
--- The next segment after a place: whether a place is a seam, and where the next one is.
+-- The next segment after a place: whether a place is a boundary, and where the next one is.
 use Rattle.std.proofs.Common.{◌≡◌, ℕ, zero, suc, ◌+◌, ◌-◌, ◌<◌, ◌≤◌, List, [], length, get_or, refl, sym, ◌∙◌, subst, arith, inl, inr}
 use Rattle.std.specs.Prelude.{◌⊎◌, Contains}
 use Rattle.std.proofs.lemmas.Bool.{cases_lt, cases_eq}
 use Rattle.std.proofs.lemmas.List.Elements.{Contains-get_or}
 use Rattle.ffv1_weave.specs.Regions.{HaveLength}
-use Rattle.ffv1_weave.specs.Seams.{BeginsStreak, EndsStreak, AreParted, IsSeam, IsSegment}
+use Rattle.ffv1_weave.specs.Boundaries.{BeginsStreak, EndsStreak, AreParted, IsBoundary, IsSegment}
 use Rattle.ffv1_weave.proofs.Agreeing.{at_index}
 
 -- ---- two versions
@@ -88,42 +88,42 @@ module _ (distance : ℕ) (versions : List (List ℕ)) where
     | inr none ↦ inr (λ h. none h.0 h.1 h.2)
   ]
 
-  pub seam_or_not : (place : ℕ) → IsSeam distance versions place ⊎ (IsSeam distance versions place → ⊥)
-  seam_or_not place = elim (one_or_none versions (HasParted place) (has_parted_or_not place)) [
+  pub boundary_or_not : (place : ℕ) → IsBoundary distance versions place ⊎ (IsBoundary distance versions place → ⊥)
+  boundary_or_not place = elim (one_or_none versions (HasParted place) (has_parted_or_not place)) [
     | inl found ↦ inl (record { one = found.0; other = found.2.0; one_there = found.1; other_there = found.2.1; parted = found.2.2 })
     | inr none ↦ inr (λ h. none h.one h.one_there (h.other, h.other_there, h.parted))
   ]
 
-  -- the next seam, or the versions' end
+  -- the next boundary, or the versions' end
   record HasNext (from size : ℕ) : Type 0 where
     end : ℕ
     beyond : from < end
     within : end ≤ size
-    quiet : (i : ℕ) → from < i → i < end → IsSeam distance versions i → ⊥
-    last : IsSeam distance versions end ⊎ (end ≡ size)
+    quiet : (i : ℕ) → from < i → i < end → IsBoundary distance versions i → ⊥
+    last : IsBoundary distance versions end ⊎ (end ≡ size)
 
   -- as far as it is sought there is none, or it is found
-  sought : (from size n : ℕ) → from + n < size → ((i : ℕ) → from < i → i ≤ from + n → IsSeam distance versions i → ⊥) ⊎ HasNext from size
-  sought from size zero below = inl (λ i low high seam. omega arith)
+  sought : (from size n : ℕ) → from + n < size → ((i : ℕ) → from < i → i ≤ from + n → IsBoundary distance versions i → ⊥) ⊎ HasNext from size
+  sought from size zero below = inl (λ i low high boundary. omega arith)
   sought from size (suc n) below = elim (sought from size n (omega arith)) [
     | inr found ↦ inr found
-    | inl none ↦ elim (seam_or_not (from + suc n)) [
-      | inl seam ↦ inr (record {
+    | inl none ↦ elim (boundary_or_not (from + suc n)) [
+      | inl boundary ↦ inr (record {
         end = from + suc n;
         beyond = omega arith;
         within = omega arith;
         quiet = λ i low lt. none i low (omega arith);
-        last = inl seam;
+        last = inl boundary;
       })
-      | inr never ↦ inl (λ i low high seam. elim (cases_lt i (from + suc n)) [
-        | inl before ↦ none i low (omega arith) seam
-        | inr above ↦ let here : i ≡ from + suc n = omega arith in never (subst (IsSeam distance versions) here seam)
+      | inr never ↦ inl (λ i low high boundary. elim (cases_lt i (from + suc n)) [
+        | inl before ↦ none i low (omega arith) boundary
+        | inr above ↦ let here : i ≡ from + suc n = omega arith in never (subst (IsBoundary distance versions) here boundary)
       ])
     ]
   ]
 
-  next_seam : (from size : ℕ) → from < size → HasNext from size
-  next_seam from size below = elim (sought from size (size - from - 1) (omega arith)) [
+  next_boundary : (from size : ℕ) → from < size → HasNext from size
+  next_boundary from size below = elim (sought from size (size - from - 1) (omega arith)) [
     | inr found ↦ found
     | inl none ↦ record { end = size; beyond = below; within = omega arith; quiet = λ i low lt. none i low (omega arith); last = inr refl }
   ]
@@ -132,13 +132,13 @@ module _ (distance : ℕ) (versions : List (List ℕ)) where
     pub end : ℕ
     pub within : end ≤ size
     pub segment : IsSegment distance versions from end
-    pub last : IsSeam distance versions end ⊎ (end ≡ size)
+    pub last : IsBoundary distance versions end ⊎ (end ≡ size)
 
-  -- From the versions' start, or from a seam, there is a next segment.
-  pub next_segment : (from size : ℕ) → HaveLength versions size → 0 < length versions → from < size → (from ≡ 0) ⊎ IsSeam distance versions from
+  -- From the versions' start, or from a boundary, there is a next segment.
+  pub next_segment : (from size : ℕ) → HaveLength versions size → 0 < length versions → from < size → (from ≡ 0) ⊎ IsBoundary distance versions from
       → IsNextSegment from size
   next_segment from size long some below first =
-      let next = next_seam from size below in
+      let next = next_boundary from size below in
       let there = Contains-get_or versions 0 [] some in
       record {
         end = next.end;
@@ -147,7 +147,7 @@ module _ (distance : ℕ) (versions : List (List ℕ)) where
           some = next.beyond;
           first = first;
           last = elim next.last [
-            | inl seam ↦ inl seam
+            | inl boundary ↦ inl boundary
             | inr at_end ↦ inr (get_or versions 0 [], there, at_end ∙ sym (long (get_or versions 0 []) there))
           ];
           within = next.quiet;

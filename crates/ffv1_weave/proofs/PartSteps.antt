@@ -3,7 +3,7 @@ use Rattle.std.proofs.Common.{◌≡◌, ℕ, ◌*◌, ◌/◌, ◌<◌, ◌≤�
 use Rattle.std.proofs.Math.Nat.{le-div_iff_mul-le, mul_comm, mul_assoc, mul-lt-mul_of_pos_left}
 use Rattle.std.proofs.lemmas.Bool.{cases_lt}
 use Rattle.ffv1_weave.specs.Inner.Parts.{Part, AreChoicesBy, ArePartsFrom, IsPartFrom, parts_end, count_of}
-use Rattle.ffv1_weave.specs.declared.grains.Grain.{Grain}
+use Rattle.ffv1_weave.specs.declared.splits.Split.{Split}
 
 -- ---- one part more
 
@@ -11,10 +11,10 @@ pub parts_end_push : (from : ℕ) (parts : List Part) (part : Part) → parts_en
 parts_end_push from [] part = refl
 parts_end_push from (other ∷ parts) part = parts_end_push other.end parts part
 
-module _ (grain : Grain) (versions : List (List ℕ)) where
-  pub parts_push : (from : ℕ) (parts : List Part) (part : Part) → ArePartsFrom grain versions from parts
-      → IsPartFrom grain versions (parts_end from parts) part.start part.end → AreChoicesBy grain versions part.start part.end part.choices
-      → ArePartsFrom grain versions from (parts ++ part ∷ [])
+module _ (split : Split) (versions : List (List ℕ)) where
+  pub parts_push : (from : ℕ) (parts : List Part) (part : Part) → ArePartsFrom split versions from parts
+      → IsPartFrom split versions (parts_end from parts) part.start part.end → AreChoicesBy split versions part.start part.end part.choices
+      → ArePartsFrom split versions from (parts ++ part ∷ [])
   parts_push from [] part are next choices = (next, choices, tt)
   parts_push from (other ∷ parts) part are next choices = (are.0, are.1, parts_push other.end parts part are.2 next choices)
 

@@ -9,11 +9,11 @@ use Rattle.ffv1_weave.proofs.WeaveLaws.{combination_as, tried_as, few_as}
 pub repair_as : (versions others : List (List ℕ)) → HasSameMembers versions others → (bytes : List ℕ) → IsRepair versions bytes → IsRepair others bytes
 repair_as versions others same bytes h =
     record {
-      grain = h.grain;
+      split = h.split;
       count = h.count;
-      tried = tried_as versions others same h.grain h.count h.tried;
+      tried = tried_as versions others same h.split h.count h.tried;
       base = h.base;
-      combination = combination_as versions others same h.grain h.base h.combination;
+      combination = combination_as versions others same h.split h.base h.combination;
       bit = h.bit;
       inside = h.inside;
       is = h.is;

@@ -13,11 +13,11 @@ use Rattle.ffv1_weave.specs.Repairs.{IsRepair, IsRepairOf}
 use Rattle.ffv1_weave.specs.Inner.Found.{PassesAmong, IsFoundAmong}
 use Rattle.ffv1_weave.specs.Inner.Inversions.{inversions}
 use Rattle.ffv1_weave.specs.declared.check.Check.TheVariants.{Slice}
-use Rattle.ffv1_weave.specs.declared.grains.Grain.{Grain}
+use Rattle.ffv1_weave.specs.declared.splits.Split.{Split}
 use Rattle.ffv1_weave.specs.declared.found.Found.{Found}
 use Rattle.ffv1_weave.specs.declared.parts.Parts.{Parts}
 use Rattle.ffv1_weave.specs.declared.repairing.TheConstants.{MOST_REPAIRS}
-use Rattle.ffv1_weave.proofs.Tried.{one_grain, one_count, few_not_many}
+use Rattle.ffv1_weave.proofs.Tried.{one_split, one_count, few_not_many}
 use Rattle.ffv1_weave.proofs.OneBit.{length-inverted}
 use Rattle.ffv1_weave.proofs.FoundSteps.{only_as, more_cases}
 use Rattle.ffv1_weave.proofs.InversionSteps.{inversion_there, inversion_of}
@@ -71,15 +71,15 @@ module _ {versions : List (List ℕ)} {parts : List Part} {count : ℕ} (have : 
   all_tried = all_inversions parts (get_or versions 0 []) count
 
   -- a combination is as long as the first version
-  long_as_first : (base : List ℕ) (grain : Grain) → IsCombinationBy grain versions base → length base ≡ length (get_or versions 0 [])
-  long_as_first base grain h = h.same_length (get_or versions 0 []) (first_there (have_few have))
+  long_as_first : (base : List ℕ) (split : Split) → IsCombinationBy split versions base → length base ≡ length (get_or versions 0 [])
+  long_as_first base split h = h.same_length (get_or versions 0 []) (first_there (have_few have))
 
   repair_long : (bytes : List ℕ) → IsRepair versions bytes → length bytes ≡ length (get_or versions 0 [])
-  repair_long bytes h = ap length h.is ∙ length-inverted h.base h.bit h.inside ∙ long_as_first h.base h.grain h.combination
+  repair_long bytes h = ap length h.is ∙ length-inverted h.base h.bit h.inside ∙ long_as_first h.base h.split h.combination
 
   is_found : (bytes : List ℕ) → IsRepair versions bytes → PassesAmong Slice all_tried bytes
   is_found bytes h =
-      let same = one_grain versions h.grain have.are.grain h.count count h.tried have.are.tried in
+      let same = one_split versions h.split have.are.split h.count count h.tried have.are.tried in
       let base = (chosen_where (have_few have) h.base).1 (subst (λ g. IsCombinationBy g versions h.base) same h.combination) in
       let there : Contains (inversions h.base) bytes =
       subst (Contains (inversions h.base)) (sym h.is) (inversion_there h.base 0 (8 * length h.base) h.bit (omega arith) (let low = h.inside in omega arith)) in
@@ -90,7 +90,7 @@ module _ {versions : List (List ℕ)} {parts : List Part} {count : ℕ} (have : 
       let base = flat_of inversions (chosen_below parts (get_or versions 0 []) count) bytes h.there in
       let bit = inversion_of base.0 0 (8 * length base.0) bytes base.2 in
       record {
-        grain = have.are.grain;
+        split = have.are.split;
         count = count;
         tried = have.are.tried;
         base = base.0;
@@ -108,7 +108,7 @@ module _ {versions : List (List ℕ)} {parts : List Part} {count : ℕ} (have : 
       record {
         only = only_as (PassesAmong Slice all_tried) (IsRepair versions) is_repair is_found bytes only;
         combinations = count;
-        few = record { grain = have.are.grain; tried = have.are.tried };
+        few = record { split = have.are.split; tried = have.are.tried };
         counted = counted ∙ ap (λ n. count * (8 * n)) (sym (repair_long bytes (is_repair bytes only.there)));
         within = within;
       }
@@ -129,7 +129,7 @@ module _ {versions : List (List ℕ)} {parts : List Part} {count : ℕ} (have : 
       let long : length bytes ≡ size = repair_long bytes h.only.there in
       let counted : tried ≡ count * (8 * size) =
       h.counted ∙ ap (λ n. h.combinations * (8 * n)) long
-      ∙ ap (λ n. n * (8 * size)) (one_count versions h.combinations count h.few (record { grain = have.are.grain; tried = have.are.tried })) in
+      ∙ ap (λ n. n * (8 * size)) (one_count versions h.combinations count h.few (record { split = have.are.split; tried = have.are.tried })) in
       let far : MOST_REPAIRS / 8 < count * size = count_over count size (MOST_REPAIRS / 8) some over in
       let eight : count * (8 * size) ≡ 8 * (count * size) = eight_out count size in
       let within = h.within in omega (arith, far, eight, counted)

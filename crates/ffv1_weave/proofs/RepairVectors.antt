@@ -17,7 +17,7 @@ use Rattle.ffv1_weave.specs.Inner.Found.{PassesAmong}
 use Rattle.ffv1_weave.specs.Inner.Inversions.{inversions}
 use Rattle.ffv1_weave.specs.Repairs.{inverted, IsRepairOf}
 use Rattle.ffv1_weave.specs.declared.check.Check.TheVariants.{Slice}
-use Rattle.ffv1_weave.specs.declared.grains.Grain.TheVariants.{Pairs}
+use Rattle.ffv1_weave.specs.declared.splits.Split.TheVariants.{Pairs}
 use Rattle.ffv1_weave.proofs.Finest.{finest}
 use Rattle.ffv1_weave.proofs.InversionSteps.{inversion_there, inversion_of}
 use Rattle.ffv1_weave.proofs.OneBit.{power_left, zeros_after, power_is_left, length-inverted, inverted_twice, mask_small, set_written}

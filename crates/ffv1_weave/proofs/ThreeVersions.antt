@@ -6,7 +6,7 @@ use Rattle.std.specs.Str.{bytes_eq}
 use Rattle.std.proofs.lemmas.Bool.{false≢true}
 use Rattle.std.proofs.lemmas.Slice.Eq.{bytes_eq-Decides}
 use Rattle.ffv1_weave.specs.Numbers.{AreNumbered}
-use Rattle.ffv1_weave.specs.Grains.{HasChoice, IsMost}
+use Rattle.ffv1_weave.specs.Splits.{HasChoice, IsMost}
 use Rattle.ffv1_weave.proofs.Numbering.{one_number}
 use Rattle.ffv1_weave.proofs.MostSteps.{have_none, have_same, have_more, most_of}
 

@@ -6,12 +6,12 @@ use Rattle.std.proofs.lemmas.Bool.{cases_lt}
 use Rattle.std.proofs.Math.ListN.{replicate, get_or-append}
 use Rattle.std.proofs.lemmas.List.{get_or-replicate, length-replicate, get_or-append_right}
 use Rattle.ffv1_weave.specs.Regions.{HaveLength, AgreeAt, DifferAt, IsRegion}
-use Rattle.ffv1_weave.specs.Seams.{IsSeam, IsSegment}
+use Rattle.ffv1_weave.specs.Boundaries.{IsBoundary, IsSegment}
 use Rattle.ffv1_weave.specs.Combinations.{IsCombination}
 use Rattle.ffv1_weave.specs.declared.regions.TheConstants.{SEPARATION}
 use Rattle.ffv1_weave.proofs.Agreeing.{agree_from, agree_past, differ_from}
 use Rattle.ffv1_weave.proofs.RegionSteps.{one_region}
-use Rattle.ffv1_weave.proofs.SeamSteps.{seam_before, seam_after}
+use Rattle.ffv1_weave.proofs.BoundarySteps.{boundary_before, boundary_after}
 
 pub versions : List (List ℕ)
 versions = (1 ∷ 2 ∷ 3 ∷ []) ∷ (1 ∷ 5 ∷ 3 ∷ []) ∷ []
@@ -158,7 +158,7 @@ not_of_both h =
     let near = next.2 in
     next.4 (between_agrees 64 next.0 next.1 (omega arith))
 
--- ---- the seams and the segments of these two
+-- ---- the boundaries and the segments of these two
 
 module _ (a b : List ℕ) where
   -- where two of them differ somewhere, they differ wherever any do
@@ -194,9 +194,9 @@ only_ends space i differ = elim (cases_lt 0 i) [
 ]
 
 module _ (distance space : ℕ) where
-  -- their end is a seam
-  end_is_seam : IsSeam distance (spread space) (space + 2)
-  end_is_seam = seam_after distance (spread space) (space + 1) (space + 2) (omega arith) (end_differs space)
+  -- their end is a boundary
+  end_is_boundary : IsBoundary distance (spread space) (space + 2)
+  end_is_boundary = boundary_after distance (spread space) (space + 1) (space + 2) (omega arith) (end_differs space)
       (λ i low near. agree_past (spread space) (space + 2) i (long space) low)
 
   -- where the two places are further apart than the distance, each is a segment
@@ -205,14 +205,14 @@ module _ (distance space : ℕ) where
     record {
       some = omega arith;
       first = inl refl;
-      last = inl (seam_after distance (spread space) 0 1 refl (start_differs space) (λ i low near. between_agrees space i low (omega arith)));
-      within = λ i low lt seam. absurd (omega arith);
+      last = inl (boundary_after distance (spread space) 0 1 refl (start_differs space) (λ i low near. between_agrees space i low (omega arith)));
+      within = λ i low lt boundary. absurd (omega arith);
     },
     record {
       some = omega arith;
-      first = inr (seam_before distance (spread space) (space + 1) (end_differs space) (λ i lt near. between_agrees space i (omega arith) lt));
-      last = inl end_is_seam;
-      within = λ i low lt seam. absurd (omega arith);
+      first = inr (boundary_before distance (spread space) (space + 1) (end_differs space) (λ i lt near. between_agrees space i (omega arith) lt));
+      last = inl end_is_boundary;
+      within = λ i low lt boundary. absurd (omega arith);
     },
   )
 
@@ -222,16 +222,16 @@ module _ (distance space : ℕ) where
       record {
         some = omega arith;
         first = inl refl;
-        last = inl end_is_seam;
-        within = λ i low lt seam. elim seam.parted [
-          | inl begins ↦ elim (only_ends space i (λ agree. begins.differ (agree seam.one seam.other seam.one_there seam.other_there))) [
+        last = inl end_is_boundary;
+        within = λ i low lt boundary. elim boundary.parted [
+          | inl begins ↦ elim (only_ends space i (λ agree. begins.differ (agree boundary.one boundary.other boundary.one_there boundary.other_there))) [
             | inl none ↦ omega arith
-            | inr high ↦ spread_differ space i 0 seam.one seam.other seam.one_there seam.other_there begins.differ (start_differs space)
+            | inr high ↦ spread_differ space i 0 boundary.one boundary.other boundary.one_there boundary.other_there begins.differ (start_differs space)
                 (begins.before 0 low (omega arith))
           ]
           | inr ends ↦ let next = ends.next in
-              elim (only_ends space ends.last (λ agree. ends.differ (agree seam.one seam.other seam.one_there seam.other_there))) [
-                | inl none ↦ spread_differ space ends.last (space + 1) seam.one seam.other seam.one_there seam.other_there ends.differ
+              elim (only_ends space ends.last (λ agree. ends.differ (agree boundary.one boundary.other boundary.one_there boundary.other_there))) [
+                | inl none ↦ spread_differ space ends.last (space + 1) boundary.one boundary.other boundary.one_there boundary.other_there ends.differ
                     (end_differs space) (ends.after (space + 1) (omega arith) (omega arith))
                 | inr high ↦ omega arith
               ]

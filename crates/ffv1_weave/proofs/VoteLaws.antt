@@ -4,10 +4,10 @@ use Rattle.std.specs.Prelude.{sum}
 use Rattle.std.proofs.lemmas.List.{ext_get_or}
 use Rattle.ffv1_slice.specs.Members.{HasSameMembers}
 use Rattle.ffv1_weave.specs.Combinations.{IsCombinationBy}
-use Rattle.ffv1_weave.specs.Grains.{votes}
+use Rattle.ffv1_weave.specs.Splits.{votes}
 use Rattle.ffv1_weave.specs.Votes.{AreThree, AreTriedBy, IsVote, IsVoteOf, SameVersionsVote, OriginalIsVoted}
-use Rattle.ffv1_weave.specs.declared.grains.Grain.{Grain}
-use Rattle.ffv1_weave.specs.declared.grains.Grain.TheVariants.{Regions}
+use Rattle.ffv1_weave.specs.declared.splits.Split.{Split}
+use Rattle.ffv1_weave.specs.declared.splits.Split.TheVariants.{Regions}
 use Rattle.ffv1_weave.proofs.Numbering.{one_number}
 use Rattle.ffv1_weave.proofs.Tried.{few_or_many}
 use Rattle.ffv1_weave.proofs.Returned.{RestsOnMembers, only_as}
@@ -32,18 +32,18 @@ module _ (versions others : List (List ℕ)) (same : HasSameMembers versions oth
   vote_as bytes h =
       record {
         three = three_as h.three;
-        grain = h.grain;
+        split = h.split;
         there = h.there;
         count = h.count;
-        few = has_few_as versions others same h.grain h.count h.few;
-        combination = combination_as versions others same h.grain bytes h.combination;
+        few = has_few_as versions others same h.split h.count h.few;
+        combination = combination_as versions others same h.split bytes h.combination;
         passes = h.passes;
       }
 
-  tried_by_as : (grain : Grain) (count : ℕ) → AreTriedBy versions grain count → AreTriedBy others grain count
-  tried_by_as grain count h = elim h [
-    | inl few ↦ inl (has_few_as versions others same grain count few)
-    | inr many ↦ inr (has_many_as versions others same grain many.0, many.1)
+  tried_by_as : (split : Split) (count : ℕ) → AreTriedBy versions split count → AreTriedBy others split count
+  tried_by_as split count h = elim h [
+    | inl few ↦ inl (has_few_as versions others same split count few)
+    | inr many ↦ inr (has_many_as versions others same split many.0, many.1)
   ]
 
 pub vote_of_as : RestsOnMembers IsVoteOf
@@ -56,15 +56,15 @@ vote_of_as versions others same bytes count h =
       counted = h.counted;
     }
 
--- as many are tried by a grain, whoever counts
-one_tried_by : (versions : List (List ℕ)) (grain : Grain) (m n : ℕ) → AreTriedBy versions grain m → AreTriedBy versions grain n → m ≡ n
-one_tried_by versions grain m n h k = elim h [
+-- as many are tried by a split, whoever counts
+one_tried_by : (versions : List (List ℕ)) (split : Split) (m n : ℕ) → AreTriedBy versions split m → AreTriedBy versions split n → m ≡ n
+one_tried_by versions split m n h k = elim h [
   | inl few ↦ elim k [
-    | inl other ↦ one_number (IsCombinationBy grain versions) m n few.numbered other.numbered
-    | inr many ↦ absurd (few_or_many versions grain m few many.0)
+    | inl other ↦ one_number (IsCombinationBy split versions) m n few.numbered other.numbered
+    | inr many ↦ absurd (few_or_many versions split m few many.0)
   ]
   | inr many ↦ elim k [
-    | inl few ↦ absurd (few_or_many versions grain n few many.0)
+    | inl few ↦ absurd (few_or_many versions split n few many.0)
     | inr other ↦ many.1 ∙ sym other.1
   ]
 ]

@@ -1,4 +1,4 @@
--- The votes as they are gone over: grain by grain.
+-- The votes as they are gone over: split by split.
 use Rattle.std.proofs.Common.{◌≡◌, ℕ, ◌+◌, ◌*◌, ◌<◌, ◌≤◌, List, [], ◌∷◌, ◌++◌, length, get_or, Option, refl, sym, ap, ◌∙◌, subst, arith, inl, inr}
 use Rattle.std.specs.Prelude.{◌↔◌, Contains, MatchOption, sum}
 use Rattle.std.proofs.lemmas.Bool.{cases_lt}
@@ -6,7 +6,7 @@ use Rattle.std.proofs.lemmas.List.{get_or_default, get_or_append_left, get_or_pu
 use Rattle.std.proofs.lemmas.List.Elements.{Contains-get_or, Contains-append_left, Contains-append_right, Contains-append_cases}
 use Rattle.std.proofs.lemmas.List.Sums.{sum_by_push}
 use Rattle.ffv1_slice.specs.Members.{IsOnly, IsOfTwo, IsOfNone}
-use Rattle.ffv1_weave.specs.Grains.{votes}
+use Rattle.ffv1_weave.specs.Splits.{votes}
 use Rattle.ffv1_weave.specs.Combinations.{IsCombinationBy, HasFew, HasMany}
 use Rattle.ffv1_weave.specs.Inner.Parts.{Part, AreDistinct, AreFewParts, chosen_below}
 use Rattle.ffv1_weave.specs.Inner.Found.{PassesAmong, IsFoundAmong}
@@ -14,8 +14,8 @@ use Rattle.ffv1_weave.specs.Votes.{AreThree, AreTriedBy, IsVote, IsVoteOf}
 use Rattle.ffv1_weave.specs.declared.check.Check.TheVariants.{Slice}
 use Rattle.ffv1_weave.specs.declared.found.Found.{Found}
 use Rattle.ffv1_weave.specs.declared.found.Found.TheVariants as found
-use Rattle.ffv1_weave.specs.declared.grains.Grain.{Grain}
-use Rattle.ffv1_weave.specs.declared.grains.Grain.TheVariants.{Regions}
+use Rattle.ffv1_weave.specs.declared.splits.Split.{Split}
+use Rattle.ffv1_weave.specs.declared.splits.Split.TheVariants.{Regions}
 use Rattle.ffv1_weave.specs.declared.parts.Parts.{Parts}
 use Rattle.ffv1_weave.specs.declared.weaving.TheConstants.{MOST_COMBINATIONS}
 use Rattle.ffv1_weave.proofs.Finest.{has_few}
@@ -57,14 +57,14 @@ not_three versions few h =
 pub no_vote_of_two : (versions : List (List ℕ)) → length versions < 3 → (bytes : List ℕ) (count : ℕ) → IsVoteOf versions bytes count → ⊥
 no_vote_of_two versions few bytes count h = not_three versions few h.only.there.three
 
--- ---- the votes by the grains so far
+-- ---- the votes by the splits so far
 
--- the parts by a grain, as the code has them: none where there are too many combinations
-abbrev pub ArePartsBy : Grain → List (List ℕ) → ℕ → Option Parts → Type 0
-ArePartsBy grain versions size found =
-    MatchOption found (HasMany versions grain) (λ few. AreFewParts grain versions size few.parts.items few.count)
+-- the parts by a split, as the code has them: none where there are too many combinations
+abbrev pub ArePartsBy : Split → List (List ℕ) → ℕ → Option Parts → Type 0
+ArePartsBy split versions size found =
+    MatchOption found (HasMany versions split) (λ few. AreFewParts split versions size few.parts.items few.count)
 
--- A combination by one of the first grains, by which there are few enough.
+-- A combination by one of the first splits, by which there are few enough.
 pub record IsTriedBefore (versions : List (List ℕ)) (place : ℕ) (bytes : List ℕ) : Type 0 where
   pub at : ℕ
   pub below : at < place
@@ -72,7 +72,7 @@ pub record IsTriedBefore (versions : List (List ℕ)) (place : ℕ) (bytes : Lis
   pub few : HasFew versions (get_or votes at Regions) count
   pub combination : IsCombinationBy (get_or votes at Regions) versions bytes
 
--- How many are tried by each of the first grains, and what is found among all of them.
+-- How many are tried by each of the first splits, and what is found among all of them.
 pub record AreTriedBefore (versions : List (List ℕ)) (place : ℕ) (what : Found) (count : ℕ) : Type 0 where
   pub tried : List ℕ
   pub long : length tried ≡ place
@@ -100,7 +100,7 @@ none_before versions =
     }
 
 module _ (versions : List (List ℕ)) (place : ℕ) (what : Found) (count : ℕ) (h : AreTriedBefore versions place what count) where
-  -- one more grain, by which so many are tried
+  -- one more split, by which so many are tried
   each_more : (more : ℕ) → AreTriedBy versions (get_or votes place Regions) more → (k : ℕ) → k < place + 1
       → AreTriedBy versions (get_or votes k Regions) (get_or (h.tried ++ more ∷ []) k 0)
   each_more more last k lt =
@@ -120,7 +120,7 @@ module _ (versions : List (List ℕ)) (place : ℕ) (what : Found) (count : ℕ)
   later bytes is =
       record { at = is.at; below = let low = is.below in omega arith; count = is.count; few = is.few; combination = is.combination }
 
-  -- by the next grain there are too many
+  -- by the next split there are too many
   pub many_more : HasMany versions (get_or votes place Regions) → AreTriedBefore versions (place + 1) what count
   many_more many =
       record {
@@ -173,7 +173,7 @@ module _ (versions : List (List ℕ)) (place : ℕ) (what : Found) (count : ℕ)
           (subst (λ i. IsCombinationBy (get_or votes i Regions) versions bytes) same is.combination))
     ]
 
-    -- by the next grain there are few enough, and they are tried too
+    -- by the next split there are few enough, and they are tried too
     pub few_more : (now : Found) → ((others : List (List ℕ)) → IsFoundAmong Slice others what
         → IsFoundAmong Slice (chosen_below parts (get_or versions 0 []) more ++ others) now)
         → AreTriedBefore versions (place + 1) now (count + more)
@@ -189,7 +189,7 @@ module _ (versions : List (List ℕ)) (place : ℕ) (what : Found) (count : ℕ)
           found = found_now h.strings h.found;
         }
 
--- ---- the vote of all grains
+-- ---- the vote of all splits
 
 module _ (versions : List (List ℕ)) (three : AreThree versions) (place : ℕ) (all : place ≡ length votes) (what : Found) (count : ℕ)
     (h : AreTriedBefore versions place what count) where
@@ -198,7 +198,7 @@ module _ (versions : List (List ℕ)) (three : AreThree versions) (place : ℕ) 
       let is = (h.are bytes).0 passing.there in
       record {
         three = three;
-        grain = get_or votes is.at Regions;
+        split = get_or votes is.at Regions;
         there = Contains-get_or votes is.at Regions (let low = is.below in omega arith);
         count = is.count;
         few = is.few;
@@ -208,15 +208,15 @@ module _ (versions : List (List ℕ)) (three : AreThree versions) (place : ℕ) 
 
   is_passing : (bytes : List ℕ) → IsVote versions bytes → PassesAmong Slice h.strings bytes
   is_passing bytes vote =
-      let grain_is : get_or votes vote.there.0 Regions ≡ vote.grain =
-      get_or_default votes vote.there.0 Regions vote.grain vote.there.1 ∙ vote.there.2 in
+      let split_is : get_or votes vote.there.0 Regions ≡ vote.split =
+      get_or_default votes vote.there.0 Regions vote.split vote.there.1 ∙ vote.there.2 in
       record {
         there = (h.are bytes).1 (record {
           at = vote.there.0;
           below = let low = vote.there.1 in omega arith;
           count = vote.count;
-          few = subst (λ grain. HasFew versions grain vote.count) (sym grain_is) vote.few;
-          combination = subst (λ grain. IsCombinationBy grain versions bytes) (sym grain_is) vote.combination;
+          few = subst (λ split. HasFew versions split vote.count) (sym split_is) vote.few;
+          combination = subst (λ split. IsCombinationBy split versions bytes) (sym split_is) vote.combination;
         });
         passes = vote.passes;
       }

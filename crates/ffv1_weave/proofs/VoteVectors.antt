@@ -6,17 +6,17 @@ use Rattle.std.specs.Prelude.{◌⊎◌, All, Contains, slice_range}
 use Rattle.std.proofs.lemmas.Bool.{cases_lt}
 use Rattle.ffv1_slice.specs.Members.{HasSameMembers}
 use Rattle.ffv1_weave.specs.Regions.{HaveLength, AgreeAt}
-use Rattle.ffv1_weave.specs.Seams.{IsSeam}
-use Rattle.ffv1_weave.specs.Grains.{IsMost, IsChoiceBy, votes}
+use Rattle.ffv1_weave.specs.Boundaries.{IsBoundary}
+use Rattle.ffv1_weave.specs.Splits.{IsMost, IsChoiceBy, votes}
 use Rattle.ffv1_weave.specs.Combinations.{IsCombinationBy, HasFew}
 use Rattle.ffv1_weave.specs.Inner.Parts.{Part, AreChoicesBy, IsPartFrom, AreFewParts, IsFit}
 use Rattle.ffv1_weave.specs.Votes.{AreThree, AreTriedBy, IsVoteOf}
-use Rattle.ffv1_weave.specs.declared.grains.Grain.{Grain}
-use Rattle.ffv1_weave.specs.declared.grains.Grain.TheVariants.{Regions, Most}
+use Rattle.ffv1_weave.specs.declared.splits.Split.{Split}
+use Rattle.ffv1_weave.specs.declared.splits.Split.TheVariants.{Regions, Most}
 use Rattle.ffv1_weave.proofs.Agreeing.{agree_from}
 use Rattle.ffv1_weave.proofs.ChoiceSteps.{alone}
 use Rattle.ffv1_weave.proofs.MostSteps.{choices_fit}
-use Rattle.ffv1_weave.proofs.SeamSteps.{seam_of}
+use Rattle.ffv1_weave.proofs.BoundarySteps.{boundary_of}
 use Rattle.ffv1_weave.proofs.ThreeVersions.{of_each, votes_of, is_most, is_not_most}
 use Rattle.ffv1_weave.proofs.Finest.{has_few}
 use Rattle.ffv1_weave.proofs.WeaveSteps.{HaveFewParts, chosen_where}
@@ -76,38 +76,38 @@ rest_agrees (suc (suc (suc i))) low = agree_from three (suc (suc (suc i))) same
 
 module _ (distance : ℕ) where
   -- the second and the third version differ from the second byte on
-  seam_one : IsSeam distance three 1
-  seam_one = seam_of distance three 1 other third other_there third_there (inl (record { differ = λ same. absurd (omega arith); before = before }))
+  boundary_one : IsBoundary distance three 1
+  boundary_one = boundary_of distance three 1 other third other_there third_there (inl (record { differ = λ same. absurd (omega arith); before = before }))
     where
       before : (i : ℕ) → i < 1 → 1 ≤ i + distance → get_or other i 0 ≡ get_or third i 0
       before zero lt near = refl
       before (suc i) lt near = absurd (omega arith)
 
   -- two versions that are the same after a place where they differ
-  seam_past : (last : ℕ) (a b : List ℕ) → Contains three a → Contains three b → (get_or a last 0 ≡ get_or b last 0 → ⊥)
-      → ((i : ℕ) → last < i → get_or a i 0 ≡ get_or b i 0) → IsSeam distance three (last + 1)
-  seam_past last a b there here apart same =
-      seam_of distance three (last + 1) a b there here
+  boundary_past : (last : ℕ) (a b : List ℕ) → Contains three a → Contains three b → (get_or a last 0 ≡ get_or b last 0 → ⊥)
+      → ((i : ℕ) → last < i → get_or a i 0 ≡ get_or b i 0) → IsBoundary distance three (last + 1)
+  boundary_past last a b there here apart same =
+      boundary_of distance three (last + 1) a b there here
       (inr (record { last = last; next = refl; differ = apart; after = λ i low lt. same i (omega arith) }))
 
   -- the first and the second version differ up to the third byte
-  seam_two : IsSeam distance three 2
-  seam_two = seam_past 1 one other one_there other_there (λ same. absurd (omega arith)) (λ i low. elim (cases_lt 2 i) [
+  boundary_two : IsBoundary distance three 2
+  boundary_two = boundary_past 1 one other one_there other_there (λ same. absurd (omega arith)) (λ i low. elim (cases_lt 2 i) [
     | inl past ↦ rest_agrees i past one other one_there other_there
     | inr here ↦ let is : 2 ≡ i = omega arith in subst (λ n. get_or one n 0 ≡ get_or other n 0) is refl
   ])
 
   -- the first and the third version differ up to the fourth
-  seam_three : IsSeam distance three 3
-  seam_three =
-      seam_past 2 one third one_there third_there (λ same. absurd (omega arith)) (λ i low. rest_agrees i low one third one_there third_there)
+  boundary_three : IsBoundary distance three 3
+  boundary_three =
+      boundary_past 2 one third one_there third_there (λ same. absurd (omega arith)) (λ i low. rest_agrees i low one third one_there third_there)
 
-  next : (start : ℕ) → (start ≡ 0) ⊎ IsSeam distance three start → IsSeam distance three (start + 1) → IsPartFrom (Most distance) three start start (start + 1)
+  next : (start : ℕ) → (start ≡ 0) ⊎ IsBoundary distance three start → IsBoundary distance three (start + 1) → IsPartFrom (Most distance) three start start (start + 1)
   next start first last =
       record {
         beyond = omega arith;
         until = λ i low lt. absurd (omega arith);
-        part = record { some = omega arith; first = first; last = inl last; within = λ i low lt seam. absurd (omega arith) };
+        part = record { some = omega arith; first = first; last = inl last; within = λ i low lt boundary. absurd (omega arith) };
       }
 
 -- ---- what most have: at each of the three places two versions have the byte of the original, and one has another
@@ -182,12 +182,12 @@ module _ (distance : ℕ) where
       record {
         all = record {
           next = (
-            next distance 0 (inl refl) (seam_one distance),
+            next distance 0 (inl refl) (boundary_one distance),
             first_taken,
             (
-              next distance 1 (inr (seam_one distance)) (seam_two distance),
+              next distance 1 (inr (boundary_one distance)) (boundary_two distance),
               second_taken,
-              (next distance 2 (inr (seam_two distance)) (seam_three distance), third_taken, tt),
+              (next distance 2 (inr (boundary_two distance)) (boundary_three distance), third_taken, tt),
             ),
           );
           rest = rest_agrees;
@@ -234,14 +234,14 @@ original_voted =
       only = record {
         there = record {
           three = three_differ;
-          grain = Most 0;
+          split = Most 0;
           there = (0, omega arith, refl);
           count = 1;
           few = has_one 0;
           combination = original_is_combination 0;
           passes = small_passes;
         };
-        others = λ bytes vote. only_one vote.grain bytes vote.there vote.combination;
+        others = λ bytes vote. only_one vote.split bytes vote.there vote.combination;
       };
       tried = 1 ∷ 1 ∷ 1 ∷ 1 ∷ [];
       all = refl;
@@ -249,12 +249,12 @@ original_voted =
       counted = refl;
     }
   where
-    only_one : (grain : Grain) (bytes : List ℕ) → Contains votes grain → IsCombinationBy grain three bytes → bytes ≡ original
-    only_one grain bytes (zero, lt, is) h = only_combination 0 bytes (subst (λ g. IsCombinationBy g three bytes) (sym is) h)
-    only_one grain bytes (suc zero, lt, is) h = only_combination 2 bytes (subst (λ g. IsCombinationBy g three bytes) (sym is) h)
-    only_one grain bytes (suc (suc zero), lt, is) h = only_combination 8 bytes (subst (λ g. IsCombinationBy g three bytes) (sym is) h)
-    only_one grain bytes (suc (suc (suc zero)), lt, is) h = only_combination 64 bytes (subst (λ g. IsCombinationBy g three bytes) (sym is) h)
-    only_one grain bytes (suc (suc (suc (suc k))), lt, is) h = absurd (omega arith)
+    only_one : (split : Split) (bytes : List ℕ) → Contains votes split → IsCombinationBy split three bytes → bytes ≡ original
+    only_one split bytes (zero, lt, is) h = only_combination 0 bytes (subst (λ g. IsCombinationBy g three bytes) (sym is) h)
+    only_one split bytes (suc zero, lt, is) h = only_combination 2 bytes (subst (λ g. IsCombinationBy g three bytes) (sym is) h)
+    only_one split bytes (suc (suc zero), lt, is) h = only_combination 8 bytes (subst (λ g. IsCombinationBy g three bytes) (sym is) h)
+    only_one split bytes (suc (suc (suc zero)), lt, is) h = only_combination 64 bytes (subst (λ g. IsCombinationBy g three bytes) (sym is) h)
+    only_one split bytes (suc (suc (suc (suc k))), lt, is) h = absurd (omega arith)
 
     each : (k : ℕ) → k < 4 → AreTriedBy three (get_or votes k Regions) (get_or (1 ∷ 1 ∷ 1 ∷ 1 ∷ []) k 0)
     each zero lt = inl (has_one 0)

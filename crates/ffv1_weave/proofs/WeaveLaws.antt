@@ -2,15 +2,15 @@
 use Rattle.std.proofs.Common.{◌≡◌, ℕ, ◌-◌, List, get_or, refl, sym, ap, ◌∙◌, inl, inr}
 use Rattle.std.specs.Prelude.{slice_range}
 use Rattle.ffv1_weave.specs.Regions.{AgreeAt, DifferAt, IsRegion}
-use Rattle.ffv1_weave.specs.Seams.{IsSeam, IsSegment}
-use Rattle.ffv1_weave.specs.Grains.{IsPartBy, IsChoiceOf, IsChoiceBy, HasChoice, IsMost, grains}
+use Rattle.ffv1_weave.specs.Boundaries.{IsBoundary, IsSegment}
+use Rattle.ffv1_weave.specs.Splits.{IsPartBy, IsChoiceOf, IsChoiceBy, HasChoice, IsMost, splits}
 use Rattle.ffv1_weave.specs.Numbers.{AreNumbered}
 use Rattle.ffv1_weave.specs.Combinations.{IsCombinationBy, IsValid, HasFew, HasMany, IsTriedBy}
 use Rattle.ffv1_weave.specs.Weave.{Weave, IsWeaveOf, AreFew, AreMany}
 use Rattle.ffv1_weave.specs.Weave.Weave.{woven, disputed, missing, too_many}
 use Rattle.ffv1_weave.specs.declared.check.Check.{Check}
-use Rattle.ffv1_weave.specs.declared.grains.Grain.{Grain}
-use Rattle.ffv1_weave.specs.declared.grains.Grain.TheVariants.{Pairs, Regions, Most}
+use Rattle.ffv1_weave.specs.declared.splits.Split.{Split}
+use Rattle.ffv1_weave.specs.declared.splits.Split.TheVariants.{Pairs, Regions, Most}
 use Rattle.ffv1_slice.specs.Members.{HasSameMembers}
 use Rattle.ffv1_weave.specs.Laws.{SameVersionsWeave, CoveredIsCombination}
 use Rattle.ffv1_weave.proofs.Tried.{one_count, few_not_many}
@@ -40,8 +40,8 @@ module _ (versions others : List (List ℕ)) (same : HasSameMembers versions oth
             (next.0, next.1, next.2, next.3, λ agree. next.4 (agree_as next.0 agree));
       }
 
-  seam_as : (distance place : ℕ) → IsSeam distance versions place → IsSeam distance others place
-  seam_as distance place h =
+  boundary_as : (distance place : ℕ) → IsBoundary distance versions place → IsBoundary distance others place
+  boundary_as distance place h =
       record {
         one = h.one;
         other = h.other;
@@ -83,7 +83,7 @@ module _ (versions others : List (List ℕ)) (same : HasSameMembers versions oth
   some_as : (start end : ℕ) (choice : List ℕ) → IsChoiceOf versions start end choice → IsChoiceOf others start end choice
   some_as start end choice h = (h.0, (same h.0).0 h.1, h.2)
 
-  taken_as : (grain : Grain) (start end : ℕ) (choice : List ℕ) → IsChoiceBy grain versions start end choice → IsChoiceBy grain others start end choice
+  taken_as : (split : Split) (start end : ℕ) (choice : List ℕ) → IsChoiceBy split versions start end choice → IsChoiceBy split others start end choice
   taken_as (Pairs distance) start end choice h = some_as start end choice h
   taken_as Regions start end choice h = some_as start end choice h
   taken_as (Most distance) start end choice h = (some_as start end choice h.0, most_as start end choice h.1)
@@ -96,70 +96,70 @@ module _ (versions others : List (List ℕ)) (same : HasSameMembers versions oth
       let back = same_back versions others same in
       record {
         some = h.some;
-        first = elim h.first [ inl zero ↦ inl zero | inr seam ↦ inr (seam_as others versions back distance start seam) ];
+        first = elim h.first [ inl zero ↦ inl zero | inr boundary ↦ inr (boundary_as others versions back distance start boundary) ];
         last = elim h.last [
-          | inl seam ↦ inl (seam_as others versions back distance end seam)
+          | inl boundary ↦ inl (boundary_as others versions back distance end boundary)
           | inr at_end ↦ inr (at_end.0, (same at_end.0).1 at_end.1, at_end.2)
         ];
-        within = λ i low high seam. h.within i low high (seam_as versions others same distance i seam);
+        within = λ i low high boundary. h.within i low high (boundary_as versions others same distance i boundary);
       }
 
-  part_back : (grain : Grain) (start end : ℕ) → IsPartBy grain others start end → IsPartBy grain versions start end
+  part_back : (split : Split) (start end : ℕ) → IsPartBy split others start end → IsPartBy split versions start end
   part_back (Pairs distance) start end h = segment_back distance start end h
   part_back Regions start end h = region_back versions others same start end h
   part_back (Most distance) start end h = segment_back distance start end h
 
-  pub combination_as : (grain : Grain) (bytes : List ℕ) → IsCombinationBy grain versions bytes → IsCombinationBy grain others bytes
-  combination_as grain bytes h =
+  pub combination_as : (split : Split) (bytes : List ℕ) → IsCombinationBy split versions bytes → IsCombinationBy split others bytes
+  combination_as split bytes h =
       record {
         same_length = λ version there. h.same_length version ((same version).1 there);
         agrees = λ i agree version there. h.agrees i (agree_back versions others same i agree) version ((same version).1 there);
-        parts = λ start end part. taken_as versions others same grain start end (slice_range bytes start end) (h.parts start end (part_back grain start end part));
+        parts = λ start end part. taken_as versions others same split start end (slice_range bytes start end) (h.parts start end (part_back split start end part));
       }
 
 -- ---- and those that are tried
 
 module _ (versions others : List (List ℕ)) (same : HasSameMembers versions others) where
-  numbered_as : (grain : Grain) (count : ℕ) → AreNumbered (IsCombinationBy grain versions) count → AreNumbered (IsCombinationBy grain others) count
-  numbered_as grain count h =
+  numbered_as : (split : Split) (count : ℕ) → AreNumbered (IsCombinationBy split versions) count → AreNumbered (IsCombinationBy split others) count
+  numbered_as split count h =
       record {
         at = h.at;
-        are = λ k lt. combination_as versions others same grain (h.at k) (h.are k lt);
-        all = λ bytes combination. h.all bytes (combination_as others versions (same_back versions others same) grain bytes combination);
+        are = λ k lt. combination_as versions others same split (h.at k) (h.are k lt);
+        all = λ bytes combination. h.all bytes (combination_as others versions (same_back versions others same) split bytes combination);
         once = h.once;
       }
 
-  pub has_few_as : (grain : Grain) (count : ℕ) → HasFew versions grain count → HasFew others grain count
-  has_few_as grain count h = record { numbered = numbered_as grain count h.numbered; few = h.few }
+  pub has_few_as : (split : Split) (count : ℕ) → HasFew versions split count → HasFew others split count
+  has_few_as split count h = record { numbered = numbered_as split count h.numbered; few = h.few }
 
-  pub has_many_as : (grain : Grain) → HasMany versions grain → HasMany others grain
-  has_many_as grain h = record { at = h.at; are = λ k low. combination_as versions others same grain (h.at k) (h.are k low); once = h.once }
+  pub has_many_as : (split : Split) → HasMany versions split → HasMany others split
+  has_many_as split h = record { at = h.at; are = λ k low. combination_as versions others same split (h.at k) (h.are k low); once = h.once }
 
-  pub tried_as : (grain : Grain) (count : ℕ) → IsTriedBy versions grain count → IsTriedBy others grain count
-  tried_as grain count h =
+  pub tried_as : (split : Split) (count : ℕ) → IsTriedBy versions split count → IsTriedBy others split count
+  tried_as split count h =
       record {
         place = h.place;
         there = h.there;
         is = h.is;
-        finer = λ k below. has_many_as (get_or grains k Regions) (h.finer k below);
-        few = has_few_as grain count h.few;
+        finer = λ k below. has_many_as (get_or splits k Regions) (h.finer k below);
+        few = has_few_as split count h.few;
       }
 
   pub valid_as : (check : Check) (bytes : List ℕ) → IsValid check versions bytes → IsValid check others bytes
   valid_as check bytes h =
       record {
-        grain = h.grain;
+        split = h.split;
         count = h.count;
-        tried = tried_as h.grain h.count h.tried;
-        combination = combination_as versions others same h.grain bytes h.combination;
+        tried = tried_as h.split h.count h.tried;
+        combination = combination_as versions others same h.split bytes h.combination;
         passes = h.passes;
       }
 
   pub few_as : (count : ℕ) → AreFew versions count → AreFew others count
-  few_as count h = record { grain = h.grain; tried = tried_as h.grain count h.tried }
+  few_as count h = record { split = h.split; tried = tried_as h.split count h.tried }
 
   pub many_as : AreMany versions → AreMany others
-  many_as h = record { each = λ grain there. has_many_as grain (h.each grain there) }
+  many_as h = record { each = λ split there. has_many_as split (h.each split there) }
 
 module _ (check : Check) (versions others : List (List ℕ)) (same : HasSameMembers versions others) where
   back : (bytes : List ℕ) → IsValid check others bytes → IsValid check versions bytes

@@ -19,7 +19,7 @@ use Rattle.ffv1_weave.specs.declared.parts.Parts.{Parts}
 use Rattle.ffv1_weave.proofs.References.{nowhere, values_of, value_at, length-values_of, each_value}
 use Rattle.ffv1_weave.specs.Inner.Changes.{remainder_in, changes_of, changed}
 use Rattle.ffv1_weave.proofs.Linear.{changed_is}
-use Rattle.ffv1_weave.specs.declared.grains.Grain.{Grain}
+use Rattle.ffv1_weave.specs.declared.splits.Split.{Split}
 use Rattle.ffv1_weave.proofs.Tried.{valid_by, tried_combination}
 use Rattle.ffv1_weave.proofs.PartSteps.{count_positive}
 use Rattle.ffv1_weave.proofs.Choices.{IsAlike, fit_head, fit_tail, numbered, chosen_alike, combination_alike}
@@ -56,20 +56,20 @@ next_below check parts first code others what h =
 
 -- ---- the parts of versions of one length
 
--- All parts by a grain.
-pub record HaveFewParts (grain : Grain) (versions : List (List ℕ)) (parts : List Part) (count : ℕ) : Type 0 where
+-- All parts by a split.
+pub record HaveFewParts (split : Split) (versions : List (List ℕ)) (parts : List Part) (count : ℕ) : Type 0 where
   pub some : 0 < length versions
   pub long : HaveLength versions (length (get_or versions 0 []))
-  pub few : AreFewParts grain versions (length (get_or versions 0 [])) parts count
+  pub few : AreFewParts split versions (length (get_or versions 0 [])) parts count
 
--- Those by the grain that is tried.
+-- Those by the split that is tried.
 pub record HaveParts (versions : List (List ℕ)) (parts : List Part) (count : ℕ) : Type 0 where
   pub some : 0 < length versions
   pub long : HaveLength versions (length (get_or versions 0 []))
   pub are : AreTriedParts versions (length (get_or versions 0 [])) parts count
 
 abbrev pub have_few : {versions : List (List ℕ)} {parts : List Part} {count : ℕ} (have : HaveParts versions parts count)
-    → HaveFewParts have.are.grain versions parts count
+    → HaveFewParts have.are.split versions parts count
 have_few have = record { some = have.some; long = have.long; few = have.are.few }
 
 some_combinations : (size : ℕ) (parts : List Part) → All (IsFit size) parts → 0 < count_of parts
@@ -78,18 +78,18 @@ some_combinations size (part ∷ parts) fit =
     let head = fit_head size part parts fit in
     count_positive (length part.choices) (count_of parts) head.some (some_combinations size parts (fit_tail size part parts fit))
 
-module _ {grain : Grain} {versions : List (List ℕ)} {parts : List Part} {count : ℕ} (have : HaveFewParts grain versions parts count) where
+module _ {split : Split} {versions : List (List ℕ)} {parts : List Part} {count : ℕ} (have : HaveFewParts split versions parts count) where
   pub first_there : Contains versions (get_or versions 0 [])
   first_there = Contains-get_or versions 0 [] have.some
 
-  abbrev all_numbered : AreNumbered (IsCombinationBy grain versions) (count_of parts)
-  all_numbered = numbered grain versions parts (get_or versions 0 []) have.long first_there have.few.all have.few.fit
+  abbrev all_numbered : AreNumbered (IsCombinationBy split versions) (count_of parts)
+  all_numbered = numbered split versions parts (get_or versions 0 []) have.long first_there have.few.all have.few.fit
 
   -- the byte strings that are tried are the combinations
-  pub chosen_where : (bytes : List ℕ) → Contains (chosen_below parts (get_or versions 0 []) count) bytes ↔ IsCombinationBy grain versions bytes
+  pub chosen_where : (bytes : List ℕ) → Contains (chosen_below parts (get_or versions 0 []) count) bytes ↔ IsCombinationBy split versions bytes
   chosen_where bytes = (
     λ there. let code = below_of parts (get_or versions 0 []) count bytes there in
-        subst (IsCombinationBy grain versions) code.2 (all_numbered.are code.0 (omega (arith, code.1, have.few.counted))),
+        subst (IsCombinationBy split versions) code.2 (all_numbered.are code.0 (omega (arith, code.1, have.few.counted))),
     λ combination. let code = all_numbered.all bytes combination in
         subst (Contains (chosen_below parts (get_or versions 0 []) count)) code.2
         (below_there parts (get_or versions 0 []) count code.0 (omega (arith, code.1, have.few.counted))),
@@ -99,7 +99,7 @@ module _ {grain : Grain} {versions : List (List ℕ)} {parts : List Part} {count
   chosen_over : (code : ℕ) (bytes : List ℕ) → IsAlike versions 0 bytes (get_or versions 0 [])
       → chosen parts code bytes ≡ chosen parts code (get_or versions 0 [])
   chosen_over code bytes alike =
-      chosen_alike grain versions 0 parts code bytes (get_or versions 0 []) have.few.all.next have.few.all.rest
+      chosen_alike split versions 0 parts code bytes (get_or versions 0 []) have.few.all.next have.few.all.rest
       (subst (λ s. All (IsFit s) parts) (sym alike.size) have.few.fit) alike
 
   pub some_tried : 0 < count
@@ -107,7 +107,7 @@ module _ {grain : Grain} {versions : List (List ℕ)} {parts : List Part} {count
 
   alike_at : (code : ℕ) → code < count → IsAlike versions 0 (chosen parts code (get_or versions 0 [])) (get_or versions 0 [])
   alike_at code lt =
-      combination_alike grain versions (get_or versions 0 []) (chosen parts code (get_or versions 0 [])) first_there
+      combination_alike split versions (get_or versions 0 []) (chosen parts code (get_or versions 0 [])) first_there
       (all_numbered.are code (omega (arith, have.few.counted)))
 
 -- what is written through a vector's slice is what the vector holds
@@ -118,8 +118,8 @@ put_back len new items l n =
 
 -- as the code has them
 pub have_few_parts : (versions : List (Bor (List ℕ))) → 0 < length versions
-    → All (λ version. length version.now ≡ length (get_or (values_of versions) 0 [])) versions → {grain : Grain} {parts : List Part} {count : ℕ}
-    → AreFewParts grain (values_of versions) (length (get_or (values_of versions) 0 [])) parts count → HaveFewParts grain (values_of versions) parts count
+    → All (λ version. length version.now ≡ length (get_or (values_of versions) 0 [])) versions → {split : Split} {parts : List Part} {count : ℕ}
+    → AreFewParts split (values_of versions) (length (get_or (values_of versions) 0 [])) parts count → HaveFewParts split (values_of versions) parts count
 have_few_parts versions some long few =
     record {
       some = omega (arith, length-values_of versions);
@@ -142,8 +142,8 @@ have_parts versions found tried is given some long =
 
 -- ---- a combination that is tried, as the code has it
 
-module _ {grain : Grain} {parts : List Part} {count : ℕ} (versions : List (Bor (List ℕ)))
-    (have : HaveFewParts grain (values_of versions) parts count) where
+module _ {split : Split} {parts : List Part} {count : ℕ} (versions : List (Bor (List ℕ)))
+    (have : HaveFewParts split (values_of versions) parts count) where
   abbrev first : List ℕ
   first = get_or (values_of versions) 0 []
 
@@ -166,7 +166,7 @@ module _ {grain : Grain} {parts : List Part} {count : ℕ} (versions : List (Bor
         → left ≡ remainder_in check (chosen parts code first)
     left_is code base left base_is tallied =
         tallied ∙ ap (λ ts. changed ts code base) tables_are ∙ ap (changed (map (changes_of check bytes) parts) code) base_is
-        ∙ changed_is check grain (values_of versions) bytes 0 parts code bytes have.few.all.next tables_fit refl (λ i low. refl)
+        ∙ changed_is check split (values_of versions) bytes 0 parts code bytes have.few.all.next tables_fit refl (λ i low. refl)
         ∙ ap (remainder_in check) (chosen_over have code bytes alike)
 
   -- The bytes are those of the combination.
@@ -207,7 +207,7 @@ module _ (check : Check) {versions : List (List ℕ)} {parts : List Part} {count
   -- what is tried and passes is valid, and the other way round
   is_valid : (bytes : List ℕ) → PassesAmong check all_chosen bytes → IsValid check versions bytes
   is_valid bytes h =
-      valid_by versions check have.are.grain count have.are.tried bytes
+      valid_by versions check have.are.split count have.are.tried bytes
       ((chosen_where (have_few have) bytes).0
       (subst (λ all. Contains all bytes) (append-nil (chosen_below parts (get_or versions 0 []) count)) h.there)) h.passes
 
@@ -215,12 +215,12 @@ module _ (check : Check) {versions : List (List ℕ)} {parts : List Part} {count
   is_passing bytes h =
       record {
         there = subst (λ all. Contains all bytes) (sym (append-nil (chosen_below parts (get_or versions 0 []) count)))
-            ((chosen_where (have_few have) bytes).1 (tried_combination versions check have.are.grain count have.are.tried bytes h));
+            ((chosen_where (have_few have) bytes).1 (tried_combination versions check have.are.split count have.are.tried bytes h));
         passes = h.passes;
       }
 
   are_few : AreFew versions count
-  are_few = record { grain = have.are.grain; tried = have.are.tried }
+  are_few = record { split = have.are.split; tried = have.are.tried }
 
   woven_of : (what : Found) → IsFoundAmong check all_chosen what → IsWeaveOf check versions (weave_found what count)
   woven_of found.Nothing h = (none_as (PassesAmong check all_chosen) (IsValid check versions) is_valid is_passing h, are_few)

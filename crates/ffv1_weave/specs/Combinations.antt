@@ -2,48 +2,48 @@
 use Rattle.std.specs.Prelude.{ℕ, ◌<◌, ◌≤◌, ◌≡◌, List, Contains, length, slice_index, slice_index_or, slice_range}
 use Rattle.ffv1_weave.specs.Regions.{AgreeAt}
 use Rattle.ffv1_weave.specs.Numbers.{AreNumbered, AreMoreThan}
-use Rattle.ffv1_weave.specs.Grains.{IsPartBy, IsChoiceBy, grains}
+use Rattle.ffv1_weave.specs.Splits.{IsPartBy, IsChoiceBy, splits}
 use Rattle.ffv1_weave.specs.Checks.{PassesBy}
 use Rattle.ffv1_weave.specs.declared.check.Check.{Check}
-use Rattle.ffv1_weave.specs.declared.grains.Grain.{Grain}
-use Rattle.ffv1_weave.specs.declared.grains.Grain.TheVariants.{Regions}
+use Rattle.ffv1_weave.specs.declared.splits.Split.{Split}
+use Rattle.ffv1_weave.specs.declared.splits.Split.TheVariants.{Regions}
 use Rattle.ffv1_weave.specs.declared.weaving.TheConstants.{MOST_COMBINATIONS}
 
--- A combination by a grain: where all versions agree it is as they are, and in each part it is as some version is in all of the part, or as
+-- A combination by a split: where all versions agree it is as they are, and in each part it is as some version is in all of the part, or as
 -- most versions are.
-pub record IsCombinationBy (grain : Grain) (versions : List (List ℕ)) (bytes : List ℕ) : Type 0 where
+pub record IsCombinationBy (split : Split) (versions : List (List ℕ)) (bytes : List ℕ) : Type 0 where
   pub same_length : (version : List ℕ) → Contains versions version → length bytes ≡ length version
   pub agrees : (i : ℕ) → AgreeAt versions i → (version : List ℕ) → Contains versions version → slice_index bytes i ≡ slice_index version i
-  pub parts : (start end : ℕ) → IsPartBy grain versions start end → IsChoiceBy grain versions start end (slice_range bytes start end)
+  pub parts : (start end : ℕ) → IsPartBy split versions start end → IsChoiceBy split versions start end (slice_range bytes start end)
 
--- A combination of regions. It is one by each finer grain too (`RegionsAreCoarsest`).
+-- A combination of regions. It is one by each finer split too (`RegionsAreCoarsest`).
 abbrev pub IsCombination : List (List ℕ) → List ℕ → Type 0
 IsCombination versions bytes = IsCombinationBy Regions versions bytes
 
 -- ---- how many there are
 
--- By a grain the versions have so many combinations, few enough to be tried: at most 4096.
-pub record HasFew (versions : List (List ℕ)) (grain : Grain) (count : ℕ) : Type 0 where
-  pub numbered : AreNumbered (IsCombinationBy grain versions) count
+-- By a split the versions have so many combinations, few enough to be tried: at most 4096.
+pub record HasFew (versions : List (List ℕ)) (split : Split) (count : ℕ) : Type 0 where
+  pub numbered : AreNumbered (IsCombinationBy split versions) count
   pub few : count ≤ MOST_COMBINATIONS
 
--- By a grain they have more than 4096.
-abbrev pub HasMany : List (List ℕ) → Grain → Type 0
-HasMany versions grain = AreMoreThan (IsCombinationBy grain versions) MOST_COMBINATIONS
+-- By a split they have more than 4096.
+abbrev pub HasMany : List (List ℕ) → Split → Type 0
+HasMany versions split = AreMoreThan (IsCombinationBy split versions) MOST_COMBINATIONS
 
--- The combinations by a grain are tried, and are so many: by each finer grain there are too many.
-pub record IsTriedBy (versions : List (List ℕ)) (grain : Grain) (count : ℕ) : Type 0 where
+-- The combinations by a split are tried, and are so many: by each finer split there are too many.
+pub record IsTriedBy (versions : List (List ℕ)) (split : Split) (count : ℕ) : Type 0 where
   pub place : ℕ
-  pub there : place < length grains
-  pub is : slice_index_or grains place Regions ≡ grain
-  pub finer : (k : ℕ) → k < place → HasMany versions (slice_index_or grains k Regions)
-  pub few : HasFew versions grain count
+  pub there : place < length splits
+  pub is : slice_index_or splits place Regions ≡ split
+  pub finer : (k : ℕ) → k < place → HasMany versions (slice_index_or splits k Regions)
+  pub few : HasFew versions split count
 
 -- A combination that is tried and passes: of a slice's versions a slice with its parity, of an element's an element with its CRC-32, of a
 -- record's a record.
 pub record IsValid (check : Check) (versions : List (List ℕ)) (bytes : List ℕ) : Type 0 where
-  pub grain : Grain
+  pub split : Split
   pub count : ℕ
-  pub tried : IsTriedBy versions grain count
-  pub combination : IsCombinationBy grain versions bytes
+  pub tried : IsTriedBy versions split count
+  pub combination : IsCombinationBy split versions bytes
   pub passes : PassesBy check bytes

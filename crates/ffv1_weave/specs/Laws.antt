@@ -3,12 +3,12 @@ use Rattle.std.specs.Prelude.{ℕ, ◌≡◌, List, Contains, length, slice_inde
 use Rattle.ffv1_slice.specs.Members.{HasSameMembers}
 use Rattle.ffv1_weave.specs.Regions.{HaveLength, AgreeAt, IsRegion}
 use Rattle.ffv1_weave.specs.Checks.{PassesBy}
-use Rattle.ffv1_weave.specs.Grains.{grains}
+use Rattle.ffv1_weave.specs.Splits.{splits}
 use Rattle.ffv1_weave.specs.Combinations.{IsCombinationBy, IsCombination, IsTriedBy}
 use Rattle.ffv1_weave.specs.Weave.{Weave, IsWeaveOf}
 use Rattle.ffv1_weave.specs.Weave.Weave.{woven, disputed, missing, too_many}
 use Rattle.ffv1_weave.specs.declared.check.Check.{Check}
-use Rattle.ffv1_weave.specs.declared.grains.Grain.{Grain}
+use Rattle.ffv1_weave.specs.declared.splits.Split.{Split}
 
 -- The same versions have one weave.
 abbrev pub SameVersionsWeave : Type 0
@@ -32,17 +32,17 @@ OriginalIsWoven =
     (check : Check) (original : List ℕ) (versions : List (List ℕ)) (weave : Weave) → PassesBy check original → IsCombination versions original
     → IsWeaveOf check versions weave → KeepsOriginal original weave
 
--- It need only be a combination by the grain that is tried.
+-- It need only be a combination by the split that is tried.
 abbrev pub TriedOriginalIsWoven : Type 0
 TriedOriginalIsWoven =
-    (check : Check) (original : List ℕ) (versions : List (List ℕ)) (grain : Grain) (count : ℕ) (weave : Weave) → PassesBy check original
-    → IsTriedBy versions grain count → IsCombinationBy grain versions original → IsWeaveOf check versions weave → KeepsOriginal original weave
+    (check : Check) (original : List ℕ) (versions : List (List ℕ)) (split : Split) (count : ℕ) (weave : Weave) → PassesBy check original
+    → IsTriedBy versions split count → IsCombinationBy split versions original → IsWeaveOf check versions weave → KeepsOriginal original weave
 
--- A combination of regions is a combination by each grain that is tried.
+-- A combination of regions is a combination by each split that is tried.
 abbrev pub RegionsAreCoarsest : Type 0
 RegionsAreCoarsest =
-    (grain : Grain) (versions : List (List ℕ)) (bytes : List ℕ) → Contains grains grain → IsCombination versions bytes
-    → IsCombinationBy grain versions bytes
+    (split : Split) (versions : List (List ℕ)) (bytes : List ℕ) → Contains splits split → IsCombination versions bytes
+    → IsCombinationBy split versions bytes
 
 -- The original is among the combinations where each region is intact in some version, and where all versions agree they are right.
 pub record IsCovered (original : List ℕ) (versions : List (List ℕ)) : Type 0 where

@@ -1,8 +1,8 @@
 pub mod Checks
 pub mod Regions
-pub mod Seams
+pub mod Boundaries
 pub mod Numbers
-pub mod Grains
+pub mod Splits
 pub mod Combinations
 pub mod Weave
 pub mod Parts

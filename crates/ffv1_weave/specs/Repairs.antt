@@ -6,7 +6,7 @@ use Rattle.ffv1_weave.specs.Combinations.{IsCombinationBy, IsTriedBy}
 use Rattle.ffv1_weave.specs.Parts.{written}
 use Rattle.ffv1_weave.specs.Weave.{AreFew}
 use Rattle.ffv1_weave.specs.declared.check.Check.TheVariants.{Slice}
-use Rattle.ffv1_weave.specs.declared.grains.Grain.{Grain}
+use Rattle.ffv1_weave.specs.declared.splits.Split.{Split}
 use Rattle.ffv1_weave.specs.declared.repairing.TheConstants.{MOST_REPAIRS}
 
 -- The bytes with one bit inverted. Bits count from 0, and the first is that of the highest worth in the first byte.
@@ -15,11 +15,11 @@ inverted bytes bit = written bytes (bit / 8) (bit_xor (slice_index bytes (bit / 
 
 -- A repair that passes: a combination that is tried, with one bit inverted, which is a slice with its parity (RFC 9043, section 4.9.3).
 pub record IsRepair (versions : List (List ℕ)) (bytes : List ℕ) : Type 0 where
-  pub grain : Grain
+  pub split : Split
   pub count : ℕ
-  pub tried : IsTriedBy versions grain count
+  pub tried : IsTriedBy versions split count
   pub base : List ℕ
-  pub combination : IsCombinationBy grain versions base
+  pub combination : IsCombinationBy split versions base
   pub bit : ℕ
   pub inside : bit < 8 * length base
   pub is : bytes ≡ inverted base bit

@@ -2,11 +2,11 @@
 use Rattle.std.specs.Prelude.{ℕ, ◌<◌, ◌≡◌, ◌⊎◌, List, Contains, length, slice_index, slice_index_or, sum}
 use Rattle.ffv1_slice.specs.Members.{HasSameMembers, IsOnly}
 use Rattle.ffv1_weave.specs.Checks.{PassesBy}
-use Rattle.ffv1_weave.specs.Grains.{votes}
+use Rattle.ffv1_weave.specs.Splits.{votes}
 use Rattle.ffv1_weave.specs.Combinations.{IsCombinationBy, HasFew, HasMany}
 use Rattle.ffv1_weave.specs.declared.check.Check.TheVariants.{Slice}
-use Rattle.ffv1_weave.specs.declared.grains.Grain.{Grain}
-use Rattle.ffv1_weave.specs.declared.grains.Grain.TheVariants.{Regions}
+use Rattle.ffv1_weave.specs.declared.splits.Split.{Split}
+use Rattle.ffv1_weave.specs.declared.splits.Split.TheVariants.{Regions}
 
 -- There are three different versions at least.
 pub record AreThree (versions : List (List ℕ)) : Type 0 where
@@ -24,16 +24,16 @@ pub record AreThree (versions : List (List ℕ)) : Type 0 where
 -- there are at most 4096, which is a slice with its parity (RFC 9043, section 4.9.3).
 pub record IsVote (versions : List (List ℕ)) (bytes : List ℕ) : Type 0 where
   pub three : AreThree versions
-  pub grain : Grain
-  pub there : Contains votes grain
+  pub split : Split
+  pub there : Contains votes split
   pub count : ℕ
-  pub few : HasFew versions grain count
-  pub combination : IsCombinationBy grain versions bytes
+  pub few : HasFew versions split count
+  pub combination : IsCombinationBy split versions bytes
   pub passes : PassesBy Slice bytes
 
--- how many are tried by a grain: all, or none where they are too many
-abbrev pub AreTriedBy : List (List ℕ) → Grain → ℕ → Type 0
-AreTriedBy versions grain count = HasFew versions grain count ⊎ (HasMany versions grain × (count ≡ 0))
+-- how many are tried by a split: all, or none where they are too many
+abbrev pub AreTriedBy : List (List ℕ) → Split → ℕ → Type 0
+AreTriedBy versions split count = HasFew versions split count ⊎ (HasMany versions split × (count ≡ 0))
 
 -- These bytes are the only vote that passes. The list has how many are tried at each distance, and so many are tried in all.
 pub record IsVoteOf (versions : List (List ℕ)) (bytes : List ℕ) (count : ℕ) : Type 0 where

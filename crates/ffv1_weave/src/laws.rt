@@ -19,7 +19,7 @@ pub fn tried_original_is_woven()
     ensures { TriedOriginalIsWoven }
 {}
 
-/// A combination of regions is a combination of the segments of each finer grain too.
+/// A combination of regions is a combination of the segments of each finer split too.
 pub fn regions_are_coarsest()
     ensures { RegionsAreCoarsest }
 {}

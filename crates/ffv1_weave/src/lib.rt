@@ -8,7 +8,6 @@
 mod changes;
 mod check;
 mod found;
-mod grains;
 mod inversions;
 mod laws;
 mod most;
@@ -16,6 +15,7 @@ mod parts;
 mod regions;
 mod repairing;
 mod segments;
+mod splits;
 mod trying;
 mod voting;
 mod weaving;
@@ -28,4 +28,4 @@ pub use laws::{
 };
 pub use repairing::{MOST_REPAIRS, repair};
 pub use voting::vote;
-pub use weaving::{MOST_COMBINATIONS, Outcome, weave};
+pub use weaving::{MOST_COMBINATIONS, WeaveResult, weave};

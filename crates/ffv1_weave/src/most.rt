@@ -1,9 +1,9 @@
 //! What most versions have between two places.
 ghost use Rattle.std.specs.Prelude.{◌≤◌, ℕ, length, map, All, IfOk};
 ghost use Rattle.ffv1_weave.specs.Numbers.{AreNumbered};
-ghost use Rattle.ffv1_weave.specs.Grains.{HasChoice};
+ghost use Rattle.ffv1_weave.specs.Splits.{HasChoice};
 ghost use Rattle.ffv1_weave.specs.Inner.Parts.{AreChoicesBy, AreDistinct};
-ghost use Rattle.ffv1_weave.specs.declared.grains.Grain.TheVariants.{Most};
+ghost use Rattle.ffv1_weave.specs.declared.splits.Split.TheVariants.{Most};
 
 use crate::parts::choices_between;
 use std::alloc::{AllocError, Global};

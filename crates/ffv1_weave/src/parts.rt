@@ -6,10 +6,10 @@ ghost use Rattle.ffv1_weave.specs.Combinations.{HasMany};
 ghost use Rattle.ffv1_weave.specs.Weave.{AreMany};
 ghost use Rattle.ffv1_weave.specs.Inner.Parts.{AreChoices, AreChoicesBy, AreDistinct, IsEdge, IsPartFrom, IsFit, AreFewParts, AreTriedParts, chosen};
 
-use crate::grains::{GRAINS, Grain};
 use crate::most::most_between;
 use crate::regions::region_from;
 use crate::segments::segment_from;
+use crate::splits::{SPLITS, Split};
 use crate::weaving::MOST_COMBINATIONS;
 use std::alloc::{AllocError, Global};
 use std::marker::Model;
@@ -75,10 +75,10 @@ pub(crate) fn distinct_versions<'a>(
     choices_between(alloc, versions, 0, versions[0].len())
 }
 
-/// The byte strings that can be taken between two places by a grain, each once. Each version has the places, and no two are equal.
+/// The byte strings that can be taken between two places by a split, each once. Each version has the places, and no two are equal.
 fn choices_by<'a>(
     alloc: Global,
-    grain: Grain,
+    split: Split,
     versions: &[&'a [u8]],
     start: usize,
     end: usize,
@@ -86,51 +86,51 @@ fn choices_by<'a>(
     requires order { start ≤ end }
     requires within { All (λ version. end ≤ length version.now) versions.now }
     requires distinct { AreDistinct (map (λ version. version.now) versions.now) }
-    ensures { IfOk result (λ choices. AreChoicesBy grain (map (λ version. version.now) versions.now) start end (map (λ choice. choice.now) choices.items)) }
+    ensures { IfOk result (λ choices. AreChoicesBy split (map (λ version. version.now) versions.now) start end (map (λ choice. choice.now) choices.items)) }
 {
-    match grain {
-        Grain::Pairs(_) | Grain::Regions => choices_between(alloc, versions, start, end),
-        Grain::Most(_) => most_between(alloc, versions, start, end),
+    match split {
+        Split::Pairs(_) | Split::Regions => choices_between(alloc, versions, start, end),
+        Split::Most(_) => most_between(alloc, versions, start, end),
     }
 }
 
-/// The next part by a grain at which versions differ, from `from` on, where it is their start or the end of a part: its start and its end.
-fn part_from(grain: Grain, versions: &[&[u8]], from: usize, size: usize) -> Option<(usize, usize)>
+/// The next part by a split at which versions differ, from `from` on, where it is their start or the end of a part: its start and its end.
+fn part_from(split: Split, versions: &[&[u8]], from: usize, size: usize) -> Option<(usize, usize)>
     requires some { 0 < length versions.now }
     requires lengths { All (λ version. length version.now ≡ size) versions.now }
     requires within { from ≤ size }
-    requires edge { IsEdge grain (map (λ version. version.now) versions.now) from }
+    requires edge { IsEdge split (map (λ version. version.now) versions.now) from }
     ensures part { MatchOption result ((i : ℕ) → from ≤ i → AgreeAt (map (λ version. version.now) versions.now) i)
-        (λ (start, end). IsPartFrom grain (map (λ version. version.now) versions.now) from start end) }
+        (λ (start, end). IsPartFrom split (map (λ version. version.now) versions.now) from start end) }
     ensures within { IfSome result (λ (start, end). end ≤ size) }
 {
-    match grain {
-        Grain::Pairs(distance) | Grain::Most(distance) => {
+    match split {
+        Split::Pairs(distance) | Split::Most(distance) => {
             segment_from(versions, from, size, distance)
         }
-        Grain::Regions => region_from(versions, from, size),
+        Split::Regions => region_from(versions, from, size),
     }
 }
 
-/// The parts of versions of one length by a grain, from the front on, where they have few enough combinations to be tried: where not,
+/// The parts of versions of one length by a split, from the front on, where they have few enough combinations to be tried: where not,
 /// no further part is looked for. There is one version at least, and no two are equal.
 pub(crate) fn parts_by<'a>(
     alloc: Global,
-    grain: Grain,
+    split: Split,
     versions: &[&'a [u8]],
     size: usize,
 ) -> Result<Option<Parts<'a>>, AllocError>
     requires some { 0 < length versions.now }
     requires lengths { All (λ version. length version.now ≡ size) versions.now }
     requires distinct { AreDistinct (map (λ version. version.now) versions.now) }
-    ensures { IfOk result (λ found. MatchOption found (HasMany (map (λ version. version.now) versions.now) grain)
-        (λ few. AreFewParts grain (map (λ version. version.now) versions.now) size few.parts.items few.count)) }
+    ensures { IfOk result (λ found. MatchOption found (HasMany (map (λ version. version.now) versions.now) split)
+        (λ few. AreFewParts split (map (λ version. version.now) versions.now) size few.parts.items few.count)) }
 {
     let mut parts = Vec::new(alloc);
     let mut count = 1;
     let mut from = 0;
-    while let Some((start, end)) = part_from(grain, versions, from, size) {
-        let choices = choices_by(alloc, grain, versions, start, end)?;
+    while let Some((start, end)) = part_from(split, versions, from, size) {
+        let choices = choices_by(alloc, split, versions, start, end)?;
         let many = choices.len();
         if many > MOST_COMBINATIONS / count {
             return Ok(None);
@@ -146,7 +146,7 @@ pub(crate) fn parts_by<'a>(
     Ok(Some(Parts { parts, count }))
 }
 
-/// The parts of versions of one length by the finest grain by which they have few enough combinations to be tried, if there is one.
+/// The parts of versions of one length by the finest split by which they have few enough combinations to be tried, if there is one.
 /// There is one version at least, and no two are equal.
 pub(crate) fn finest_parts<'a>(
     alloc: Global,
@@ -159,8 +159,8 @@ pub(crate) fn finest_parts<'a>(
     ensures { IfOk result (λ found. MatchOption found (AreMany (map (λ version. version.now) versions.now))
         (λ tried. AreTriedParts (map (λ version. version.now) versions.now) size tried.parts.items tried.count)) }
 {
-    for grain in GRAINS {
-        if let Some(parts) = parts_by(alloc, grain, versions, size)? {
+    for split in SPLITS {
+        if let Some(parts) = parts_by(alloc, split, versions, size)? {
             return Ok(Some(parts));
         }
     }

@@ -2,7 +2,7 @@
 ghost use Rattle.std.specs.Prelude.{◌≡◌, ◌+◌, ◌-◌, ◌≤◌, ◌<◌, ℕ, length, map, All, IsTrue, MatchBool, MatchOption, IfSome};
 ghost use Rattle.ffv1_weave.specs.Regions.{AgreeAt, DifferAt};
 ghost use Rattle.ffv1_weave.specs.Inner.Parts.{IsPartFrom};
-ghost use Rattle.ffv1_weave.specs.declared.grains.Grain.TheVariants.{Regions};
+ghost use Rattle.ffv1_weave.specs.declared.splits.Split.TheVariants.{Regions};
 
 /// How many places in a row at which all versions agree part two regions: places at which versions differ are of one region where
 /// they follow each other at a distance of at most so many bytes.

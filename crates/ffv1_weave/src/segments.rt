@@ -1,9 +1,9 @@
 //! The segments of versions, found from their front on: they lie between the places where streaks of any two versions begin or end.
 ghost use Rattle.std.specs.Prelude.{◌≡◌, ◌≤◌, ◌<◌, ◌↔◌, ℕ, List, Contains, length, map, All, IsTrue, MatchOption, IfSome};
 ghost use Rattle.ffv1_weave.specs.Regions.{AgreeAt};
-ghost use Rattle.ffv1_weave.specs.Seams.{BeginsStreak, EndsStreak, AreParted, IsSeam};
+ghost use Rattle.ffv1_weave.specs.Boundaries.{BeginsStreak, EndsStreak, AreParted, IsBoundary};
 ghost use Rattle.ffv1_weave.specs.Inner.Parts.{IsEdge, IsPartFrom};
-ghost use Rattle.ffv1_weave.specs.declared.grains.Grain.TheVariants.{Pairs};
+ghost use Rattle.ffv1_weave.specs.declared.splits.Split.TheVariants.{Pairs};
 
 use crate::regions::{differ_at, first_from};
 
@@ -44,12 +44,12 @@ fn is_parted(one: &[u8], others: &[&[u8]], place: usize, distance: usize) -> boo
     false
 }
 
-/// Whether a place between the ends of versions of one length is a seam.
-fn is_seam(versions: &[&[u8]], place: usize, size: usize, distance: usize) -> bool
+/// Whether a place between the ends of versions of one length is a boundary.
+fn is_boundary(versions: &[&[u8]], place: usize, size: usize, distance: usize) -> bool
     requires lengths { All (λ version. length version.now ≡ size) versions.now }
     requires within { place < size }
     requires inside { 0 < place }
-    ensures { IsTrue result ↔ IsSeam distance (map (λ version. version.now) versions.now) place }
+    ensures { IsTrue result ↔ IsBoundary distance (map (λ version. version.now) versions.now) place }
 {
     for one in versions {
         if is_parted(one, versions, place, distance) {
@@ -59,15 +59,15 @@ fn is_seam(versions: &[&[u8]], place: usize, size: usize, distance: usize) -> bo
     false
 }
 
-/// The next place after one that can be a seam: the place after it where versions differ at the place itself, else the first place at
-/// which they differ, or their length `size` where there is none. Where versions agree at two places in a row, the later one is no seam.
+/// The next place after one that can be a boundary: the place after it where versions differ at the place itself, else the first place at
+/// which they differ, or their length `size` where there is none. Where versions agree at two places in a row, the later one is no boundary.
 fn after_place(versions: &[&[u8]], place: usize, size: usize) -> usize
     requires some { 0 < length versions.now }
     requires lengths { All (λ version. length version.now ≡ size) versions.now }
     requires within { place < size }
     ensures beyond { place < result }
     ensures within { result ≤ size }
-    ensures until { (distance i : ℕ) → place < i → i < result → IsSeam distance (map (λ version. version.now) versions.now) i → ⊥ }
+    ensures until { (distance i : ℕ) → place < i → i < result → IsBoundary distance (map (λ version. version.now) versions.now) i → ⊥ }
 {
     if differ_at(versions, place) {
         place + 1
@@ -76,19 +76,19 @@ fn after_place(versions: &[&[u8]], place: usize, size: usize) -> usize
     }
 }
 
-/// The first seam from `from` on, or the versions' length `size` where there is none before it.
-fn seam_from(versions: &[&[u8]], from: usize, size: usize, distance: usize) -> usize
+/// The first boundary from `from` on, or the versions' length `size` where there is none before it.
+fn boundary_from(versions: &[&[u8]], from: usize, size: usize, distance: usize) -> usize
     requires some { 0 < length versions.now }
     requires lengths { All (λ version. length version.now ≡ size) versions.now }
     requires within { from ≤ size }
     requires inside { 0 < from }
     ensures beyond { from ≤ result }
     ensures within { result ≤ size }
-    ensures until { (i : ℕ) → from ≤ i → i < result → IsSeam distance (map (λ version. version.now) versions.now) i → ⊥ }
-    ensures there { result < size → IsSeam distance (map (λ version. version.now) versions.now) result }
+    ensures until { (i : ℕ) → from ≤ i → i < result → IsBoundary distance (map (λ version. version.now) versions.now) i → ⊥ }
+    ensures there { result < size → IsBoundary distance (map (λ version. version.now) versions.now) result }
 {
     let mut place = from;
-    while place < size && !is_seam(versions, place, size, distance) {
+    while place < size && !is_boundary(versions, place, size, distance) {
         place = after_place(versions, place, size);
     }
     place
@@ -113,7 +113,7 @@ pub(crate) fn segment_from(
     if first == size {
         return None;
     }
-    let seam = from < first && is_seam(versions, first, size, distance);
-    let start = if seam { first } else { from };
-    Some((start, seam_from(versions, first + 1, size, distance)))
+    let boundary = from < first && is_boundary(versions, first, size, distance);
+    let start = if boundary { first } else { from };
+    Some((start, boundary_from(versions, first + 1, size, distance)))
 }

@@ -4,7 +4,7 @@ ghost use Rattle.std.specs.Prelude.{◌≡◌, ◌<◌, ◌++◌, ℕ, List, [],
 ghost use Rattle.ffv1_weave.specs.Checks.{CanWeave};
 ghost use Rattle.ffv1_weave.specs.Inner.Found.{IsFoundAmong};
 ghost use Rattle.ffv1_weave.specs.Inner.Parts.{AreFewParts, chosen_below};
-ghost use Rattle.ffv1_weave.specs.declared.grains.Grain.{Grain};
+ghost use Rattle.ffv1_weave.specs.declared.splits.Split.{Split};
 
 use crate::changes::{changed, tables_of};
 use crate::check::Check;
@@ -23,7 +23,7 @@ pub(crate) fn with_combinations(
     requires weaves { CanWeave check }
     requires some { 0 < length versions.now }
     requires lengths { All (λ version. length version.now ≡ length (slice_index_or (map (λ version. version.now) versions.now) 0 [])) versions.now }
-    requires few { (grain : Grain) × AreFewParts grain (map (λ version. version.now) versions.now)
+    requires few { (split : Split) × AreFewParts split (map (λ version. version.now) versions.now)
         (length (slice_index_or (map (λ version. version.now) versions.now) 0 [])) tried.now.parts.items tried.now.count }
     ensures { IfOk result (λ more. (others : List (List ℕ)) → IsFoundAmong check others found
         → IsFoundAmong check (chosen_below tried.now.parts.items (slice_index_or (map (λ version. version.now) versions.now) 0 []) tried.now.count ++ others) more) }

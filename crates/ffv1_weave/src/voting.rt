@@ -5,8 +5,8 @@ ghost use Rattle.ffv1_weave.specs.Votes.{IsVoteOf};
 
 use crate::check::Check;
 use crate::found::Found;
-use crate::grains::VOTES;
 use crate::parts::{distinct_versions, parts_by};
+use crate::splits::VOTES;
 use crate::trying::with_combinations;
 use std::alloc::{AllocError, Global};
 
@@ -51,8 +51,8 @@ fn vote_distinct(alloc: Global, versions: &[&[u8]]) -> Result<Option<(Vec<u8>, u
 {
     let mut found = Found::Nothing;
     let mut count = 0;
-    for grain in VOTES {
-        if let Some(tried) = parts_by(alloc, grain, versions, versions[0].len())? {
+    for split in VOTES {
+        if let Some(tried) = parts_by(alloc, split, versions, versions[0].len())? {
             found = with_combinations(alloc, Check::Slice, versions, &tried, found)?;
             count += tried.count;
         }

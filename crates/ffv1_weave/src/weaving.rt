@@ -17,7 +17,7 @@ pub const MOST_COMBINATIONS: usize = 4096;
 /// where its footer gives its length (RFC 9043, section 4.9.1) and it passes the parity (section 4.9.3), an element where it begins with its
 /// CRC-32 (RFC 8794, section 11.3.1), a record where it passes its parity (RFC 9043, section 4.3.2) and is not all zeros.
 #[derive(Debug, Drop)]
-pub enum Outcome {
+pub enum WeaveResult {
     /// One combination alone is valid: these bytes, among so many that are tried, which are at most `MOST_COMBINATIONS`.
     Woven(Vec<u8>, usize),
     /// Two combinations that are tried and differ are valid.
@@ -29,7 +29,11 @@ pub enum Outcome {
 }
 
 /// Weaves different versions of one length, of which there is one at least, by the check.
-fn weave_distinct(alloc: Global, check: Check, versions: &[&[u8]]) -> Result<Outcome, AllocError>
+fn weave_distinct(
+    alloc: Global,
+    check: Check,
+    versions: &[&[u8]],
+) -> Result<WeaveResult, AllocError>
     requires weaves { CanWeave check }
     requires some { 0 < length versions.now }
     requires lengths { All (λ version. length version.now ≡ length (slice_index_or (map (λ version. version.now) versions.now) 0 [])) versions.now }
@@ -37,12 +41,12 @@ fn weave_distinct(alloc: Global, check: Check, versions: &[&[u8]]) -> Result<Out
     ensures { IfOk result (λ outcome. IsWeaveOf check (map (λ version. version.now) versions.now) (weave_tally outcome)) }
 {
     let Some(tried) = finest_parts(alloc, versions, versions[0].len())? else {
-        return Ok(Outcome::TooMany);
+        return Ok(WeaveResult::TooMany);
     };
     match with_combinations(alloc, check, versions, &tried, Found::Nothing)? {
-        Found::One(bytes) => Ok(Outcome::Woven(bytes, tried.count)),
-        Found::Several => Ok(Outcome::Disputed),
-        Found::Nothing => Ok(Outcome::Missing(tried.count)),
+        Found::One(bytes) => Ok(WeaveResult::Woven(bytes, tried.count)),
+        Found::Several => Ok(WeaveResult::Disputed),
+        Found::Nothing => Ok(WeaveResult::Missing(tried.count)),
     }
 }
 
@@ -68,7 +72,7 @@ fn weave_distinct(alloc: Global, check: Check, versions: &[&[u8]]) -> Result<Out
 ///
 /// It takes memory for two copies of a version, for a list of the different versions, and for one of the parts at which they differ.
 /// The only refusal is that of such an allocation.
-pub fn weave(alloc: Global, check: Check, versions: &[&[u8]]) -> Result<Outcome, AllocError>
+pub fn weave(alloc: Global, check: Check, versions: &[&[u8]]) -> Result<WeaveResult, AllocError>
     requires weaves { CanWeave check }
     requires some { 0 < length versions.now }
     requires lengths { All (λ version. length version.now ≡ length (slice_index_or (map (λ version. version.now) versions.now) 0 [])) versions.now }

@@ -21,7 +21,7 @@ use Rattle.ffv1_hold.specs.FileEntries.{last_of, Follows, AreOrigins, IsFileEntr
 use Rattle.ffv1_hold.specs.Inner.FileEntries.{next_text}
 use Rattle.ffv1_hold.specs.FileFaults.{IsFileReel}
 use Rattle.ffv1_hold.specs.Inner.FileFaults.{IsPartOfHead, HeadIsWhole, HeadShows}
-use Rattle.ffv1_hold.specs.Leads.{LiesWhole, AreAllDigests}
+use Rattle.ffv1_hold.specs.ReadLimits.{LiesWhole, AreAllDigests}
 use Rattle.ffv1_hold.specs.MergedStreams.{Inputs, IsFileOf, IsFileOfSome, ReadsOtherHeads, MergeRefuses, WritesNoEnd, WritesFrontSoFar, WritesAtMost, ReadsBoth, StreamBegins}
 
 -- what both inputs had left and the sink held at first, the reel of both heads, and their versions
@@ -61,7 +61,7 @@ both lefts rights = (set.union lefts.0 rights.0, set.union lefts.1 rights.1)
 
 -- An input was read up to these entries, the last of which is known.
 pub record IsPassed (old new : Option (List ℕ)) (v : Version) (r : Reel) (facts : Facts) (place : ℕ) (last : Option FileEntry) : Type 0 where
-  pub sound : IsHolding (part r facts)
+  pub well_formed : IsHolding (part r facts)
   pub stated : IsStated v (part r facts)
   pub text : Takes old new 0 place (begun_text v (part r facts))
   pub last' : last ≡ last_of (file_entries (part r facts))
@@ -72,7 +72,7 @@ FollowsAll r facts next = IfSome next (λ e. Follows (last_of (file_entries (par
 
 -- An input was read up to these entries, and after them the next one, or to the end.
 pub record IsReadUpTo (old new : Option (List ℕ)) (v : Version) (r : Reel) (facts : Facts) (place : ℕ) (next : Option FileEntry) : Type 0 where
-  pub sound : IsHolding (part r facts)
+  pub well_formed : IsHolding (part r facts)
   pub stated : IsStated v (part r facts)
   pub text : Takes old new 0 place (begun_text v (part r facts) ++ next_text v next)
   pub entry : IfSome next (IsFileEntryOf v r.setup)
@@ -83,7 +83,7 @@ pub record IsReadUpTo (old new : Option (List ℕ)) (v : Version) (r : Reel) (fa
 -- the end, after them.
 pub record ReadsToNext (v : Version) (r : Reel) (old new beside : Option (List ℕ)) (done : List ℕ) : Type 0 where
   pub facts : Facts
-  pub sound : IsHolding (part r facts)
+  pub well_formed : IsHolding (part r facts)
   pub stated : IsStated v (part r facts)
   pub whole : (u : Version) (h : Contents) (other : Option Contents) → IsFileOf old u h → IsFileOfSome beside other
       → AllByRecursion (LiesWhole (AreAllDigests h other) r done) (file_entries (part r facts))

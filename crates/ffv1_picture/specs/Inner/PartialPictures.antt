@@ -2,7 +2,7 @@
 use Rattle.std.specs.Prelude.{ℕ, Option}
 use Rattle.ffv1_range.specs.Tiles.{grid_of}
 use Rattle.ffv1_holding.specs.Contents.{Contents}
-use Rattle.ffv1_holding.specs.Standing.{tile_state}
+use Rattle.ffv1_holding.specs.TileState.{tile_state}
 use Rattle.ffv1_picture.specs.WholePicture.{Planes}
 use Rattle.ffv1_picture.specs.Inner.Drawing.{DrawsAny}
 use Rattle.ffv1_picture.specs.declared.frame.Frame.{Frame}

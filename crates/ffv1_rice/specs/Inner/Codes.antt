@@ -2,7 +2,7 @@
 use Rattle.std.specs.Prelude.{◌≡◌, ℕ, Bool, List, ◌++◌, length}
 use Rattle.ffv1_rice.specs.declared.code.CodeFault.{CodeFault}
 use Rattle.ffv1_rice.specs.declared.code.CodeFault.TheVariants as faults
-use Rattle.ffv1_rice.specs.Codes.{IsCutCode, IsNeedlessEscape, IsLargeCode}
+use Rattle.ffv1_rice.specs.Codes.{FooterGivesCode, IsNeedlessEscape, IsLargeCode}
 
 -- The bits begin with these, of which there are so many.
 pub record BitsBegin (bits front : List Bool) (count : ℕ) : Type 0 where
@@ -14,7 +14,7 @@ pub record BitsBegin (bits front : List Bool) (count : ℕ) : Type 0 where
 
 -- the faults of a code's number at the parameter k
 abbrev pub IsNumberFault : ℕ → List Bool → CodeFault → Type 0
-IsNumberFault k bits faults.Truncated = IsCutCode k bits
+IsNumberFault k bits faults.Truncated = FooterGivesCode k bits
 IsNumberFault k bits faults.EscapeNotNeeded = IsNeedlessEscape k bits
 IsNumberFault k bits faults.CodeTooLarge = IsLargeCode k bits
 IsNumberFault k bits faults.LevelTooLarge = ⊥

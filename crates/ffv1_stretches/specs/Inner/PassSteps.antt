@@ -4,7 +4,7 @@ use Rattle.ffv1_devices.specs.Logs.{ReadLog, WriteLog, Reads, Writes, StopsWriti
 use Rattle.ffv1_devices.specs.Exact.{StopsReading}
 use Rattle.ffv1_mend.specs.Mended.{MendedValue, is_good}
 use Rattle.ffv1_stretches.specs.Stretches.{StretchValue}
-use Rattle.ffv1_stretches.specs.Cells.{IsOutcome}
+use Rattle.ffv1_stretches.specs.Cells.{IsStretchMend}
 use Rattle.ffv1_stretches.specs.Lines.{stretch_text}
 use Rattle.ffv1_stretches.specs.Copies.{CopyState}
 use Rattle.ffv1_stretches.specs.Inner.Copies.{ReadsStretch}
@@ -74,11 +74,11 @@ ReadsEach size places (Err _) olds news = ⊥
 
 -- It was written, and then its lines; or either was not written whole; or memory was refused before.
 abbrev pub MendsOne : ℕ → List (Option (List ℕ)) → StretchValue → Result Bool MendFault → (out_old out_new output_old output_new : WriteLog) → Type 0
-MendsOne number cells stretch (Ok good) out_old out_new output_old output_new = (one : MendedValue) × IsOutcome cells stretch one
+MendsOne number cells stretch (Ok good) out_old out_new output_old output_new = (one : MendedValue) × IsStretchMend cells stretch one
     × Writes out_old out_new one.bytes × Writes output_old output_new (stretch_text number cells stretch one) × (good ≡ is_good one.state)
-MendsOne number cells stretch (Err faults.Out) out_old out_new output_old output_new = (one : MendedValue) × IsOutcome cells stretch one
+MendsOne number cells stretch (Err faults.Out) out_old out_new output_old output_new = (one : MendedValue) × IsStretchMend cells stretch one
     × StopsWriting out_old out_new one.bytes × (output_new ≡ output_old)
-MendsOne number cells stretch (Err faults.Output) out_old out_new output_old output_new = (one : MendedValue) × IsOutcome cells stretch one
+MendsOne number cells stretch (Err faults.Output) out_old out_new output_old output_new = (one : MendedValue) × IsStretchMend cells stretch one
     × Writes out_old out_new one.bytes × StopsWriting output_old output_new (stretch_text number cells stretch one)
 MendsOne number cells stretch (Err faults.Memory) out_old out_new output_old output_new = (out_new ≡ out_old) × (output_new ≡ output_old)
 MendsOne number cells stretch (Err (faults.Read copy)) out_old out_new output_old output_new = ⊥

@@ -4,7 +4,7 @@ use Rattle.ffv1_commands.proofs.holdings.write_holding.Goals as goal
 pub returns-in-Ok : goal.returns-in-Ok
 returns-in-Ok g c =
     let e = c.in-Ok.ensures in
-    record { reported = (record { sound = e.sound; fits = e.saved.0 }, e.saved.1); untouched = tt }
+    record { reported = (record { well_formed = e.well_formed; fits = e.saved.0 }, e.saved.1); untouched = tt }
 
 pub returns-in-Err-TooLong-clause-reported : goal.returns-in-Err-TooLong-clause-reported
 returns-in-Err-TooLong-clause-reported g c =

@@ -1,7 +1,7 @@
 use Rattle.std.proofs.Common.{◌≡◌, rules, refl}
 use Rattle.ffv1_hold.specs.MergedStreams.{WritesFrontSoFar}
 use Rattle.ffv1_hold.specs.declared.file_fault.HoldFileFault.TheVariants.{Write}
-use Rattle.ffv1_commands.proofs.MergedFiles.{leaves_front, answers_other_heads}
+use Rattle.ffv1_commands.proofs.MergedFiles.{leaves_front, returns_other_heads}
 use Rattle.ffv1_commands.proofs.merge.merge_of.Goals as goal
 
 pub returns-in-Ok-clause-reported : goal.returns-in-Ok-clause-reported
@@ -27,4 +27,4 @@ returns-in-Err-clause-reported g c =
 
 pub returns-in-Err-clause-other : goal.returns-in-Err-clause-other
 returns-in-Err-clause-other g c one two left right other =
-    rw c.of_merge.ensures (answers_other_heads c.in-Err.fault (c.in-Err.ensures.other one two left right other))
+    rw c.of_merge.ensures (returns_other_heads c.in-Err.fault (c.in-Err.ensures.other one two left right other))

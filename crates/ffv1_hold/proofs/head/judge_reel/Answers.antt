@@ -10,7 +10,7 @@ returns-in-Ok c =
     let size = setup_size c.args.config.items c.args.width c.args.height c.in-Ok.reel.setup is.setup in
     record {
       text = λ i. sized_record (sym is.config i) (sym size.0 i) (sym size.1 i);
-      reel = record { reel = is.sound; fits = omega (arith, ap length is.config, c.requires) };
+      reel = record { reel = is.well_formed; fits = omega (arith, ap length is.config, c.requires) };
       fault = tt;
     }
 

@@ -1,7 +1,7 @@
 use Rattle.std.proofs.Common.{rules, refl, inl}
 use Rattle.std.proofs.lemmas.Result.{err_from_is_err_and}
 use Rattle.ffv1_hold.specs.Inner.Merging.{Start, AreVersions, IsOpened}
-use Rattle.ffv1_hold.proofs.MergeAnswers.{after_heads, never_other}
+use Rattle.ffv1_hold.proofs.MergeResults.{after_heads, never_other}
 use Rattle.ffv1_hold.proofs.JoinSteps.{MergeWent-after}
 use Rattle.ffv1_hold.proofs.merging.merge_files.Goals as goal
 

@@ -25,7 +25,7 @@ module _ (bytes : List ℕ) (width height : ℕ) where
     config : IfOk r (λ h. h.reel.config ≡ bytes);
     setup : IfOk r (λ h. IsSetupOf bytes width height h.reel.setup);
     meaning : IfOk r (λ h. h ≡ holding_of h.reel (copies_of plan));
-    sound : IfOk r IsHolding;
+    well_formed : IfOk r IsHolding;
     near : (original : List ℕ) (slices : List (List ℕ)) → IfOk r (λ h. AreNear h.reel.setup original slices (copies_of plan) → HoldsExactly h slices);
     short : OnOk r (AreShort (copies_of plan));
     fits : IfOk r (λ h. RereadsFit h.reel plan);
@@ -37,7 +37,7 @@ module _ (bytes : List ℕ) (width height : ℕ) where
       → IsPlanFault bytes width height step f → Says plan r
   refused plan step r f is refusal faulty =
       let p = err_from_is_err_and r refusal in
-      rw (p.1, p.2, is) (record { config = tt; setup = tt; meaning = tt; sound = tt; near = λ original slices. tt; short = tt; fits = tt; fault = faulty })
+      rw (p.1, p.2, is) (record { config = tt; setup = tt; meaning = tt; well_formed = tt; near = λ original slices. tt; short = tt; fits = tt; fault = faulty })
 
   -- a plan that gave a holding is carried out
   carried : (plan lent : Plan) (h : Contents) → lent ≡ plan → Says lent (Ok h) → IsCarriedOut bytes width height plan
@@ -47,13 +47,13 @@ module _ (bytes : List ℕ) (width height : ℕ) where
   stepped : (plan step : Plan) (reel : Reel) (r : Result Contents PlanFault) (Took : Contents → Type 0) → plan ≡ step → IsReelOf bytes width height reel
       → IfOk r Took → ((h : Contents) → Took h → h.reel ≡ reel) → ((h : Contents) → Took h → h ≡ holding_of h.reel (copies_of step)) → IfOk r IsHolding
       → OnOk r (AreShort (copies_of step)) → IfOk r (λ h. RereadsFit h.reel step) → IfErr r (IsPlanFault bytes width height step) → Says plan r
-  stepped plan step reel r Took is of_reel took keeps means sound short fits faulty =
+  stepped plan step reel r Took is of_reel took keeps means well_formed short fits faulty =
       let meaning = IfOk-weaker r Took (λ h. h ≡ holding_of h.reel (copies_of step)) means took in
       rw is (record {
         config = of_kept_reel r Took reel keeps (λ q. q.config ≡ bytes) of_reel.0 took;
         setup = of_kept_reel r Took reel keeps (λ q. IsSetupOf bytes width height q.setup) of_reel.1 took;
         meaning = meaning;
-        sound = sound;
+        well_formed = well_formed;
         near = λ original slices. near_of_meaning r original slices (copies_of step) meaning;
         short = short;
         fits = fits;
@@ -63,7 +63,7 @@ module _ (bytes : List ℕ) (width height : ℕ) where
   -- copies are taken into what the plan before gave, which is `lent`: what is held grows by what is found in them
   taken : (plan step before lent : Plan) (h grown : Contents) (r : Result Contents PlanFault) (more : List (List ℕ)) (Faulty : PlanFault → Type 0)
       → plan ≡ step → lent ≡ before → Says lent (Ok h)
-      → record { ok : IfOk r (λ k. k ≡ grown); sound : IfOk r IsHolding; short : OnOk r (AreShort more); fault : IfErr r Faulty }
+      → record { ok : IfOk r (λ k. k ≡ grown); well_formed : IfOk r IsHolding; short : OnOk r (AreShort more); fault : IfErr r Faulty }
       → copies_of step ≡ copies_of before ++ more → grown.reel ≡ h.reel → ((q : Reel) → RereadsFit q before → RereadsFit q step)
       → ((k : Contents) → h ≡ holding_of h.reel (copies_of before) → k ≡ grown → k ≡ holding_of k.reel (copies_of step))
       → ((f : PlanFault) → IsCarriedOut bytes width height before → Faulty f → IsPlanFault bytes width height step f) → Says plan r
@@ -71,7 +71,7 @@ module _ (bytes : List ℕ) (width height : ℕ) where
       let was : Says before (Ok h) = subst (λ p. Says p (Ok h)) deref given in
       let keeps = λ (k : Contents) (e : k ≡ grown). ap (λ (k : Contents). k.reel) e ∙ same in
       let short = on_ok_weaker r (AreShort-both (copies_of before) more was.short) took.short in
-      stepped plan step h.reel r (λ k. k ≡ grown) is (was.config, was.setup) took.ok keeps (λ k e. means k was.meaning e) took.sound
+      stepped plan step h.reel r (λ k. k ≡ grown) is (was.config, was.setup) took.ok keeps (λ k e. means k was.meaning e) took.well_formed
       (subst (λ c. OnOk r (AreShort c)) (sym all) short)
       (of_kept_reel r (λ k. k ≡ grown) h.reel keeps (λ q. RereadsFit q step) (fits h.reel was.fits) took.ok)
       (IfErr-weaker r Faulty (IsPlanFault bytes width height step) (λ f. faulty f (carried before lent h deref given)) took.fault)
@@ -114,7 +114,7 @@ returns-in_ok-other-in-Join t c =
     let done = carried c.args.config.now c.args.width c.args.height in
     stepped c.args.config.now c.args.width c.args.height _ _ before.reel r Took c.in-Join.is (was.config, was.setup) c.union_of.ensures.ok keeps
     (λ h is. after_joined before h (copies_of c.in-Join.left.value) was.meaning other (copies_of c.in-Join.right.value) too.meaning same is)
-    c.union_of.ensures.sound
+    c.union_of.ensures.well_formed
     (IfOk-weaker r Took _ (λ _ _. AreShort-both (copies_of c.in-Join.left.value) (copies_of c.in-Join.right.value) was.short too.short)
     c.union_of.ensures.ok)
     (of_kept_reel r Took before.reel keeps (λ q. RereadsFit q c.in-Join.left.value × RereadsFit q c.in-Join.right.value)
@@ -132,7 +132,7 @@ returns-in_ok-new-in-New t c =
       config = new.config;
       setup = new.setup;
       meaning = meaning;
-      sound = search rules;
+      well_formed = search rules;
       near = λ original slices near. near_exact h original slices (copies_of plan) near (ap (λ (k : Contents). k.slices) meaning);
       short = subst (λ (p : Plan). AreShort (copies_of p)) (sym c.in-New.is) tt;
       fits = subst (RereadsFit h.reel) (sym c.in-New.is) tt;
@@ -150,7 +150,7 @@ returns-in_ok-holding-in-Reread t c =
     let same = c.through_file.ensures.same in
     stepped c.args.config.now c.args.width c.args.height _ _ before.reel r (λ h. h ≡ before) c.in-Reread.is (was.config, was.setup) same
     (λ h is. ap (λ (k : Contents). k.reel) is) (λ h is. after_same before h copies was.meaning is)
-    (IfOk-weaker r (λ h. h ≡ before) IsHolding (λ h is. subst IsHolding (sym is) was.sound) same)
+    (IfOk-weaker r (λ h. h ≡ before) IsHolding (λ h is. subst IsHolding (sym is) was.well_formed) same)
     (IfOk-weaker r (λ h. h ≡ before) _ (λ _ _. was.short) same)
     (reel_on_same r before (¬ IsTooLong before) (λ q. RereadsFit q c.in-Reread.before.value × (¬ IsTooLong (holding_of q copies)))
     (λ fits. (was.fits, subst (λ (k : Contents). ¬ IsTooLong k) was.meaning fits)) same c.through_file.ensures.fits)

@@ -13,11 +13,11 @@ only_memory PayloadTooLong same short = absurd (short refl)
 only_memory Memory same short = refl
 
 pub returns : goal.returns
-returns c = record { ok = c.in_ok-join_with.ensures.joined; sound = kept_is_holding c.holding.inside c.join_with.new.self c.holding.view_is c.holding.invariant; memory = tt }
+returns c = record { ok = c.in_ok-join_with.ensures.joined; well_formed = kept_is_holding c.holding.inside c.join_with.new.self c.holding.view_is c.holding.invariant; memory = tt }
 
 pub returns-in_err-join_with : goal.returns-in_err-join_with
 returns-in_err-join_with c =
     let p = err_from_is_err_and c.from_residual.result c.from_residual.ensures.1 in
     let refused = c.in_err-join_with.ensures in
     let memory = only_memory c.in_err-join_with.field-0.0 (λ e. refused.other_reel e c.requires) refused.too_long in
-    rw (p.1, p.2, memory) (record { ok = tt; sound = tt; memory = refl })
+    rw (p.1, p.2, memory) (record { ok = tt; well_formed = tt; memory = refl })

@@ -13,7 +13,7 @@ returns-in_err-take_all c =
     let lt : fault.taken < length (map (λ copy. copy.now) copies) = omega
     (arith, c.in_err-take_all.ensures.some.0, length-map copies (λ copy. copy.now)) in
     let short = subst AreShort (sym (take-map (λ copy. copy.now) fault.taken copies)) c.in_err-take_all.ensures.some_short in
-    rw (p.1, p.2) (record { ok = tt; sound = tt; short = tt; fault = (fault.taken, lt, short, c.in_err-take_all.ensures.cause) })
+    rw (p.1, p.2) (record { ok = tt; well_formed = tt; short = tt; fault = (fault.taken, lt, short, c.in_err-take_all.ensures.cause) })
 
 pub returns : goal.returns
-returns c = record { ok = c.in_ok-take_all.ensures.ok; sound = kept_is_holding c.holding.inside c.take_all.new.self c.holding.view_is c.holding.invariant; short = c.in_ok-take_all.ensures.short; fault = tt }
+returns c = record { ok = c.in_ok-take_all.ensures.ok; well_formed = kept_is_holding c.holding.inside c.take_all.new.self c.holding.view_is c.holding.invariant; short = c.in_ok-take_all.ensures.short; fault = tt }

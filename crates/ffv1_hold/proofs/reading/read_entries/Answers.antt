@@ -26,7 +26,7 @@ module _ (g : Over) (c : In-Some g) where
       let inv = c.loop-reader.invariant in
       let h = c.loop-reader.holding in
       let follows = subst (λ (o : Option FileEntry). IfSome o (λ e. Follows (last_of (file_entries h)) e.0)) c.in-Some.is inv.follows in
-      one_more c.args.reader.now.version c.args.holding.now.reel _ _ _ _ h grown c.in-Some.entry inv.sound inv.stated inv.reel entry_held follows
+      one_more c.args.reader.now.version c.args.holding.now.reel _ _ _ _ h grown c.in-Some.entry inv.well_formed inv.stated inv.reel entry_held follows
       c.loop-reader.reader.held c.in-Some.is is inv.text
 
 pub returns-in_err-advance : goal.returns-in_err-advance
@@ -34,19 +34,19 @@ returns-in_err-advance g c =
     let p = err_from_is_err_and c.from_residual.result c.from_residual.ensures.1 in
     let v = c.args.reader.now.version in
     let h = c.args.holding.now in
-    let none = none_read v _ _ h c.args.reader.now.held c.requires.place c.setup.ensures.sound.reel c.requires.empty c.requires.first in
-    rw (p.1, p.2) (record { read = next_refused v h.reel _ _ _ _ h _ none v _ refl c.setup.ensures.value _ _ c.in_err-advance.ensures.read; end = tt; sound = tt; stated = tt; reel = tt })
+    let none = none_read v _ _ h c.args.reader.now.held c.requires.place c.setup.ensures.well_formed.reel c.requires.empty c.requires.first in
+    rw (p.1, p.2) (record { read = next_refused v h.reel _ _ _ _ h _ none v _ refl c.setup.ensures.value _ _ c.in_err-advance.ensures.read; end = tt; well_formed = tt; stated = tt; reel = tt })
 
 pub loop-reader-init : goal.loop-reader-init
 loop-reader-init g c =
     let v = c.args.reader.now.version in
     let h = c.args.holding.now in
-    let none = none_read v _ _ h c.args.reader.now.held c.requires.place c.setup.ensures.sound.reel c.requires.empty c.requires.first in
+    let none = none_read v _ _ h c.args.reader.now.held c.requires.place c.setup.ensures.well_formed.reel c.requires.empty c.requires.first in
     let next = c.in_ok-advance.ensures in
     record {
       text = TakesText-trans _ _ _ _ _ _ _ _ none.text next.read;
       version = next.version;
-      sound = c.setup.ensures.sound;
+      well_formed = c.setup.ensures.well_formed;
       stated = none.stated;
       reel = refl;
       entry = subst (λ (x : SetupValue). IfSome c.advance.new.self.held (IsFileEntryOf v x)) c.setup.ensures.value next.entry;
@@ -76,7 +76,7 @@ loop-reader-preserved g c =
     record {
       text = next_taken v c.loop-reader.reader.version _ _ _ _ _ _ _ _ inv.version more.text next.read;
       version = next.version ∙ inv.version;
-      sound = more.sound;
+      well_formed = more.well_formed;
       stated = more.stated;
       reel = more.reel';
       entry = subst (λ (x : SetupValue). IfSome c.advance-in-Some.new.self.held (IsFileEntryOf v x)) setup
@@ -99,7 +99,7 @@ returns g c =
     record {
       read = rw c.in_default.is at inv.text;
       end = rw c.in_default.is at inv.at_end;
-      sound = inv.sound;
+      well_formed = inv.well_formed;
       stated = inv.stated;
       reel = inv.reel;
     }

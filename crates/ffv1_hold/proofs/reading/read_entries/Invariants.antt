@@ -14,7 +14,7 @@ invariant-loop-reader g l = record {
   text : TakesText (g.R.Source.log l.fn.source) (g.R.Source.log l.source) l.fn.reader.place l.reader.place
       (entries_text l.fn.reader.version (file_entries l.holding) ++ next_text l.fn.reader.version l.reader.held);
   version : l.reader.version ≡ l.fn.reader.version;
-  sound : IsHolding l.holding;
+  well_formed : IsHolding l.holding;
   stated : IsStated l.fn.reader.version l.holding;
   reel : l.holding.reel ≡ l.fn.holding.reel;
   entry : IfSome l.reader.held (IsFileEntryOf l.fn.reader.version l.fn.holding.reel.setup);

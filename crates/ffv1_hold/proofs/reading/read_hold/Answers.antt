@@ -1,6 +1,6 @@
-use Rattle.ffv1_hold.proofs.Answered.{answered}
+use Rattle.ffv1_hold.proofs.Returned.{returned}
 use Rattle.ffv1_hold.proofs.reading.read_hold.Goals as goal
 
 pub returns-clause-only : goal.returns-clause-only
 returns-clause-only g c v h is fits known =
-    answered v h is fits (g.R.Source.log c.args.source.now) (g.R.Source.log c.read_parts.new.source) c.read_parts.result known c.read_parts.ensures
+    returned v h is fits (g.R.Source.log c.args.source.now) (g.R.Source.log c.read_parts.new.source) c.read_parts.result known c.read_parts.ensures

@@ -50,7 +50,7 @@ returns g c =
     let whole = subst (TakesText _ _ _ _) (sym (append_assoc (head_text v r) entries (0 ∷ []))
     ∙ ap (λ (x : Reel). head_text v x ++ entries ++ 0 ∷ []) (sym reel)) all in
     record {
-      sound = more.sound;
+      well_formed = more.well_formed;
       file = record {
         version = v;
         fits = record {

@@ -22,7 +22,7 @@ pub loop-tile-preserved : goal.loop-tile-preserved
 loop-tile-preserved c =
     let h = c.args.holding.now in
     let t = c.loop-tile.tile in
-    let block = length-entries_text h c.requires.sound (tile_entries h.slices t) in
+    let block = length-entries_text h c.requires.well_formed (tile_entries h.slices t) in
     let more = ap length (text_below-more h t) ∙ length-append (entries_text Second (file_entries_below h t)) (entries_text Second (tile_file_entries h t)) in
     omega (arith, block, more, c.loop-tile.invariant, c.in_ok-left.ensures.some)
 
@@ -32,7 +32,7 @@ returns-in_err-left-clause-none c =
     let n = reel_tiles h.reel in
     let t = c.loop-tile.tile in
     let lt : t < n = omega (arith, c.loop-tile-test.true, c.tiles-tile-end.ensures.count, ap reel_tiles c.reel.ensures.value) in
-    let block = length-entries_text h c.requires.sound (tile_entries h.slices t) in
+    let block = length-entries_text h c.requires.well_formed (tile_entries h.slices t) in
     let after = text_goes_on h t n lt in
     let whole = ap length (sym (ap (entries_text Second) (file_entries_below-all h n c.requires.entries.tile)) ∙ after.1)
     ∙ length-append (entries_text Second (file_entries_below h t)) (entries_text Second (tile_file_entries h t) ++ after.0)

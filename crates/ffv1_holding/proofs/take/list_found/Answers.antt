@@ -30,7 +30,7 @@ loop-link-init c =
       all_links = c.new-chain.ensures.links.only;
       listed = ap (map (entry_in c.args.payload.now)) none;
       lie = λ i d lt. absurd (omega (arith, ap length none));
-      sound = λ i d lt. absurd (omega (arith, ap length none));
+      well_formed = λ i d lt. absurd (omega (arith, ap length none));
     }
 
 pub overflow_add-links : goal.overflow_add-links
@@ -69,7 +69,7 @@ loop-link-preserved-in-Continue-1 c =
       listed = ap (map (entry_in payload)) grown ∙ map-append (entry_in payload) c.loop-link.found.items (new ∷ [])
           ∙ (λ i. inv.listed i ++ view i ∷ []) ∙ sym (found_more setup passed link tile is);
       lie = rw grown (each-push (IsEntryIn payload) c.loop-link.found.items new inv.lie lies);
-      sound = rw grown (each-push (λ (e : PoolEntry). IsEntryOf setup (entry_in payload e)) c.loop-link.found.items new inv.sound entry);
+      well_formed = rw grown (each-push (λ (e : PoolEntry). IsEntryOf setup (entry_in payload e)) c.loop-link.found.items new inv.well_formed entry);
     }
 
 pub loop-link-preserved : goal.loop-link-preserved
@@ -86,7 +86,7 @@ loop-link-preserved c =
       all_links = (subst (AreCut c.args.payload.now) c.in-Some.ensures.some inv.all_links).1;
       listed = inv.listed ∙ sym same;
       lie = inv.lie;
-      sound = inv.sound;
+      well_formed = inv.well_formed;
     }
 
 all_found : (c : goal.In_default) → map (entry_in c.args.payload.now) c.loop-link.found.items ≡ found_slices c.args.setup.now c.args.payload.now
@@ -99,8 +99,8 @@ all_found c =
 pub returns-clause-found : goal.returns-clause-found
 returns-clause-found c = all_found c
 
-pub returns-clause-sound : goal.returns-clause-sound
-returns-clause-sound c =
+pub returns-clause-well_formed : goal.returns-clause-well_formed
+returns-clause-well_formed c =
     let inv = c.loop-link.invariant in
     let setup = c.args.setup.now in
     let payload = c.args.payload.now in
@@ -109,7 +109,7 @@ returns-clause-sound c =
     subst (λ (xs : List Entry). AreEntriesOf setup (set.from_list xs)) (all_found c)
     (all-from_list entries_total entries_antisymmetric (IsEntryOf setup) (map (entry_in payload) es)
     (λ i d lt. let in_range : i < length es = omega (arith, length-map es (entry_in payload)) in
-    rw (get_or-map (entry_in payload) es i nothing d in_range) (inv.sound i nothing in_range)))
+    rw (get_or-map (entry_in payload) es i nothing d in_range) (inv.well_formed i nothing in_range)))
 
 pub returns-clause-links : goal.returns-clause-links
 returns-clause-links c =

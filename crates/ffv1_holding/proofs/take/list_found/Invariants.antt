@@ -17,7 +17,7 @@ invariant-loop-link l = record {
   all_links : AllByRecursion (λ link. (q : ℕ) × IsLinkOf l.payload link.start q × (link ≡ link_of l.payload link.start q)) l.chain.left;
   listed : map (entry_in l.payload) l.found.items ≡ filter_map (slice_at l.setup) passed;
   lie : AreEntriesIn l.payload l.found.items;
-  sound : (i : ℕ) (d : PoolEntry) → i < length l.found.items → IsEntryOf l.setup (entry_in l.payload (get_or l.found.items i d));
+  well_formed : (i : ℕ) (d : PoolEntry) → i < length l.found.items → IsEntryOf l.setup (entry_in l.payload (get_or l.found.items i d));
 }
 
 abbrev pub decreases-loop-link : goal.decreases-loop-link

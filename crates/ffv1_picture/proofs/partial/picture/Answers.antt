@@ -44,9 +44,9 @@ loop-tile-preserved c =
 pub returns-clause-whole : goal.returns-clause-whole
 returns-clause-whole c pictures are =
     let h = c.args.holding.now in
-    let sound = c.setup-setup.ensures.sound in
+    let well_formed = c.setup-setup.ensures.well_formed in
     let counted = c.tiles-count.ensures.value ∙ ap tile_count c.grid.ensures ∙ ap (λ s. tile_count (grid_of s)) c.setup-setup.ensures.value in
     let all : c.loop-tile.tile ≡ reel_tiles h.reel = omega (arith, c.loop-tile-test.false, c.loop-tile.auto.tile-end, counted) in
     let partial : Partial = record { frame = c.loop-tile.frame; tiles = c.loop-tile.tiles } in
     let shown : IsPartialPicture h partial = subst (λ n. ShowsTiles h n c.loop-tile.tiles.items c.loop-tile.frame) all c.loop-tile.invariant in
-    one_partial h (setup_is_in_profile _ _ _ _ sound.reel) pictures are partial shown
+    one_partial h (setup_is_in_profile _ _ _ _ well_formed.reel) pictures are partial shown

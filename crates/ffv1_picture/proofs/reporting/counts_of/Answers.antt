@@ -1,8 +1,8 @@
 use Rattle.std.proofs.Common.{◌≡◌, ℕ, ◌+◌, ◌≤◌, cond, refl, sym, ap, ◌∙◌, arith, count_by}
 use Rattle.std.specs.List.{range_with_len}
 use Rattle.ffv1_holding.specs.Contents.{Contents}
-use Rattle.ffv1_holding.specs.Standing.{Standing, missing, settled, disputed, tile_state}
-use Rattle.ffv1_holding.specs.TileStates.{standing_shown}
+use Rattle.ffv1_holding.specs.TileState.{StateOfTile, missing, settled, disputed, tile_state}
+use Rattle.ffv1_holding.specs.TileStates.{state_shown}
 use Rattle.ffv1_picture.specs.ReportText.{is_settled, is_disputed, is_missing}
 use Rattle.ffv1_picture.specs.declared.reporting.Counts.{Counts}
 use Rattle.ffv1_picture.proofs.Reports.{with_tile}
@@ -10,12 +10,12 @@ use Rattle.ffv1_picture.proofs.reporting.counts_of.Goals as goal
 use Rattle.ffv1_picture.proofs.reporting.counts_of.Goals.{in-Settled, in-Disputed, in-Missing}
 
 -- the counts with one tile more, by how it stands
-abbrev next : Standing → Counts → Counts
+abbrev next : StateOfTile → Counts → Counts
 next (settled slice) k = record { settled = k.settled + 1; disputed = k.disputed; missing = k.missing }
 next (disputed slices) k = record { settled = k.settled; disputed = k.disputed + 1; missing = k.missing }
 next missing k = record { settled = k.settled; disputed = k.disputed; missing = k.missing + 1 }
 
-next_is : (s : Standing) (k : Counts) → record {
+next_is : (s : StateOfTile) (k : Counts) → record {
   settled : (next s k).settled ≡ k.settled + cond (is_settled s) 1 0;
   disputed : (next s k).disputed ≡ k.disputed + cond (is_disputed s) 1 0;
   missing : (next s k).missing ≡ k.missing + cond (is_missing s) 1 0;
@@ -34,7 +34,7 @@ AreCounted h n k = record {
   few : k.settled + k.disputed + k.missing ≤ n;
 }
 
-one_more : (h : Contents) (n : ℕ) (old new : Counts) (s : Standing) → AreCounted h n old → s ≡ tile_state h n → new ≡ next s old → AreCounted h (n + 1) new
+one_more : (h : Contents) (n : ℕ) (old new : Counts) (s : StateOfTile) → AreCounted h n old → s ≡ tile_state h n → new ≡ next s old → AreCounted h (n + 1) new
 one_more h n old new s so_far is then =
     let more = next_is s old in
     rw then (record {
@@ -47,7 +47,7 @@ one_more h n old new s so_far is then =
 pub loop-tile-preserved : goal.loop-tile-preserved
 loop-tile-preserved c =
     elim c.match-state.branch [
-      | in-Settled w ↦ one_more c.args.holding.now c.loop-tile.tile _ _ _ c.loop-tile.invariant (ap standing_shown (sym w.in-Settled.is) ∙ c.state.ensures) w.counts-is
-      | in-Disputed w ↦ one_more c.args.holding.now c.loop-tile.tile _ _ _ c.loop-tile.invariant (ap standing_shown (sym w.in-Disputed.is) ∙ c.state.ensures) w.counts-is
-      | in-Missing w ↦ one_more c.args.holding.now c.loop-tile.tile _ _ _ c.loop-tile.invariant (ap standing_shown (sym w.in-Missing.is) ∙ c.state.ensures) w.counts-is
+      | in-Settled w ↦ one_more c.args.holding.now c.loop-tile.tile _ _ _ c.loop-tile.invariant (ap state_shown (sym w.in-Settled.is) ∙ c.state.ensures) w.counts-is
+      | in-Disputed w ↦ one_more c.args.holding.now c.loop-tile.tile _ _ _ c.loop-tile.invariant (ap state_shown (sym w.in-Disputed.is) ∙ c.state.ensures) w.counts-is
+      | in-Missing w ↦ one_more c.args.holding.now c.loop-tile.tile _ _ _ c.loop-tile.invariant (ap state_shown (sym w.in-Missing.is) ∙ c.state.ensures) w.counts-is
     ]

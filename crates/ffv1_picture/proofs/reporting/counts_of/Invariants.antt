@@ -1,6 +1,6 @@
 use Rattle.std.proofs.Common.{◌≡◌, ◌+◌, ◌≤◌, count_by}
 use Rattle.std.specs.List.{range_with_len}
-use Rattle.ffv1_holding.specs.Standing.{tile_state}
+use Rattle.ffv1_holding.specs.TileState.{tile_state}
 use Rattle.ffv1_picture.specs.ReportText.{is_settled, is_disputed, is_missing}
 use Rattle.ffv1_picture.proofs.reporting.counts_of.Given as goal
 

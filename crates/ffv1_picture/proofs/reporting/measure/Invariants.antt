@@ -2,7 +2,7 @@ use Rattle.std.proofs.Common.{◌≡◌, ◌*◌, ◌≤◌, length}
 use Rattle.std.specs.List.{flat_map, range_with_len}
 use Rattle.ffv1_bits.specs.Limits.{slice_limit}
 use Rattle.sha2.specs.Hashers.{Holds256}
-use Rattle.ffv1_holding.specs.Standing.{settled_bytes, tile_state}
+use Rattle.ffv1_holding.specs.TileState.{settled_bytes, tile_state}
 use Rattle.ffv1_picture.proofs.reporting.measure.Given as goal
 
 -- The slices of the tiles so far are hashed, and none passes its limit.

@@ -1,7 +1,7 @@
 use Rattle.std.proofs.Common.{◌≡◌, ◌++◌, ℕ, List, OnOk, string_bytes, sym, ap, subst, ◌∙◌}
 use Rattle.ffv1_slice.proofs.SliceFacts.{slice_footer}
 use Rattle.ffv1_holding.specs.TileSets.{tile_slices}
-use Rattle.ffv1_holding.specs.Standing.{settled, disputed}
+use Rattle.ffv1_holding.specs.TileState.{settled, disputed}
 use Rattle.ffv1_holding.proofs.RisingSets.{size-items}
 use Rattle.ffv1_picture.specs.ReportText.{slices_held, settled_words, disputed_words, tile_words, least_status}
 use Rattle.ffv1_picture.proofs.SettledSlices.{settled_entry}
@@ -11,7 +11,7 @@ pub push_settled-requires : goal.push_settled-requires
 push_settled-requires c =
     let h = c.args.holding.now in
     let slice = c.in-Settled.slice.now in
-    slice_footer h.reel.setup slice _ c.args.tile (settled_entry h c.setup-setup.ensures.sound c.args.tile slice (sym c.in-Settled.ensures)).slice
+    slice_footer h.reel.setup slice _ c.args.tile (settled_entry h c.setup-setup.ensures.well_formed c.args.tile slice (sym c.in-Settled.ensures)).slice
 
 pub returns-in-Settled : goal.returns-in-Settled
 returns-in-Settled c =

@@ -4,7 +4,7 @@ use Rattle.ffv1_plane.specs.declared.tile.TileFault.TheVariants.{Code, Head}
 use Rattle.ffv1_range.specs.declared.head.HeadFault.{HeadFault}
 use Rattle.std.proofs.lemmas.Result.{err_from_is_err_and}
 use Rattle.ffv1_range.proofs.Spelling.{same_ok}
-use Rattle.ffv1_plane.proofs.OneStuck.{one_answer}
+use Rattle.ffv1_plane.proofs.OneStuck.{one_result}
 use Rattle.ffv1_plane.proofs.Pictures.{one_reading_is, picture_is}
 use Rattle.ffv1_plane.proofs.Stops.{planes_refused}
 use Rattle.ffv1_plane.proofs.tile.decode_tile.Goals as goal
@@ -52,14 +52,14 @@ returns-in_err-planes c =
     rw (p.1, p.2)
     (record {
       ok = tt;
-      found = λ picture is. ⊎_elim (λ memory. memory) (λ refused. absurd (one_answer.no_picture c.args.setup.now c.args.index c.args.content.now _ picture
+      found = λ picture is. ⊎_elim (λ memory. memory) (λ refused. absurd (one_result.no_picture c.args.setup.now c.args.index c.args.content.now _ picture
           c.keeps_profile.ensures c.requires.tile refused is)) given;
       head = λ fault first. err_not_ok _ _ (sym (c.in_ok-head.ensures.fault ∙ first));
       other = λ head place is other.
           let same = same_ok (head, place) (c.in_ok-head.head, c.in_ok-head.place) (sym (c.in_ok-head.ensures.only head place is)) in
           absurd (other (ap (λ z. z.0.tile) same ∙ tile));
       refused = given;
-      stuck = λ fault plane y x is. ⊎_elim (λ memory. inl memory) (λ refused. inr (one_answer.one_fault c.args.setup.now c.args.index c.args.content.now _
+      stuck = λ fault plane y x is. ⊎_elim (λ memory. inl memory) (λ refused. inr (one_result.one_fault c.args.setup.now c.args.index c.args.content.now _
           (Code fault plane y x) c.keeps_profile.ensures c.requires.tile refused is)) given;
     })
 
@@ -87,5 +87,5 @@ returns-clause-refused c = tt
 
 pub returns-clause-stuck : goal.returns-clause-stuck
 returns-clause-stuck c = λ fault plane y x is.
-    absurd (one_answer.no_picture c.args.setup.now c.args.index c.args.content.now (Code fault plane y x) _ c.keeps_profile.ensures c.requires.tile is
+    absurd (one_result.no_picture c.args.setup.now c.args.index c.args.content.now (Code fault plane y x) _ c.keeps_profile.ensures c.requires.tile is
     (returns-clause-ok c))

@@ -64,11 +64,11 @@ loop-index-preserved g c =
       scan = scanned_more ranges (take i ranges) range (drop (suc i) ranges)
           (parted_at ranges i no_range c.loop-index-test.true) c.requires _ _ _ _ _ inv.scan c.loop-index.last inv.last
           _ c.in_ok-verdict.verdict c.in_ok-verdict.ensures.judged (i + 1) (number_at ranges i c.loop-index-test.true)
-          _ c.in_ok-write_line.ensures (take (i + 1) ranges) more _ c.is_sound-sound.ensures;
+          _ c.in_ok-write_line.ensures (take (i + 1) ranges) more _ c.is_undamaged-undamaged.ensures;
     }
 
 pub returns : goal.returns
 returns g c =
     let ranges = c.args.ranges.now in
-    all_scanned ranges (take c.loop-index.index ranges) _ _ _ _ c.loop-index.sound
+    all_scanned ranges (take c.loop-index.index ranges) _ _ _ _ c.loop-index.undamaged
     (take_all c.loop-index.index ranges (omega (arith, c.loop-index-test.false))) c.loop-index.invariant.scan

@@ -8,5 +8,5 @@ abbrev pub invariant-loop-index : goal.invariant-loop-index
 invariant-loop-index g l = record {
   room : 0 < vec_len l.room;
   last : l.last.place + l.last.size ≡ ranges_end 0 (take l.index l.ranges);
-  scan : IsScanned (take l.index l.ranges) l.sound (g.S.Source.log l.fn.file) (g.S.Source.log l.file) (g.W.Sink.log l.initial.output) (g.W.Sink.log l.output);
+  scan : IsScanned (take l.index l.ranges) l.undamaged (g.S.Source.log l.fn.file) (g.S.Source.log l.file) (g.W.Sink.log l.initial.output) (g.W.Sink.log l.output);
 }

@@ -2,7 +2,7 @@ use Rattle.std.proofs.Common.{◌≡◌, ◌+◌, ◌-◌, ◌++◌, ◌∷◌, 
 use Rattle.std.specs.Prelude.{MatchOption}
 use Rattle.std.proofs.lemmas.List.{append_assoc}
 use Rattle.ffv1_splice.specs.Standings.{versions_at}
-use Rattle.ffv1_splice.specs.Splice.{IsWalkUp, IsCrossed, IsLostUpTo, Leg}
+use Rattle.ffv1_splice.specs.Splice.{IsWalkUp, IsCrossed, IsLostUpTo, Crossing}
 use Rattle.ffv1_splice.specs.declared.place.Place.{Place}
 use Rattle.ffv1_weave.proofs.References.{values_of}
 use Rattle.ffv1_splice.proofs.Crossings.{IsWalkSoFar, so_far_kept, walk_more, walk_stopped}
@@ -34,7 +34,7 @@ loop-preserved c =
     (λ place. (place.start ≡ start) × IsCrossed copies (length c.loop.payload) c.place_across.new.payload place)) c.in-Some.is c.in_ok-place.ensures.across in
     let long : length c.place_across.new.payload ≡ bound = c.in_ok-place.ensures.long ∙ same in
     let walk = c.in_ok-start-2.ensures.walk in
-    let leg : Leg = record { over = place; settled = walk.0 } in
+    let crossing : Crossing = record { over = place; settled = walk.0 } in
     let items : c.settle_up-in-loop.new.places.items ≡ c.loop.places.items ++ (place ∷ walk.0) =
     walk.1 ∙ ap (λ z. z ++ walk.0) c.in_ok-push.ensures.items ∙ append_assoc c.loop.places.items (place ∷ []) walk.0 in
     record {
@@ -42,7 +42,7 @@ loop-preserved c =
       within = c.in_ok-start-2.ensures.within;
       walk = subst (λ places. IsWalkSoFar copies bound c.settle_up-in-loop.new.payload places c.in_ok-start-2.start (c.loop.counter + 1)) (sym items)
           (walk_more copies bound c.loop.payload c.place_across.new.payload c.settle_up-in-loop.new.payload c.loop.places.items start c.loop.counter
-          leg c.in_ok-start-2.start c.loop.invariant.walk over.0 (subst (λ n. IsCrossed copies n c.place_across.new.payload place) same over.1)
+          crossing c.in_ok-start-2.start c.loop.invariant.walk over.0 (subst (λ n. IsCrossed copies n c.place_across.new.payload place) same over.1)
           c.in_ok-place.ensures.before c.in_ok-start-2.ensures.before
           (subst (λ n. IsWalkUp copies n c.settle_up-in-loop.new.payload place.end walk.0 c.in_ok-start-2.start) long walk.2));
     }

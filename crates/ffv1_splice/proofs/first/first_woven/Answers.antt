@@ -3,8 +3,8 @@ use Rattle.ffv1_slice.specs.Members.{IsOfNone}
 use Rattle.ffv1_weave.specs.Weave.{IsWeaveOf, weave_tally}
 use Rattle.ffv1_weave.specs.Weave.Weave.{woven}
 use Rattle.ffv1_weave.specs.declared.check.Check.TheVariants.{Slice}
-use Rattle.ffv1_weave.specs.declared.weaving.Outcome.{Outcome}
-use Rattle.ffv1_weave.specs.declared.weaving.Outcome.TheVariants as outcomes
+use Rattle.ffv1_weave.specs.declared.weaving.WeaveResult.{WeaveResult}
+use Rattle.ffv1_weave.specs.declared.weaving.WeaveResult.TheVariants as outcomes
 use Rattle.ffv1_weave.proofs.WeaveLaws.{same_versions_weave}
 use Rattle.ffv1_weave.proofs.References.{values_of}
 use Rattle.ffv1_splice.specs.Pieces.{HasContent, IsPiece, IsClaimedStart}
@@ -15,7 +15,7 @@ use Rattle.ffv1_splice.proofs.first.first_woven.Goals.{then-end-le-FOOTER_LENGTH
 
 -- if the weave of the versions with their size is woven, it is a weave from the front
 front_of : (copies : List (List ℕ)) (end : ℕ) → IsOfNone (IsPiece copies end) → IsOfNone (IsClaimedStart copies end) → HasContent 0 end
-    → end - 8 < 2 ^ 24 → (outcome : Outcome) (bytes : Vec ℕ Global) (count : ℕ)
+    → end - 8 < 2 ^ 24 → (outcome : WeaveResult) (bytes : Vec ℕ Global) (count : ℕ)
     → outcome ≡ outcomes.Woven bytes count → IsWeaveOf Slice (map sized (versions_at copies 0 end)) (weave_tally outcome) → IsWeaveFromFront copies end (woven bytes.items count)
 front_of copies end none no_claim content short outcome bytes count is weave =
     record {

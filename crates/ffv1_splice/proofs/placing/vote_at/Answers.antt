@@ -8,7 +8,7 @@ use Rattle.ffv1_splice.specs.Standings.{versions_at, IsWeaveAt, IsRepairAt, IsUn
 use Rattle.ffv1_splice.specs.declared.place.Standing.TheVariants.{Voted, Repaired, Missing}
 use Rattle.ffv1_weave.proofs.References.{values_of, each_value}
 use Rattle.ffv1_splice.proofs.PlaceSteps.{AllReach, claim_below, gap_size, unwoven_weave, missing_unwoven, placed_as}
-use Rattle.ffv1_splice.proofs.RepairSteps.{IsAnswer, unwoven_by, is_voted, is_unvoted, is_repaired, is_missing}
+use Rattle.ffv1_splice.proofs.RepairSteps.{IsResult, unwoven_by, is_voted, is_unvoted, is_repaired, is_missing}
 use Rattle.ffv1_splice.proofs.Versions.{version_length, one_length, vote_size, repair_size}
 use Rattle.ffv1_splice.proofs.placing.vote_at.Goals as goal
 use Rattle.ffv1_splice.proofs.placing.vote_at.Goals.{then-all_tried+in_ok-repaired+in_default-2, else-all_tried}
@@ -57,13 +57,13 @@ returns-in-Some c =
 
 -- what is repaired, and how long it is
 repaired_at : (copies versions : List (Bor (List ℕ))) (start end : ℕ) → All (λ copy. end ≤ length copy.now) copies
-    → values_of versions ≡ versions_at (values_of copies) start end → (voted found : Option (Vec ℕ Global × ℕ)) → IsAnswer (IsVoteOf (values_of versions)) voted
+    → values_of versions ≡ versions_at (values_of copies) start end → (voted found : Option (Vec ℕ Global × ℕ)) → IsResult (IsVoteOf (values_of versions)) voted
     → ((x : Vec ℕ Global × ℕ) → voted ≡ Some x → ⊥) → (count : ℕ) × IsWeaveAt (values_of copies) start end (missing count)
-    → IsAnswer (IsRepairOf (values_of versions)) found → (bytes : Vec ℕ Global) (count : ℕ) → found ≡ Some (bytes, count)
+    → IsResult (IsRepairOf (values_of versions)) found → (bytes : Vec ℕ Global) (count : ℕ) → found ≡ Some (bytes, count)
     → IsRepairAt (values_of copies) start end bytes.items count × (start + length bytes.items ≡ end)
-repaired_at copies versions start end within are voted found vote no_vote missed answer bytes count is =
+repaired_at copies versions start end within are voted found vote no_vote missed returned bytes count is =
     let unvoted = is_unvoted (values_of copies) start end (values_of versions) are voted vote no_vote in
-    let repaired = is_repaired (values_of copies) start end (values_of versions) are found missed unvoted answer bytes count is in
+    let repaired = is_repaired (values_of copies) start end (values_of versions) are found missed unvoted returned bytes count is in
     (repaired, repair_size (values_of copies) start end bytes.items count (each_value copies (λ copy. end ≤ length copy) within) repaired)
 
 pub write_at-requires-in-Some-2 : goal.write_at-requires-in-Some-2

@@ -1,10 +1,10 @@
 use Rattle.std.proofs.Common.{arith}
-use Rattle.ffv1_slice.specs.Chain.{IsCut}
+use Rattle.ffv1_slice.specs.Chain.{FooterGives}
 use Rattle.ffv1_splice.proofs.several.claimed_from.Goals as goal
 
 pub returns-else-from-start-clause-claim : goal.returns-else-from-start-clause-claim
 returns-else-from-start-clause-claim c = λ start cut content.
-    let own : IsCut c.args.copy.now c.in-Some.start c.args.end = c.in-Some.ensures.0 in
+    let own : FooterGives c.args.copy.now c.in-Some.start c.args.end = c.in-Some.ensures.0 in
     let low = c.if-from-start.false in
     omega arith
 

@@ -1,7 +1,7 @@
 use Rattle.std.proofs.Common.{◌≡◌, ℕ, List, [], ◌∷◌, ◌++◌, get_or, take, arith, sym, subst}
 use Rattle.std.specs.Prelude.{slice_range}
 use Rattle.ffv1_bits.specs.Parity.{PassesParity}
-use Rattle.ffv1_slice.specs.Chain.{IsCut}
+use Rattle.ffv1_slice.specs.Chain.{FooterGives}
 use Rattle.ffv1_splice.specs.Pieces.{HasContent, IsPiece, IsClaimedStart}
 use Rattle.ffv1_splice.specs.Inner.Tally.{Tallies, pieces_tally, starts_tally}
 use Rattle.ffv1_splice.specs.declared.tally.Pieces.{Pieces}
@@ -25,7 +25,7 @@ loop-copy-preserved c =
     (subst (λ p. Tallies (IsClaimedStart (before ++ copy ∷ []) c.args.end) (starts_tally p)) (sym is) claim) in
     elim c.match-claimed_start.branch [
       | in-Some+then-not-stays_with+then-passes w ↦
-          let cut : IsCut copy w.in-Some.start c.args.end = w.in-Some.ensures.0 in
+          let cut : FooterGives copy w.in-Some.start c.args.end = w.in-Some.ensures.0 in
           let content : HasContent w.in-Some.start c.args.end = w.in-Some.ensures.1 in
           let passes : PassesParity (slice_range copy w.in-Some.start c.args.end) = w.passes.ensures.0 w.if-passes.true in
           record {
@@ -37,7 +37,7 @@ loop-copy-preserved c =
                 w.with-starts.ensures c.loop-copy.invariant.starts);
           }
       | in-Some+else-not-stays_with w ↦
-          let cut : IsCut copy w.in-Some.start c.args.end = w.in-Some.ensures.0 in
+          let cut : FooterGives copy w.in-Some.start c.args.end = w.in-Some.ensures.0 in
           let content : HasContent w.in-Some.start c.args.end = w.in-Some.ensures.1 in
           record {
             pieces = next_pieces c.loop-copy.pieces w.pieces-is
@@ -55,7 +55,7 @@ loop-copy-preserved c =
                 w.with-starts.ensures c.loop-copy.invariant.starts);
           }
       | in_default w ↦
-          let none : (start : ℕ) → IsCut copy start c.args.end → HasContent start c.args.end → ⊥ = w.in_default.ensures in
+          let none : (start : ℕ) → FooterGives copy start c.args.end → HasContent start c.args.end → ⊥ = w.in_default.ensures in
           record {
             pieces = next_pieces c.loop-copy.pieces w.pieces-is
                 (pieces-uncut before copy c.args.end (pieces_tally c.loop-copy.pieces) none c.loop-copy.invariant.pieces);

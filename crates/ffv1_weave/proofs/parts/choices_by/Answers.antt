@@ -9,9 +9,9 @@ pub returns-in-Pairs : goal.returns-in-Pairs
 returns-in-Pairs c =
     let versions : List (List ℕ) = values_of c.args.versions.now in
     IfOk-weaker c.choices_between.result (λ choices. AreChoices versions c.args.start c.args.end (values_of choices.items))
-    (λ choices. AreChoicesBy c.args.grain versions c.args.start c.args.end (values_of choices.items)) (λ choices are. elim c.in-Pairs.is [
-      | inl pairs ↦ subst (λ grain. AreChoicesBy grain versions c.args.start c.args.end (values_of choices.items)) (sym pairs.1)
+    (λ choices. AreChoicesBy c.args.split versions c.args.start c.args.end (values_of choices.items)) (λ choices are. elim c.in-Pairs.is [
+      | inl pairs ↦ subst (λ split. AreChoicesBy split versions c.args.start c.args.end (values_of choices.items)) (sym pairs.1)
           (choices_of_pairs versions c.args.start c.args.end (values_of choices.items) are pairs.0)
-      | inr regions ↦ subst (λ grain. AreChoicesBy grain versions c.args.start c.args.end (values_of choices.items)) (sym regions)
+      | inr regions ↦ subst (λ split. AreChoicesBy split versions c.args.start c.args.end (values_of choices.items)) (sym regions)
           (choices_of_regions versions c.args.start c.args.end (values_of choices.items) are)
     ]) c.choices_between.ensures

@@ -1,63 +1,63 @@
 use Rattle.std.proofs.Common.{◌<◌, ◌+◌, ℕ, List, [], length, get_or, arith, sym, subst, inl, inr}
 use Rattle.std.proofs.lemmas.List.{get_or_default}
 use Rattle.ffv1_weave.specs.Inner.Found.{IsFoundAmong}
-use Rattle.ffv1_weave.specs.Grains.{votes}
+use Rattle.ffv1_weave.specs.Splits.{votes}
 use Rattle.ffv1_weave.specs.declared.check.Check.TheVariants.{Slice}
-use Rattle.ffv1_weave.specs.declared.grains.Grain.{Grain}
-use Rattle.ffv1_weave.specs.declared.grains.Grain.TheVariants.{Pairs, Regions}
+use Rattle.ffv1_weave.specs.declared.splits.Split.{Split}
+use Rattle.ffv1_weave.specs.declared.splits.Split.TheVariants.{Pairs, Regions}
 use Rattle.ffv1_weave.proofs.References.{values_of, nowhere, value_at, length-values_of}
 use Rattle.ffv1_weave.proofs.WeaveSteps.{have_few_parts}
 use Rattle.ffv1_weave.proofs.VoteSteps.{ArePartsBy, AreTriedBefore, none_before, many_more, few_more, three_of_distinct, one_voted, none_voted, two_voted}
 use Rattle.ffv1_weave.proofs.voting.vote_distinct.Goals.{in-Some+in_ok-found, in_default}
 use Rattle.ffv1_weave.proofs.voting.vote_distinct.Goals as goal
 
-pub loop-grain-init : goal.loop-grain-init
-loop-grain-init c = none_before (values_of c.args.versions.now)
+pub loop-split-init : goal.loop-split-init
+loop-split-init c = none_before (values_of c.args.versions.now)
 
-pub loop-grain-preserved : goal.loop-grain-preserved
-loop-grain-preserved c =
+pub loop-split-preserved : goal.loop-split-preserved
+loop-split-preserved c =
     let versions : List (List ℕ) = values_of c.args.versions.now in
-    let place : ℕ = c.loop-grain.grain-index in
-    let there : place < length votes = c.loop-grain-test.true in
-    let grain : Grain = get_or votes place Regions in
-    let tallied : ArePartsBy grain versions (length (get_or versions 0 [])) c.in_ok-tried.field-0 =
-    subst (λ first. ArePartsBy grain versions (length first) c.in_ok-tried.field-0)
+    let place : ℕ = c.loop-split.split-index in
+    let there : place < length votes = c.loop-split-test.true in
+    let split : Split = get_or votes place Regions in
+    let tallied : ArePartsBy split versions (length (get_or versions 0 [])) c.in_ok-tried.field-0 =
+    subst (λ first. ArePartsBy split versions (length first) c.in_ok-tried.field-0)
     (sym (value_at c.args.versions.now 0 nowhere [] (omega (arith, c.requires.three))))
     (subst (λ asked. ArePartsBy asked versions (length (get_or c.args.versions.now 0 nowhere).now) c.in_ok-tried.field-0)
     (get_or_default votes place (Pairs 0) Regions there) c.in_ok-tried.ensures) in
     elim c.match-branch-2.branch [
       | in-Some+in_ok-found w ↦
           let have = have_few_parts c.args.versions.now (omega (arith, c.requires.three)) c.requires.lengths
-          (subst (ArePartsBy grain versions (length (get_or versions 0 []))) w.in-Some.is tallied) in
+          (subst (ArePartsBy split versions (length (get_or versions 0 []))) w.in-Some.is tallied) in
           subst (AreTriedBefore versions (place + 1) c.match-branch-2.found) (sym w.count-is)
-          (subst (λ what. AreTriedBefore versions (place + 1) what (c.loop-grain.count + w.in-Some.tried.count)) (sym w.found-is)
-          (few_more versions place c.loop-grain.found c.loop-grain.count c.loop-grain.invariant w.in-Some.tried.parts.items w.in-Some.tried.count have
+          (subst (λ what. AreTriedBefore versions (place + 1) what (c.loop-split.count + w.in-Some.tried.count)) (sym w.found-is)
+          (few_more versions place c.loop-split.found c.loop-split.count c.loop-split.invariant w.in-Some.tried.parts.items w.in-Some.tried.count have
           w.in_ok-found.found w.in_ok-found.ensures))
       | in_default w ↦
           subst (AreTriedBefore versions (place + 1) c.match-branch-2.found) (sym w.count-is)
-          (subst (λ what. AreTriedBefore versions (place + 1) what c.loop-grain.count) (sym w.found-is)
-          (many_more versions place c.loop-grain.found c.loop-grain.count c.loop-grain.invariant
-          (subst (ArePartsBy grain versions (length (get_or versions 0 []))) w.in_default.is tallied)))
+          (subst (λ what. AreTriedBefore versions (place + 1) what c.loop-split.count) (sym w.found-is)
+          (many_more versions place c.loop-split.found c.loop-split.count c.loop-split.invariant
+          (subst (ArePartsBy split versions (length (get_or versions 0 []))) w.in_default.is tallied)))
     ]
 
 pub returns-in-One : goal.returns-in-One
 returns-in-One c =
     let versions : List (List ℕ) = values_of c.args.versions.now in
-    let place : ℕ = c.loop-grain.grain-index in
-    let so_far : AreTriedBefore versions place c.loop-grain.found c.loop-grain.count = c.loop-grain.invariant in
+    let place : ℕ = c.loop-split.split-index in
+    let so_far : AreTriedBefore versions place c.loop-split.found c.loop-split.count = c.loop-split.invariant in
     one_voted versions (three_of_distinct versions (omega (arith, c.requires.three, length-values_of c.args.versions.now)) c.requires.distinct)
-    place (omega arith) c.loop-grain.found c.loop-grain.count so_far c.in-One.voted.items
+    place (omega arith) c.loop-split.found c.loop-split.count so_far c.in-One.voted.items
     (subst (IsFoundAmong Slice so_far.strings) c.in-One.is so_far.found)
 
 pub returns-in-Nothing : goal.returns-in-Nothing
 returns-in-Nothing c =
     let versions : List (List ℕ) = values_of c.args.versions.now in
-    let place : ℕ = c.loop-grain.grain-index in
-    let so_far : AreTriedBefore versions place c.loop-grain.found c.loop-grain.count = c.loop-grain.invariant in
+    let place : ℕ = c.loop-split.split-index in
+    let so_far : AreTriedBefore versions place c.loop-split.found c.loop-split.count = c.loop-split.invariant in
     let three = three_of_distinct versions (omega (arith, c.requires.three, length-values_of c.args.versions.now)) c.requires.distinct in
     elim c.in-Nothing.is [
-      | inl nothing ↦ none_voted versions three place (omega arith) c.loop-grain.found c.loop-grain.count so_far
+      | inl nothing ↦ none_voted versions three place (omega arith) c.loop-split.found c.loop-split.count so_far
           (subst (IsFoundAmong Slice so_far.strings) nothing so_far.found)
-      | inr several ↦ two_voted versions three place (omega arith) c.loop-grain.found c.loop-grain.count so_far
+      | inr several ↦ two_voted versions three place (omega arith) c.loop-split.found c.loop-split.count so_far
           (subst (IsFoundAmong Slice so_far.strings) several so_far.found)
     ]

@@ -1,6 +1,6 @@
 use Rattle.std.proofs.Common.{◌≡◌}
 use Rattle.std.specs.List.{flat_map, range_with_len}
-use Rattle.ffv1_holding.specs.Standing.{settled_bytes, tile_state}
+use Rattle.ffv1_holding.specs.TileState.{settled_bytes, tile_state}
 use Rattle.ffv1_holding.proofs.holding.Holding.joined_slices.Given as goal
 
 -- the settled slices of the tiles passed so far

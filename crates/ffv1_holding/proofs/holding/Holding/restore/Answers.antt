@@ -1,7 +1,7 @@
 use Rattle.std.proofs.Common.{◌∙◌, Result, Ok, Err, IfOk, rules}
 use Rattle.std.proofs.Common.{sym, ap}
-use Rattle.ffv1_holding.specs.Standing.{missing, disputed}
-use Rattle.ffv1_holding.specs.TileStates.{standing_shown}
+use Rattle.ffv1_holding.specs.TileState.{missing, disputed}
+use Rattle.ffv1_holding.specs.TileStates.{state_shown}
 use Rattle.ffv1_holding.proofs.TileReads.{in_grid}
 use Rattle.ffv1_holding.proofs.Restored.{restored_original, never_unsettled}
 use Rattle.ffv1_holding.proofs.ExactlyHeld.{near_exact}
@@ -20,13 +20,13 @@ pub returns-in-Missing-clause-original_settled : goal.returns-in-Missing-clause-
 returns-in-Missing-clause-original_settled c payload slices original exact =
     absurd (never_unsettled c.args.self.now slices exact payload original c.loop-tile.tile
     (in_grid c.self.inside c.self.invariant c.args.self.now c.self.view_is c.loop-tile.tile _ c.loop-tile-test.true c.tiles-tile-end.ensures) missing
-    (ap standing_shown (sym c.in-Missing.is) ∙ c.state.ensures) (λ b e. cc))
+    (ap state_shown (sym c.in-Missing.is) ∙ c.state.ensures) (λ b e. cc))
 
 pub returns-in-Disputed-clause-original_settled : goal.returns-in-Disputed-clause-original_settled
 returns-in-Disputed-clause-original_settled c payload slices original exact =
     absurd (never_unsettled c.args.self.now slices exact payload original c.loop-tile.tile
     (in_grid c.self.inside c.self.invariant c.args.self.now c.self.view_is c.loop-tile.tile _ c.loop-tile-test.true c.tiles-tile-end.ensures)
-    (disputed c.in-Disputed.field-0) (ap standing_shown (sym c.in-Disputed.is) ∙ c.state.ensures) (λ b e. cc))
+    (disputed c.in-Disputed.field-0) (ap state_shown (sym c.in-Disputed.is) ∙ c.state.ensures) (λ b e. cc))
 
 pub returns-clause-near : goal.returns-clause-near
 returns-clause-near c payload slices copies near is =

@@ -1,5 +1,5 @@
 use Rattle.std.proofs.Common.{ℕ, ◌<◌}
-use Rattle.ffv1_holding.specs.Standing.{IsSettled, tile_state}
+use Rattle.ffv1_holding.specs.TileState.{IsSettled, tile_state}
 use Rattle.ffv1_holding.proofs.holding.Holding.restore.Given as goal
 
 -- the tiles passed so far are settled

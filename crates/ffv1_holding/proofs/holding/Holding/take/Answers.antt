@@ -90,7 +90,7 @@ invariant_of-self-2 c =
     let found = found_slices c.setup.result.now copy in
     let slices = slices_in c.setup.result.now copy in
     kept-grown c.self.inside c.insert_copy.new.self slices (origins_in c.setup.result.now copy) (grown_last c) c.self.invariant
-    (subst (λ (s : SetupValue). AreEntriesOf s slices) c.setup.ensures.value c.in_ok-links.ensures.sound)
+    (subst (λ (s : SetupValue). AreEntriesOf s slices) c.setup.ensures.value c.in_ok-links.ensures.well_formed)
     (held_marked (sha256 copy) found) (whole_marked (sha256 copy) found (length-sha256 copy))
 
 pub returns-clause-new : goal.returns-clause-new

@@ -4,16 +4,16 @@ use Rattle.ffv1_range.specs.Setup.{IsSetupOf}
 use Rattle.ffv1_holding.proofs.Reels.{own_size}
 use Rattle.ffv1_holding.proofs.reel.Reel.read.Goals as goal
 
-sound : (c : goal.In_ok-setup) → IsSetupOf c.args.config.items c.in_ok-setup.setup.width c.in_ok-setup.setup.height c.in_ok-setup.setup
-sound c =
+well_formed : (c : goal.In_ok-setup) → IsSetupOf c.args.config.items c.in_ok-setup.setup.width c.in_ok-setup.setup.height c.in_ok-setup.setup
+well_formed c =
     subst (λ (config : List ℕ). IsSetupOf config c.in_ok-setup.setup.width c.in_ok-setup.setup.height c.in_ok-setup.setup) c.deref.ensures.value
     (own_size c.deref.result.now c.args.width c.args.height c.in_ok-setup.setup c.in_ok-setup.ensures.found)
 
 pub invariant_of-result : goal.invariant_of-result
-invariant_of-result c = sound c
+invariant_of-result c = well_formed c
 
-pub returns-clause-sound : goal.returns-clause-sound
-returns-clause-sound c = sound c
+pub returns-clause-well_formed : goal.returns-clause-well_formed
+returns-clause-well_formed c = well_formed c
 
 pub returns-in_err-setup-clause-only : goal.returns-in_err-setup-clause-only
 returns-in_err-setup-clause-only c =

@@ -1,7 +1,7 @@
 use Rattle.std.proofs.Common.{◌<◌, length, arith, ap, ◌∙◌}
 use Rattle.std.proofs.lemmas.List.{get_or_default}
 use Rattle.ffv1_holding.specs.Sets as set
-use Rattle.ffv1_holding.specs.Standing.{status_of}
+use Rattle.ffv1_holding.specs.TileState.{status_of}
 use Rattle.ffv1_holding.proofs.RisingSets.{size-items}
 use Rattle.ffv1_holding.proofs.shelf.Shelf.status.Goals as goal
 

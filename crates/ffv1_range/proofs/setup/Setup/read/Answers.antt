@@ -5,7 +5,7 @@ use Rattle.ffv1_range.specs.Inner.Views.{contexts_of, front_value}
 use Rattle.ffv1_range.specs.declared.fault.SetupFault.TheVariants.{Range, Size}
 use Rattle.ffv1_range.proofs.TableSteps.{fresh_row-states}
 use Rattle.ffv1_range.proofs.SetupSteps.{not_checked, width_refused, height_refused, start_refused, front_fails, memory_refused, sets_fail, deltas_fail, last_fails, all_read, contexts_of-values}
-use Rattle.ffv1_range.proofs.SetupLaws.{answered, refused_by, read_in_profile, refused_in, read_in}
+use Rattle.ffv1_range.proofs.SetupLaws.{returned, refused_by, read_in_profile, refused_in, read_in}
 use Rattle.ffv1_range.proofs.setup.Setup.read.Goals as goal
 use Rattle.ffv1_range.proofs.setup.Setup.read.Goals.{then-not-is_size-via-then-not-is_size, then-not-is_size-via-else-not-is_size+then-not-is_size-2}
 
@@ -90,5 +90,5 @@ returns c =
     let read = all_read _ _ (front_value c.in_ok-front.front) (set_values c.read_sets.new.sets.items) _ _ _ _ _ _ _ _ _ _ _
     (ap contexts_of c.deref.ensures.value ∙ contexts_of-values c.read_sets.new.sets.items)
     c.in_ok-front.ensures.read c.in_ok-read_sets.ensures.read c.in_ok-read_deltas.ensures.read c.in_ok-intra.ensures.read in
-    answered c.args.config.now c.args.width c.args.height _
+    returned c.args.config.now c.args.width c.args.height _
     (read_in _ _ _ _ _ c.in_ok-content.ensures c.if-not-is_size.ensures c.if-not-is_size-2.ensures c.in_ok-decoder.ensures _ _ read.1)

@@ -1,6 +1,6 @@
 use Rattle.std.proofs.Common.{◌≤◌, length, ◌∷◌, arith, sym, ap, ◌∙◌, subst}
 use Rattle.std.specs.Iterator.{YieldsFirst}
-use Rattle.ffv1_slice.specs.Chain.{IsCut, LinkValue}
+use Rattle.ffv1_slice.specs.Chain.{FooterGives, LinkValue}
 use Rattle.ffv1_slice.specs.Chain.IsEnd.{before}
 use Rattle.ffv1_slice.specs.Walk.{Walk, walked}
 use Rattle.ffv1_slice.proofs.Links.{turn_none, turn_some, turn_fewer}
@@ -13,7 +13,7 @@ returns-in_err-start-clause-steps c =
 
 pub invariant_of-self : goal.invariant_of-self
 invariant_of-self c =
-    let cut : IsCut c.self.inside.payload.now c.in_ok-start.start c.self.inside.place = c.in_ok-start.ensures.cut in
+    let cut : FooterGives c.self.inside.payload.now c.in_ok-start.start c.self.inside.place = c.in_ok-start.ensures.cut in
     let within : c.self.inside.place ≤ length c.self.inside.payload.now = c.self.invariant.1 in
     (before c.self.invariant.0 cut, omega arith)
 

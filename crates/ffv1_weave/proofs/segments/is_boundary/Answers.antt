@@ -1,8 +1,8 @@
 use Rattle.std.proofs.Common.{[], ◌∙◌, arith, below_more, subst, sym}
 use Rattle.std.proofs.lemmas.List.{get_or_default}
-use Rattle.ffv1_weave.specs.Seams.{AreParted}
+use Rattle.ffv1_weave.specs.Boundaries.{AreParted}
 use Rattle.ffv1_weave.proofs.References.{values_of, value_at, length-values_of, nowhere}
-use Rattle.ffv1_weave.proofs.segments.is_seam.Goals as goal
+use Rattle.ffv1_weave.proofs.segments.is_boundary.Goals as goal
 
 pub loop-one-preserved : goal.loop-one-preserved
 loop-one-preserved c =
@@ -13,10 +13,10 @@ loop-one-preserved c =
 pub returns : goal.returns
 returns c = (
   λ no. absurd (cc),
-  λ seam.
-      let there = seam.one_there in
+  λ boundary.
+      let there = boundary.one_there in
       let few = length-values_of c.args.versions.now in
-      absurd (c.loop-one.invariant there.0 (omega arith) seam.other seam.other_there
-      (subst (λ one. AreParted c.args.distance one seam.other c.args.place)
-      (sym (get_or_default (values_of c.args.versions.now) there.0 [] seam.one there.1 ∙ there.2)) seam.parted)),
+      absurd (c.loop-one.invariant there.0 (omega arith) boundary.other boundary.other_there
+      (subst (λ one. AreParted c.args.distance one boundary.other c.args.place)
+      (sym (get_or_default (values_of c.args.versions.now) there.0 [] boundary.one there.1 ∙ there.2)) boundary.parted)),
 )

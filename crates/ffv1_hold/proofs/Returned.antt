@@ -9,7 +9,7 @@ use Rattle.ffv1_hold.specs.declared.version.Version.{Version}
 use Rattle.ffv1_holding.specs.Contents.{Contents, IsHolding}
 use Rattle.ffv1_hold.specs.HoldingText.{file_text, head_text, entries_text, file_entries, IsStated, FitsInFile}
 use Rattle.ffv1_hold.specs.Reading.{Refuses, StopsIn}
-use Rattle.ffv1_hold.specs.FileFaults.{IsPartOfFile, FileIsWhole, FileShows, ReadsFile, IsOutside, Answers}
+use Rattle.ffv1_hold.specs.FileFaults.{IsPartOfFile, FileIsWhole, FileShows, ReadsFile, IsOutside, Returns}
 use Rattle.ffv1_hold.proofs.TextLaws.{one_file, same_head, same_entries, fitting_items, text_parts}
 use Rattle.ffv1_hold.proofs.FaultLaws.{text_none, text_whole}
 
@@ -72,11 +72,11 @@ module _ (v : Version) (h : Contents) (is : IsHolding h) (fits : FitsInFile v h)
   refused_outside faults.Order new r = shows_none faults.Order new r
   refused_outside faults.NotASlice new r = shows_none faults.NotASlice new r
 
-  pub answered : (old new : ReadLog) (r : Result Contents HoldFileFault) → old.remaining ≡ Some (file_text v h) → ReadsFile r old new → Answers h r
-  answered old new (Ok g) known read =
+  pub returned : (old new : ReadLog) (r : Result Contents HoldFileFault) → old.remaining ≡ Some (file_text v h) → ReadsFile r old new → Returns h r
+  returned old new (Ok g) known read =
       let file = read.file in
       let whole = taken_all (file_text v h) (file_text file.version g) new.remaining
       (subst (λ (o : Option (List ℕ)). Consumes o new.remaining (file_text file.version g)) known file.taken) read.at_end in
-      one_file file.version v g h read.sound is file.fits.record' fits.record' file.fits.stated fits.stated (sym whole)
-  answered old new (Err f) known stops = refused_outside f new.remaining
+      one_file file.version v g h read.well_formed is file.fits.record' fits.record' file.fits.stated fits.stated (sym whole)
+  returned old new (Err f) known stops = refused_outside f new.remaining
       (subst (λ (o : Option (List ℕ)). Refuses IsPartOfFile FileIsWhole FileShows o new.remaining 0 f) known stops.fault)

@@ -1,7 +1,7 @@
 use Rattle.std.proofs.Common.{[], List, ℕ, ◌<◌, map, get_or}
 use Rattle.std.specs.Prelude.{Contains}
-use Rattle.ffv1_weave.specs.Seams.{AreParted}
-use Rattle.ffv1_weave.proofs.segments.is_seam.Given as goal
+use Rattle.ffv1_weave.specs.Boundaries.{AreParted}
+use Rattle.ffv1_weave.proofs.segments.is_boundary.Given as goal
 
 -- none of the versions so far is parted from any
 abbrev pub invariant-loop-one : goal.invariant-loop-one

@@ -13,15 +13,15 @@ use Rattle.ffv1_hold.specs.HoldingText.{FileEntry, head_text, entry_text, body_t
 use Rattle.ffv1_hold.specs.FileEntries.{IsFileEntryOf}
 use Rattle.ffv1_hold.specs.Inner.FileEntries.{next_text}
 use Rattle.ffv1_hold.specs.FileFaults.{IsFileReel}
-use Rattle.ffv1_hold.specs.Leads.{LiesWhole, AreAllDigests, IsLeadOf}
-use Rattle.ffv1_hold.specs.MergedStreams.{IsFileOf, IsFileOfSome, StaysInLead}
+use Rattle.ffv1_hold.specs.ReadLimits.{LiesWhole, AreAllDigests, IsReadLimitOf}
+use Rattle.ffv1_hold.specs.MergedStreams.{IsFileOf, IsFileOfSome, StaysInReadLimit}
 use Rattle.ffv1_hold.specs.Inner.Merging.{Facts, part, ReadsToNext}
 use Rattle.ffv1_holding.proofs.RisingSets.{contains_item}
 use Rattle.ffv1_hold.proofs.NumberTexts.{no_tag, rest_same}
 use Rattle.ffv1_hold.proofs.BodyTexts.{same_body}
 use Rattle.ffv1_hold.proofs.TextLaws.{entries_after, none_after, AreFitting, fitting_all, fitting_items, same_head, text_parts}
 use Rattle.ffv1_hold.proofs.Slots.{entries_text-split, entries_text-cons, entries_text-none}
-use Rattle.ffv1_hold.proofs.Answered.{taken_front}
+use Rattle.ffv1_hold.proofs.Returned.{taken_front}
 use Rattle.ffv1_hold.proofs.TileTexts.{own}
 use Rattle.ffv1_hold.proofs.MergeFacts.{IsWithin, entry_split}
 
@@ -97,7 +97,7 @@ module _ (r : Reel) (f g : Facts) (is : IsHolding (part r g)) (stated : IsStated
       each [] held = tt
       each (x ∷ xs) held = (lies_whole x (held 0 x (omega arith)), each xs (λ i d lt. held (suc i) d (omega arith)))
 
--- ---- the lead
+-- ---- the read_limit
 
 module _ (v : Version) where
   text-cons : (e : FileEntry) (es : List FileEntry) → length (entries_text v (e ∷ es)) ≡ length (entry_text v e) + length (entries_text v es)
@@ -143,7 +143,7 @@ pub record RestOf (v w : Version) (h : Contents) (r : Reel) (f : Facts) (more : 
   pub front : file_text v h ≡ (begun_text w (part r f) ++ more) ++ bytes
 
 module _ (v w : Version) (h : Contents) (r : Reel) (is : IsFileReel r) (old new : Option (List ℕ)) (file : IsFileOf old v h) (f : Facts) (more : List ℕ)
-    (sound : IsHolding (part r f)) (stated : IsStated w (part r f)) (taken : Consumes old new (begun_text w (part r f) ++ more)) where
+    (well_formed : IsHolding (part r f)) (stated : IsStated w (part r f)) (taken : Consumes old new (begun_text w (part r f) ++ more)) where
   abbrev some : Contents
   some = part r f
 
@@ -152,15 +152,15 @@ module _ (v w : Version) (h : Contents) (r : Reel) (is : IsFileReel r) (old new 
       (subst (λ (o : Option (List ℕ)). Consumes o new (begun_text w some ++ more)) file.text taken)
 
   heads : (v ≡ w) × (h.reel ≡ r) × (entries_text v (file_entries h) ++ 0 ∷ [] ≡ entries_text w (file_entries some) ++ (more ++ front.0))
-  heads = same_head v w h.reel r _ _ (record { reel = file.sound.reel; fits = file.fits.record' }) is
+  heads = same_head v w h.reel r _ _ (record { reel = file.well_formed.reel; fits = file.fits.record' }) is
       (sym (text_parts v h) ∙ front.1 ∙ append_assoc (begun_text w some) more front.0
       ∙ append_assoc (head_text w r) (entries_text w (file_entries some)) (more ++ front.0))
 
   all_fit : AreFitting w (file_entries h)
-  all_fit = subst (λ (u : Version). AreFitting u (file_entries h)) heads.0 (fitting_items v h file.sound file.fits.stated)
+  all_fit = subst (λ (u : Version). AreFitting u (file_entries h)) heads.0 (fitting_items v h file.well_formed file.fits.stated)
 
   apart : (rest : List FileEntry) × (file_entries h ≡ file_entries some ++ rest) × (entries_text w rest ++ 0 ∷ [] ≡ more ++ front.0)
-  apart = front_entries w (file_entries h) (file_entries some) [] (more ++ front.0) all_fit (fitting_items w some sound stated)
+  apart = front_entries w (file_entries h) (file_entries some) [] (more ++ front.0) all_fit (fitting_items w some well_formed stated)
       (ap (λ (u : Version). entries_text u (file_entries h) ++ 0 ∷ []) (sym heads.0) ∙ heads.2)
 
   pub rest_entries : RestOf v w h r f more
@@ -175,14 +175,14 @@ module _ (v w : Version) (h : Contents) (r : Reel) (is : IsFileReel r) (old new 
     front = front.1;
   }
 
--- The text of a holding was read no further than its lead.
+-- The text of a holding was read no further than its read_limit.
 module _ (v w : Version) (h : Contents) (other : Option Contents) (r : Reel) (is : IsFileReel r) (old new beside a b : Option (List ℕ)) (done : List ℕ)
     (file : IsFileOf old v h) (also : IsFileOfSome beside other) (s : ReadsToNext w r old new beside done) where
   abbrev read : Contents
   read = part r s.facts
 
   left : RestOf v w h r s.facts s.more
-  left = rest_entries v w h r is old new file s.facts s.more s.sound s.stated s.taken
+  left = rest_entries v w h r is old new file s.facts s.more s.well_formed s.stated s.taken
 
   abbrev AreWhole : List FileEntry → Type 0
   AreWhole = AllByRecursion (LiesWhole (AreAllDigests h other) h.reel done)
@@ -191,9 +191,9 @@ module _ (v w : Version) (h : Contents) (other : Option Contents) (r : Reel) (is
   all_whole = subst (λ (q : Reel). AllByRecursion (LiesWhole (AreAllDigests h other) q done) (file_entries read)) (sym left.same_reel)
       (s.whole v h other file also)
 
-  within : (lead : ℕ) → IsLeadOf v h other done lead → length (begun_text w read ++ s.more) ≤ lead
-  within lead (inr (whole, is_lead)) = omega (arith, is_lead, ap length left.front, length-append (begun_text w read ++ s.more) left.bytes)
-  within lead (inl o) =
+  within : (read_limit : ℕ) → IsReadLimitOf v h other done read_limit → length (begun_text w read ++ s.more) ≤ read_limit
+  within read_limit (inr (whole, is_read_limit)) = omega (arith, is_read_limit, ap length left.front, length-append (begun_text w read ++ s.more) left.bytes)
+  within read_limit (inl o) =
       let es = entries_text w (file_entries read) in
       let split = after_all (LiesWhole (AreAllDigests h other) h.reel done) (file_entries read) left.rest o.before o.first o.after
       (sym left.split ∙ o.split) all_whole o.not_whole in
@@ -216,5 +216,5 @@ module _ (v w : Version) (h : Contents) (other : Option Contents) (r : Reel) (is
         length-append (head_text w r) es,
       )
 
-  pub stays_in_lead : Appends a b done → StaysInLead v h other old new a b
-  stays_in_lead written = record { done = done; written = written; seen = begun_text w read ++ s.more; taken = s.taken; within = within }
+  pub stays_in_read_limit : Appends a b done → StaysInReadLimit v h other old new a b
+  stays_in_read_limit written = record { done = done; written = written; seen = begun_text w read ++ s.more; taken = s.taken; within = within }

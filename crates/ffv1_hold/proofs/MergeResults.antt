@@ -14,17 +14,17 @@ use Rattle.ffv1_hold.specs.HoldingText.{be4, magic, sized_record, head_text, ent
 use Rattle.ffv1_hold.specs.Reading.{Refuses, StopsIn}
 use Rattle.ffv1_hold.specs.FileFaults.{IsFileReel, IsPartOfReel, IsOutside}
 use Rattle.ffv1_hold.specs.Inner.FileFaults.{IsPartOfHead, HeadIsWhole, HeadShows}
-use Rattle.ffv1_hold.specs.MergedStreams.{Inputs, IsFileOf, IsFileOfSome, StreamBegins, BeginsWithHead, InputRefuses, ShowsNoFault, BothRefuse, MergeRefuses, EntriesPass, UnionPasses, ReadsPart, ReadsAll, ReadsOtherHeads, WritesUnion, AnswersUnion, AnswersOther, WritesAtMost, WritesNoEnd, StaysInLead}
+use Rattle.ffv1_hold.specs.MergedStreams.{Inputs, IsFileOf, IsFileOfSome, StreamBegins, BeginsWithHead, InputRefuses, ShowsNoFault, BothRefuse, MergeRefuses, EntriesPass, UnionPasses, ReadsPart, ReadsAll, ReadsOtherHeads, WritesUnion, ReturnsUnion, ReturnsOther, WritesAtMost, WritesNoEnd, StaysInReadLimit}
 use Rattle.ffv1_hold.specs.Inner.Merging.{Facts, both, HeadsRefuse, StopsAtWrite, Stops, MergeIsRefused, part}
 use Rattle.ffv1_hold.proofs.Bodies.{length-be4}
 use Rattle.ffv1_hold.proofs.TextLaws.{same_head, head_parts, after_magic, text_parts, one_file, fitting_items}
 use Rattle.ffv1_hold.proofs.HeldEntries.{holding-joined}
 use Rattle.ffv1_hold.proofs.FaultLaws.{magic_none, reel_none, sized_cut}
-use Rattle.ffv1_hold.proofs.Answered.{taken_front, taken_all, refused_outside}
+use Rattle.ffv1_hold.proofs.Returned.{taken_front, taken_all, refused_outside}
 use Rattle.ffv1_hold.proofs.Heads.{head_is_part, head_file}
 use Rattle.ffv1_hold.proofs.MergeFacts.{IsWithin, within-left, within-right, within-both, within-trans, shorter}
 use Rattle.ffv1_hold.proofs.MergeFronts.{front_within}
-use Rattle.ffv1_hold.proofs.MergeLeads.{front_entries, stays_in_lead}
+use Rattle.ffv1_hold.proofs.MergeReadLimits.{front_entries, stays_in_read_limit}
 use Rattle.ffv1_hold.proofs.MergeSteps.{whole_begins, head_begins}
 
 -- ---- a head that is there is not refused
@@ -107,7 +107,7 @@ module _ (i : Inputs) (w v : Option (List ℕ)) (g h : Reel) (left : BeginsWithH
       absurd (other (sym (one_head _ s.left_version s.reel g s.is s.left_head left) ∙ one_head _ s.right_version s.reel h s.is s.right_head right))
 
   file_reel : (old new : Option (List ℕ)) (x : Contents) → ReadsAll old new x → IsFileReel x.reel
-  file_reel old new x a = record { reel = a.sound.reel; fits = a.file.fits.record' }
+  file_reel old new x a = record { reel = a.well_formed.reel; fits = a.file.fits.record' }
 
   other_written : WritesUnion i w v → ⊥
   other_written u =
@@ -115,9 +115,9 @@ module _ (i : Inputs) (w v : Option (List ℕ)) (g h : Reel) (left : BeginsWithH
       let two = one_head _ _ u.right.reel h (file_reel _ _ u.right u.read.right_read) (head_begins _ _ _ u.right (0 ∷ []) u.read.right_read.file.taken) right in
       other (sym one ∙ u.read.same ∙ two)
 
-  pub answers_other : (r : Result (Unit {0}) HoldFileFault) → OnOk r (WritesUnion i w v) → IfErr r (MergeIsRefused i w v) → AnswersOther r
-  answers_other (Ok x) ok err = other_written ok
-  answers_other (Err f) ok err = other_refused f err
+  pub returns_other : (r : Result (Unit {0}) HoldFileFault) → OnOk r (WritesUnion i w v) → IfErr r (MergeIsRefused i w v) → ReturnsOther r
+  returns_other (Ok x) ok err = other_written ok
+  returns_other (Err f) ok err = other_refused f err
 
 -- ---- texts of one reel
 
@@ -133,24 +133,24 @@ part_of_text old new v h q file p =
     let es = entries_text w (file_entries q) in
     let front = taken_front (file_text v h) (begun_text w q ++ p.more) new
     (subst (λ (o : Option (List ℕ)). Consumes o new (begun_text w q ++ p.more)) file.text p.taken) in
-    let heads = same_head v w h.reel q.reel _ _ (record { reel = file.sound.reel; fits = file.fits.record' }) (record { reel = p.sound.reel; fits = p.record' })
+    let heads = same_head v w h.reel q.reel _ _ (record { reel = file.well_formed.reel; fits = file.fits.record' }) (record { reel = p.well_formed.reel; fits = p.record' })
     (sym (text_parts v h) ∙ front.1 ∙ append_assoc (begun_text w q) p.more front.0 ∙ append_assoc (head_text w q.reel) es (p.more ++ front.0)) in
     let version = heads.0 in
     let more = front_entries w (file_entries h) (file_entries q) [] (p.more ++ front.0)
-    (fitting_items w h file.sound (subst (λ (u : Version). IsStated u h) version file.fits.stated)) (fitting_items w q p.sound p.stated)
+    (fitting_items w h file.well_formed (subst (λ (u : Version). IsStated u h) version file.fits.stated)) (fitting_items w q p.well_formed p.stated)
     (ap (λ (u : Version). entries_text u (file_entries h) ++ 0 ∷ []) (sym version) ∙ heads.2) in
-    (sym heads.1, front_within q h p.sound more.0 more.1)
+    (sym heads.1, front_within q h p.well_formed more.0 more.1)
 
 whole_is : (old new : Option (List ℕ)) (v : Version) (h q : Contents) → IsFileOf old v h → ReadsAll old new q → q ≡ h
 whole_is old new v h q file a =
     let w = a.file.version in
     let all = taken_all (file_text v h) (file_text w q) new
     (subst (λ (o : Option (List ℕ)). Consumes o new (file_text w q)) file.text a.file.taken) a.at_end in
-    one_file w v q h a.sound file.sound a.file.fits.record' file.fits.record' a.file.fits.stated file.fits.stated (sym all)
+    one_file w v q h a.well_formed file.well_formed a.file.fits.record' file.fits.record' a.file.fits.stated file.fits.stated (sym all)
 
 file_refused : (old new : Option (List ℕ)) (v : Version) (h : Contents) (f : HoldFileFault) → IsFileOf old v h → InputRefuses old new f → IsOutside f
 file_refused old new v h f file refused =
-    refused_outside v h file.sound file.fits f new (subst (λ (o : Option (List ℕ)). InputRefuses o new f) file.text refused)
+    refused_outside v h file.well_formed file.fits f new (subst (λ (o : Option (List ℕ)). InputRefuses o new f) file.text refused)
 
 module _ (i : Inputs) (a b : Option (List ℕ)) (v w : Version) (g h : Contents) (same : IsSameReel g h) (left : IsFileOf i.left_old v g)
     (right : IsFileOf i.right_old w h) where
@@ -163,7 +163,7 @@ module _ (i : Inputs) (a b : Option (List ℕ)) (v w : Version) (g h : Contents)
       let of_right = facts_of p.right in
       let all = both (facts_of g) (facts_of h) in
       let few = shorter p.left.reel g.reel (both of_left of_right) all
-      (holding-joined p.left p.right p.read.same p.read.left_read.sound p.read.right_read.sound) (holding-joined g h same left.sound right.sound)
+      (holding-joined p.left p.right p.read.same p.read.left_read.well_formed p.read.right_read.well_formed) (holding-joined g h same left.well_formed right.well_formed)
       (within-both of_left of_right all (within-trans of_left (facts_of g) all one.1 (within-left (facts_of g) (facts_of h)))
       (within-trans of_right (facts_of h) all two.1 (within-right (facts_of g) (facts_of h)))) in
       omega (
@@ -186,7 +186,7 @@ module _ (i : Inputs) (a b : Option (List ℕ)) (v w : Version) (g h : Contents)
   heads_same : ReadsOtherHeads i → ⊥
   heads_same o =
       let head : (old : Option (List ℕ)) (u : Version) (x : Contents) → IsFileOf old u x → BeginsWithHead old x.reel = λ old u x file. record {
-        is = record { reel = file.sound.reel; fits = file.fits.record' };
+        is = record { reel = file.well_formed.reel; fits = file.fits.record' };
         version = u;
         rest = entries_text u (file_entries x) ++ 0 ∷ [];
         split = file.text ∙ ap Some (text_parts u x);
@@ -223,9 +223,9 @@ module _ (i : Inputs) (a b : Option (List ℕ)) (v w : Version) (g h : Contents)
     | inr b ↦ both_refused f b
   ]
 
-  pub answers_union : (r : Result (Unit {0}) HoldFileFault) → IfErr r (MergeIsRefused i a b) → AnswersUnion (joined g h) r
-  answers_union (Ok x) err = tt
-  answers_union (Err f) err = refused f err
+  pub returns_union : (r : Result (Unit {0}) HoldFileFault) → IfErr r (MergeIsRefused i a b) → ReturnsUnion (joined g h) r
+  returns_union (Ok x) err = tt
+  returns_union (Err f) err = refused f err
 
 -- ---- what a refusal says, one fact at a time
 
@@ -234,7 +234,7 @@ nothing_shown : (old new : Option (List ℕ)) → new ≡ old → ShowsNoFault o
 nothing_shown old new same = record {
   seen = [];
   taken = subst (λ (n : Option (List ℕ)). Consumes old n []) (sym same) (Consumes-nil old);
-  sound = inl (inl (omega arith, refl));
+  well_formed = inl (inl (omega arith, refl));
 }
 
 module _ (i : Inputs) (w v : Option (List ℕ)) where
@@ -245,7 +245,7 @@ module _ (i : Inputs) (w v : Option (List ℕ)) where
     record {
       seen = head_text u q;
       taken = taken;
-      sound = inl (head_is_part u q is);
+      well_formed = inl (head_is_part u q is);
     },
   ))
   join_refuses f (inl (inr (inr (is, heads)), untouched)) = inr (subst (BothRefuse i) (sym is) heads)
@@ -274,14 +274,14 @@ module _ (i : Inputs) (w v : Option (List ℕ)) where
   write_stops (inr s) = (s.reel, s.is, s.write refl)
 
   pub left_stays : (u : Version) (h : Contents) (other : Option Contents) → IsFileOf i.left_old u h → IsFileOfSome i.right_old other → MergeIsRefused i w v faults.Write
-      → StaysInLead u h other i.left_old i.left_new w v
+      → StaysInReadLimit u h other i.left_old i.left_new w v
   left_stays u h other file also stops = let s = write_stops stops in
-      stays_in_lead u s.2.left_version h other s.0 s.1 i.left_old i.left_new i.right_old w v s.2.done file also s.2.left s.2.written
+      stays_in_read_limit u s.2.left_version h other s.0 s.1 i.left_old i.left_new i.right_old w v s.2.done file also s.2.left s.2.written
 
   pub right_stays : (u : Version) (h : Contents) (other : Option Contents) → IsFileOf i.right_old u h → IsFileOfSome i.left_old other → MergeIsRefused i w v faults.Write
-      → StaysInLead u h other i.right_old i.right_new w v
+      → StaysInReadLimit u h other i.right_old i.right_new w v
   right_stays u h other file also stops = let s = write_stops stops in
-      stays_in_lead u s.2.right_version h other s.0 s.1 i.right_old i.right_new i.left_old w v s.2.done file also s.2.right s.2.written
+      stays_in_read_limit u s.2.right_version h other s.0 s.1 i.right_old i.right_new i.left_old w v s.2.done file also s.2.right s.2.written
 
   pub says : (Q : HoldFileFault → Type 0) → ((f : HoldFileFault) → MergeIsRefused i w v f → Q f) → (r : Result (Unit {0}) HoldFileFault)
       → IfErr r (MergeIsRefused i w v) → IfErr r Q

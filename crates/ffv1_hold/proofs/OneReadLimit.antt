@@ -1,4 +1,4 @@
--- Each text and output has one lead.
+-- Each text and output has one read_limit.
 use Rattle.std.proofs.Common.{◌≡◌, ℕ, zero, suc, ◌<◌, ◌≤◌, ◌^◌, List, [], ◌∷◌, ◌++◌, length, take, drop, get_or, Contains, Option, Some, None, refl, sym, ap, ◌∙◌, subst, inl, inr, arith, append_assoc, append-nil, length-append, take-append-drop}
 use Rattle.std.specs.Prelude.{◌⊎◌}
 use Rattle.std.specs.List.{AllByRecursion}
@@ -16,14 +16,14 @@ use Rattle.ffv1_hold.specs.declared.version.Version.{Version}
 use Rattle.ffv1_hold.specs.declared.version.Version.TheVariants.{Second}
 use Rattle.ffv1_hold.specs.HoldingText.{FileEntry, origins_limit, be2, be4, head_text, origins_text, body_text, entry_text, entries_text, file_entries, file_text}
 use Rattle.ffv1_hold.specs.FileEntries.{HasText, IsDigest}
-use Rattle.ffv1_hold.specs.Leads.{LiesWhole, AreAllDigests, EndsFirstOpen, IsLeadOf}
+use Rattle.ffv1_hold.specs.ReadLimits.{LiesWhole, AreAllDigests, EndsFirstOpen, IsReadLimitOf}
 use Rattle.ffv1_hold.proofs.Bodies.{length-be2, length-be4}
 use Rattle.ffv1_hold.proofs.NumberTexts.{same_back, rest_same}
 use Rattle.ffv1_hold.proofs.SliceTexts.{slice_parts}
 use Rattle.ffv1_hold.proofs.DigestTexts.{whole, origins_parts}
 use Rattle.ffv1_hold.proofs.BodyTexts.{body_parts, same_body}
 use Rattle.ffv1_hold.proofs.TextLaws.{entries_after, none_after}
-use Rattle.ffv1_hold.proofs.MergeLeads.{after_all}
+use Rattle.ffv1_hold.proofs.MergeReadLimits.{after_all}
 use Rattle.ffv1_hold.proofs.DigestSets.{has}
 
 -- ---- decisions on bytes
@@ -347,14 +347,14 @@ open_not_all : (v : Version) (h : Contents) (other : Option Contents) (bytes : L
 open_not_all v h other bytes m a all =
     a.not_whole (all_middle (LiesWhole (AreAllDigests h other) h.reel bytes) a.before a.first a.after (subst (AllByRecursion (LiesWhole (AreAllDigests h other) h.reel bytes)) a.split all))
 
-same_lead : (v : Version) (h : Contents) (other : Option Contents) (bytes : List ℕ) (m n : ℕ) → IsLeadOf v h other bytes m → IsLeadOf v h other bytes n → m ≡ n
-same_lead v h other bytes m n (inl a) (inl b) = one_place v h other bytes m n a b
-same_lead v h other bytes m n (inl a) (inr b) = absurd (open_not_all v h other bytes m a b.0)
-same_lead v h other bytes m n (inr a) (inl b) = absurd (open_not_all v h other bytes n b a.0)
-same_lead v h other bytes m n (inr a) (inr b) = a.1 ∙ sym b.1
+same_read_limit : (v : Version) (h : Contents) (other : Option Contents) (bytes : List ℕ) (m n : ℕ) → IsReadLimitOf v h other bytes m → IsReadLimitOf v h other bytes n → m ≡ n
+same_read_limit v h other bytes m n (inl a) (inl b) = one_place v h other bytes m n a b
+same_read_limit v h other bytes m n (inl a) (inr b) = absurd (open_not_all v h other bytes m a b.0)
+same_read_limit v h other bytes m n (inr a) (inl b) = absurd (open_not_all v h other bytes n b a.0)
+same_read_limit v h other bytes m n (inr a) (inr b) = a.1 ∙ sym b.1
 
-has_lead : (v : Version) (h : Contents) (other : Option Contents) (bytes : List ℕ) → (lead : ℕ) × IsLeadOf v h other bytes lead
-has_lead v h other bytes = elim (first_open (LiesWhole (AreAllDigests h other) h.reel bytes) (decide_whole (AreAllDigests h other) (decide_all_digests h other) h.reel bytes) (file_entries h)) [
+has_read_limit : (v : Version) (h : Contents) (other : Option Contents) (bytes : List ℕ) → (read_limit : ℕ) × IsReadLimitOf v h other bytes read_limit
+has_read_limit v h other bytes = elim (first_open (LiesWhole (AreAllDigests h other) h.reel bytes) (decide_whole (AreAllDigests h other) (decide_all_digests h other) h.reel bytes) (file_entries h)) [
   | inl all ↦ (length (file_text v h), inr (all, refl))
   | inr o ↦ (
     length (head_text v h.reel ++ entries_text v (o.0 ++ o.1 ∷ [])),
@@ -370,5 +370,5 @@ has_lead v h other bytes = elim (first_open (LiesWhole (AreAllDigests h other) h
   )
 ]
 
-pub one_lead : (v : Version) (h : Contents) (other : Option Contents) (bytes : List ℕ) → (lead : ℕ) × IsLeadOf v h other bytes lead × ((also : ℕ) → IsLeadOf v h other bytes also → also ≡ lead)
-one_lead v h other bytes = let has = has_lead v h other bytes in (has.0, has.1, λ also is. same_lead v h other bytes also has.0 is has.1)
+pub one_read_limit : (v : Version) (h : Contents) (other : Option Contents) (bytes : List ℕ) → (read_limit : ℕ) × IsReadLimitOf v h other bytes read_limit × ((also : ℕ) → IsReadLimitOf v h other bytes also → also ≡ read_limit)
+one_read_limit v h other bytes = let has = has_read_limit v h other bytes in (has.0, has.1, λ also is. same_read_limit v h other bytes also has.0 is has.1)

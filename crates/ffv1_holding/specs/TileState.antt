@@ -16,30 +16,30 @@ abbrev pub best_slices : List (List ℕ) → List (List ℕ)
 best_slices slices = filter (λ b. list_all (λ c. nat_le (status_of b) (status_of c)) slices) slices
 
 -- how a tile stands: no slice, one best slice, or several
-pub data Standing : Type 0 where
-  missing : Standing
-  settled : (slice : List ℕ) → Standing
-  disputed : (slices : ℕ) → Standing
+pub data StateOfTile : Type 0 where
+  missing : StateOfTile
+  settled : (slice : List ℕ) → StateOfTile
+  disputed : (slices : ℕ) → StateOfTile
 
-abbrev pub standing_of_best : List (List ℕ) → Standing
-standing_of_best [] = missing
-standing_of_best (b ∷ []) = settled b
-standing_of_best (b ∷ c ∷ more) = disputed (length more + 2)
+abbrev pub state_of_best : List (List ℕ) → StateOfTile
+state_of_best [] = missing
+state_of_best (b ∷ []) = settled b
+state_of_best (b ∷ c ∷ more) = disputed (length more + 2)
 
-abbrev pub standing_of : List (List ℕ) → Standing
-standing_of slices = standing_of_best (best_slices slices)
+abbrev pub tile_state_of : List (List ℕ) → StateOfTile
+tile_state_of slices = state_of_best (best_slices slices)
 
 -- how a tile of a holding stands
-abbrev pub tile_state : Contents → ℕ → Standing
-tile_state h tile = standing_of (set.items (tile_slices h.slices tile))
+abbrev pub tile_state : Contents → ℕ → StateOfTile
+tile_state h tile = tile_state_of (set.items (tile_slices h.slices tile))
 
 -- the bytes of a settled slice
-abbrev pub settled_bytes : Standing → List ℕ
+abbrev pub settled_bytes : StateOfTile → List ℕ
 settled_bytes missing = []
 settled_bytes (settled slice) = slice
 settled_bytes (disputed slices) = []
 
-abbrev pub IsSettled : Standing → Type 0
+abbrev pub IsSettled : StateOfTile → Type 0
 IsSettled missing = ⊥
 IsSettled (settled slice) = Unit {0}
 IsSettled (disputed slices) = ⊥

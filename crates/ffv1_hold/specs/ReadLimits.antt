@@ -35,7 +35,7 @@ pub record EndsFirstOpen (v : Version) (h : Contents) (other : Option Contents) 
   pub not_whole : ¬ LiesWhole (AreAllDigests h other) h.reel bytes first
   pub is_end : place ≡ length (head_text v h.reel ++ entries_text v (before ++ first ∷ []))
 
--- The lead of a holding's text over the bytes: that place, or the text's length where all its entries lie whole in them.
-abbrev pub IsLeadOf : Version → Contents → Option Contents → List ℕ → ℕ → Type 0
-IsLeadOf v h other bytes lead = EndsFirstOpen v h other bytes lead
-    ⊎ (AllByRecursion (LiesWhole (AreAllDigests h other) h.reel bytes) (file_entries h) × (lead ≡ length (file_text v h)))
+-- The read_limit of a holding's text over the bytes: that place, or the text's length where all its entries lie whole in them.
+abbrev pub IsReadLimitOf : Version → Contents → Option Contents → List ℕ → ℕ → Type 0
+IsReadLimitOf v h other bytes read_limit = EndsFirstOpen v h other bytes read_limit
+    ⊎ (AllByRecursion (LiesWhole (AreAllDigests h other) h.reel bytes) (file_entries h) × (read_limit ≡ length (file_text v h)))

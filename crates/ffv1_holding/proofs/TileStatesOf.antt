@@ -5,24 +5,24 @@ use Rattle.std.specs.Cmp.{both_ways}
 use Rattle.std.proofs.lemmas.Bool.{eq-eqb, eqb-true, le-leb, leb-true, and_from, and_parts}
 use Rattle.std.proofs.lemmas.List.{length-append, length-take, append-nil}
 use Rattle.std.proofs.lemmas.List.Elements.{filter_more}
-use Rattle.ffv1_holding.specs.Standing.{status_of, Standing, missing, settled, disputed, best_slices, standing_of_best, settled_bytes}
-use Rattle.ffv1_holding.specs.TileStates.{standing_shown}
+use Rattle.ffv1_holding.specs.TileState.{status_of, StateOfTile, missing, settled, disputed, best_slices, state_of_best, settled_bytes}
+use Rattle.ffv1_holding.specs.TileStates.{state_shown}
 use Rattle.ffv1_holding.specs.declared.standing.TileState.{TileState}
 use Rattle.ffv1_holding.specs.declared.standing.TileState.TheVariants.{Missing, Settled, Disputed}
 
 -- how a tile stands with one best slice more
-abbrev pub one_more : Standing → List ℕ → Standing
+abbrev pub one_more : StateOfTile → List ℕ → StateOfTile
 one_more missing b = settled b
 one_more (settled a) b = disputed 2
 one_more (disputed n) b = disputed (n + 1)
 
-pub standing-push : (xs : List (List ℕ)) (b : List ℕ) → standing_of_best (xs ++ b ∷ []) ≡ one_more (standing_of_best xs) b
-standing-push [] b = refl
-standing-push (a ∷ []) b = refl
-standing-push (a ∷ c ∷ more) b = ap disputed (omega (arith, length-append more (b ∷ [])))
+pub state-push : (xs : List (List ℕ)) (b : List ℕ) → state_of_best (xs ++ b ∷ []) ≡ one_more (state_of_best xs) b
+state-push [] b = refl
+state-push (a ∷ []) b = refl
+state-push (a ∷ c ∷ more) b = ap disputed (omega (arith, length-append more (b ∷ [])))
 
 -- a tile that has not one best slice adds no bytes to a payload
-pub settled_bytes-none : (state : TileState) → ((slice : _) → state ≡ Settled slice → ⊥) → settled_bytes (standing_shown state) ≡ []
+pub settled_bytes-none : (state : TileState) → ((slice : _) → state ≡ Settled slice → ⊥) → settled_bytes (state_shown state) ≡ []
 settled_bytes-none Missing other = refl
 settled_bytes-none (Settled slice) other = absurd (other slice refl)
 settled_bytes-none (Disputed count) other = refl
@@ -34,7 +34,7 @@ length-filter-le p (x ∷ xs) = elim (p x) as (λ b. length (cond b (x ∷ filte
   | false ↦ omega (arith, length-filter-le p xs)
 ]
 
-pub count_disputed : (xs : List (List ℕ)) (n : ℕ) → standing_of_best xs ≡ disputed n → n ≡ length xs
+pub count_disputed : (xs : List (List ℕ)) (n : ℕ) → state_of_best xs ≡ disputed n → n ≡ length xs
 count_disputed [] n e = absurd (cc)
 count_disputed (a ∷ []) n e = absurd (cc)
 count_disputed (a ∷ c ∷ more) n e = let same : length more + 2 ≡ n = cc in omega arith
@@ -67,28 +67,28 @@ module _ (xs : List (List ℕ)) (least : ℕ) (low : (i : ℕ) (d : List ℕ) �
   pub filter-best : filter (λ b. status_of b == least) xs ≡ best_slices xs
   filter-best = filter-same _ _ xs is_best
 
-pub standing_none : (xs : List (List ℕ)) → length xs ≡ 0 → missing ≡ standing_of_best (best_slices xs)
-standing_none [] e = refl
-standing_none (x ∷ xs) e = absurd (omega arith)
+pub state_none : (xs : List (List ℕ)) → length xs ≡ 0 → missing ≡ state_of_best (best_slices xs)
+state_none [] e = refl
+state_none (x ∷ xs) e = absurd (omega arith)
 
 -- one slice more is passed, and it is of the least status or it isn't
 module _ (least : ℕ) (xs : List (List ℕ)) (i : ℕ) (d : List ℕ) (lt : i < length xs) where
-  pub passed_best : (s t : Standing) → s ≡ standing_of_best (filter (λ b. status_of b == least) (take i xs)) → status_of (get_or xs i d) ≡ least
-      → t ≡ one_more s (get_or xs i d) → t ≡ standing_of_best (filter (λ b. status_of b == least) (take (i + 1) xs))
+  pub passed_best : (s t : StateOfTile) → s ≡ state_of_best (filter (λ b. status_of b == least) (take i xs)) → status_of (get_or xs i d) ≡ least
+      → t ≡ one_more s (get_or xs i d) → t ≡ state_of_best (filter (λ b. status_of b == least) (take (i + 1) xs))
   passed_best s t is best next =
-      next ∙ ap (λ x. one_more x (get_or xs i d)) is ∙ sym (standing-push (filter (λ b. status_of b == least) (take i xs)) (get_or xs i d))
-      ∙ ap (λ b. standing_of_best (filter (λ b. status_of b == least) (take i xs) ++ cond b (get_or xs i d ∷ []) [])) (sym (eq-eqb _ _ best))
-      ∙ ap standing_of_best (sym (filter_more (λ b. status_of b == least) xs i d lt))
+      next ∙ ap (λ x. one_more x (get_or xs i d)) is ∙ sym (state-push (filter (λ b. status_of b == least) (take i xs)) (get_or xs i d))
+      ∙ ap (λ b. state_of_best (filter (λ b. status_of b == least) (take i xs) ++ cond b (get_or xs i d ∷ []) [])) (sym (eq-eqb _ _ best))
+      ∙ ap state_of_best (sym (filter_more (λ b. status_of b == least) xs i d lt))
 
-  pub passed_other : (s : Standing) → s ≡ standing_of_best (filter (λ b. status_of b == least) (take i xs)) → (status_of (get_or xs i d) == least) ≡ false
-      → s ≡ standing_of_best (filter (λ b. status_of b == least) (take (i + 1) xs))
+  pub passed_other : (s : StateOfTile) → s ≡ state_of_best (filter (λ b. status_of b == least) (take i xs)) → (status_of (get_or xs i d) == least) ≡ false
+      → s ≡ state_of_best (filter (λ b. status_of b == least) (take (i + 1) xs))
   passed_other s is other =
-      is ∙ ap standing_of_best (sym (append-nil (filter (λ b. status_of b == least) (take i xs))))
-      ∙ ap (λ b. standing_of_best (filter (λ b. status_of b == least) (take i xs) ++ cond b (get_or xs i d ∷ []) [])) (sym other)
-      ∙ ap standing_of_best (sym (filter_more (λ b. status_of b == least) xs i d lt))
+      is ∙ ap state_of_best (sym (append-nil (filter (λ b. status_of b == least) (take i xs))))
+      ∙ ap (λ b. state_of_best (filter (λ b. status_of b == least) (take i xs) ++ cond b (get_or xs i d ∷ []) [])) (sym other)
+      ∙ ap state_of_best (sym (filter_more (λ b. status_of b == least) xs i d lt))
 
   -- several are no more than were passed
-  pub few_disputed : (n : ℕ) → disputed n ≡ standing_of_best (filter (λ b. status_of b == least) (take i xs)) → n ≤ i
+  pub few_disputed : (n : ℕ) → disputed n ≡ state_of_best (filter (λ b. status_of b == least) (take i xs)) → n ≤ i
   few_disputed n is =
       omega (
         arith,

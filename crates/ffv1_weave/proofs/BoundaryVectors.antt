@@ -3,15 +3,15 @@
 use Rattle.std.proofs.Common.{◌≡◌, ℕ, zero, suc, ◌+◌, ◌-◌, ◌<◌, List, [], ◌∷◌, length, get_or, refl, sym, ap, ◌∙◌, subst, arith, inl, inr}
 use Rattle.std.specs.Prelude.{◌⊎◌, All, Contains, slice_range}
 use Rattle.ffv1_weave.specs.Regions.{HaveLength, DifferAt, IsRegion}
-use Rattle.ffv1_weave.specs.Seams.{IsSeam, IsSegment}
+use Rattle.ffv1_weave.specs.Boundaries.{IsBoundary, IsSegment}
 use Rattle.ffv1_weave.specs.Checks.{PassesBy}
 use Rattle.ffv1_weave.specs.Combinations.{IsCombinationBy, IsCombination, IsTriedBy, IsValid}
 use Rattle.ffv1_weave.specs.Inner.Parts.{Part, AreChoicesBy, IsPartFrom, AreAllParts, IsFit}
 use Rattle.ffv1_weave.specs.declared.check.Check.{Check}
-use Rattle.ffv1_weave.specs.declared.grains.Grain.TheVariants.{Pairs}
+use Rattle.ffv1_weave.specs.declared.splits.Split.TheVariants.{Pairs}
 use Rattle.ffv1_weave.proofs.Agreeing.{agree_past, differ_from}
 use Rattle.ffv1_weave.proofs.MostSteps.{choices_of_pairs}
-use Rattle.ffv1_weave.proofs.SeamSteps.{seam_of}
+use Rattle.ffv1_weave.proofs.BoundarySteps.{boundary_of}
 use Rattle.ffv1_weave.proofs.Choices.{numbered}
 use Rattle.ffv1_weave.proofs.Tried.{valid_by}
 
@@ -74,26 +74,26 @@ no_combination_of_regions is = let version = is.parts 0 3 all_one_region in none
 
 -- ---- three segments
 
-seam_at : (place : ℕ) (one other : List ℕ) → Contains three one → Contains three other → (get_or one place 0 ≡ get_or other place 0 → ⊥)
-    → IsSeam 0 three place
-seam_at place one other there here apart =
-    seam_of 0 three place one other there here (inl (record { differ = apart; before = λ i lt near. absurd (omega arith) }))
+boundary_at : (place : ℕ) (one other : List ℕ) → Contains three one → Contains three other → (get_or one place 0 ≡ get_or other place 0 → ⊥)
+    → IsBoundary 0 three place
+boundary_at place one other there here apart =
+    boundary_of 0 three place one other there here (inl (record { differ = apart; before = λ i lt near. absurd (omega arith) }))
 
-seam_one : IsSeam 0 three 1
-seam_one = seam_at 1 (2 ∷ 1 ∷ 1 ∷ []) (1 ∷ 2 ∷ 1 ∷ []) first_there second_there (λ same. absurd (omega arith))
+boundary_one : IsBoundary 0 three 1
+boundary_one = boundary_at 1 (2 ∷ 1 ∷ 1 ∷ []) (1 ∷ 2 ∷ 1 ∷ []) first_there second_there (λ same. absurd (omega arith))
 
-seam_two : IsSeam 0 three 2
-seam_two = seam_at 2 (1 ∷ 2 ∷ 1 ∷ []) (1 ∷ 1 ∷ 2 ∷ []) second_there third_there (λ same. absurd (omega arith))
+boundary_two : IsBoundary 0 three 2
+boundary_two = boundary_at 2 (1 ∷ 2 ∷ 1 ∷ []) (1 ∷ 1 ∷ 2 ∷ []) second_there third_there (λ same. absurd (omega arith))
 
-alone : (start : ℕ) → (start ≡ 0) ⊎ IsSeam 0 three start
-    → IsSeam 0 three (start + 1) ⊎ ((version : List ℕ) × Contains three version × (start + 1 ≡ length version)) → IsSegment 0 three start (start + 1)
-alone start first last = record { some = omega arith; first = first; last = last; within = λ i low lt seam. absurd (omega arith) }
+alone : (start : ℕ) → (start ≡ 0) ⊎ IsBoundary 0 three start
+    → IsBoundary 0 three (start + 1) ⊎ ((version : List ℕ) × Contains three version × (start + 1 ≡ length version)) → IsSegment 0 three start (start + 1)
+alone start first last = record { some = omega arith; first = first; last = last; within = λ i low lt boundary. absurd (omega arith) }
 
 pub segments : IsSegment 0 three 0 1 × IsSegment 0 three 1 2 × IsSegment 0 three 2 3
 segments = (
-  alone 0 (inl refl) (inl seam_one),
-  alone 1 (inr seam_one) (inl seam_two),
-  alone 2 (inr seam_two) (inr (2 ∷ 1 ∷ 1 ∷ [], first_there, refl)),
+  alone 0 (inl refl) (inl boundary_one),
+  alone 1 (inr boundary_one) (inl boundary_two),
+  alone 2 (inr boundary_two) (inr (2 ∷ 1 ∷ 1 ∷ [], first_there, refl)),
 )
 
 -- ---- eight combinations

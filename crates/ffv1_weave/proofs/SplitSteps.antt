@@ -1,15 +1,15 @@
--- Parts of a grain: they are not empty, lie within the versions, and never overlap.
+-- Parts of a split: they are not empty, lie within the versions, and never overlap.
 use Rattle.std.proofs.Common.{◌≡◌, ℕ, ◌-◌, ◌<◌, ◌≤◌, List, arith, inl, inr}
 use Rattle.std.proofs.lemmas.Bool.{cases_lt}
 use Rattle.ffv1_weave.specs.Regions.{HaveLength, IsRegion}
-use Rattle.ffv1_weave.specs.Grains.{IsPartBy}
-use Rattle.ffv1_weave.specs.declared.grains.Grain.{Grain}
-use Rattle.ffv1_weave.specs.declared.grains.Grain.TheVariants.{Pairs, Regions, Most}
+use Rattle.ffv1_weave.specs.Splits.{IsPartBy}
+use Rattle.ffv1_weave.specs.declared.splits.Split.{Split}
+use Rattle.ffv1_weave.specs.declared.splits.Split.TheVariants.{Pairs, Regions, Most}
 use Rattle.ffv1_weave.proofs.Agreeing.{agree_past}
 use Rattle.ffv1_weave.proofs.RegionSteps.{one_region}
-use Rattle.ffv1_weave.proofs.SeamSteps.{segment_within, one_segment}
+use Rattle.ffv1_weave.proofs.BoundarySteps.{segment_within, one_segment}
 
-pub part_some : (grain : Grain) (versions : List (List ℕ)) (start end : ℕ) → IsPartBy grain versions start end → start < end
+pub part_some : (split : Split) (versions : List (List ℕ)) (start end : ℕ) → IsPartBy split versions start end → start < end
 part_some (Pairs distance) versions start end h = h.some
 part_some Regions versions start end h = h.some
 part_some (Most distance) versions start end h = h.some
@@ -23,13 +23,13 @@ region_within versions size start end long h =
     ]
 
 module _ (versions : List (List ℕ)) (size : ℕ) (long : HaveLength versions size) where
-  pub part_within : (grain : Grain) (start end : ℕ) → IsPartBy grain versions start end → end ≤ size
+  pub part_within : (split : Split) (start end : ℕ) → IsPartBy split versions start end → end ≤ size
   part_within (Pairs distance) start end h = segment_within distance versions size start end long h
   part_within Regions start end h = region_within versions size start end long h
   part_within (Most distance) start end h = segment_within distance versions size start end long h
 
   -- two parts that overlap are one
-  pub one_part : (grain : Grain) (s e t f : ℕ) → IsPartBy grain versions s e → IsPartBy grain versions t f → s < f → t < e → (s ≡ t) × (e ≡ f)
+  pub one_part : (split : Split) (s e t f : ℕ) → IsPartBy split versions s e → IsPartBy split versions t f → s < f → t < e → (s ≡ t) × (e ≡ f)
   one_part (Pairs distance) s e t f h k low high = one_segment distance versions size s e t f long h k low high
   one_part Regions s e t f h k low high = one_region versions s e t f h k low high
   one_part (Most distance) s e t f h k low high = one_segment distance versions size s e t f long h k low high

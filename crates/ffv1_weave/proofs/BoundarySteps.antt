@@ -1,57 +1,57 @@
--- Seams and segments: where a seam can lie, and that segments never overlap.
+-- Boundaries and segments: where a boundary can lie, and that segments never overlap.
 use Rattle.std.proofs.Common.{◌≡◌, ℕ, ◌+◌, ◌-◌, ◌<◌, ◌≤◌, List, [], length, get_or, sym, ◌∙◌, subst, arith, inl, inr}
 use Rattle.std.specs.Prelude.{◌⊎◌, Contains}
 use Rattle.std.proofs.lemmas.Bool.{cases_lt}
 use Rattle.std.proofs.lemmas.List.{get_or_past}
 use Rattle.std.proofs.lemmas.List.Elements.{Contains-get_or}
 use Rattle.ffv1_weave.specs.Regions.{HaveLength, AgreeAt, DifferAt}
-use Rattle.ffv1_weave.specs.Seams.{AreParted, IsSeam, IsSegment}
+use Rattle.ffv1_weave.specs.Boundaries.{AreParted, IsBoundary, IsSegment}
 use Rattle.ffv1_weave.specs.Inner.Parts.{IsPartFrom}
-use Rattle.ffv1_weave.specs.declared.grains.Grain.TheVariants.{Pairs}
+use Rattle.ffv1_weave.specs.declared.splits.Split.TheVariants.{Pairs}
 use Rattle.ffv1_weave.proofs.Agreeing.{two_of}
 
 module _ (distance : ℕ) (versions : List (List ℕ)) where
-  -- ---- a seam by two versions, and by a place where versions differ
+  -- ---- a boundary by two versions, and by a place where versions differ
 
-  pub seam_of : (place : ℕ) (one other : List ℕ) → Contains versions one → Contains versions other → AreParted distance one other place
-      → IsSeam distance versions place
-  seam_of place one other there here parted = record { one = one; other = other; one_there = there; other_there = here; parted = parted }
+  pub boundary_of : (place : ℕ) (one other : List ℕ) → Contains versions one → Contains versions other → AreParted distance one other place
+      → IsBoundary distance versions place
+  boundary_of place one other there here parted = record { one = one; other = other; one_there = there; other_there = here; parted = parted }
 
-  seam_by : (place at : ℕ) → DifferAt versions at
+  boundary_by : (place at : ℕ) → DifferAt versions at
       → ((one other : List ℕ) → Contains versions one → Contains versions other → (get_or one at 0 ≡ get_or other at 0 → ⊥) → AreParted distance one other place)
-      → IsSeam distance versions place
-  seam_by place at differ parted =
+      → IsBoundary distance versions place
+  boundary_by place at differ parted =
       let two = two_of versions at differ in
-      seam_of place two.one two.other two.one_there two.other_there (parted two.one two.other two.one_there two.other_there two.differ)
+      boundary_of place two.one two.other two.one_there two.other_there (parted two.one two.other two.one_there two.other_there two.differ)
 
   -- before it all agree
-  pub seam_before : (place : ℕ) → DifferAt versions place → ((i : ℕ) → i < place → place ≤ i + distance → AgreeAt versions i) → IsSeam distance versions place
-  seam_before place differ quiet = seam_by place place differ (λ one other there here apart.
+  pub boundary_before : (place : ℕ) → DifferAt versions place → ((i : ℕ) → i < place → place ≤ i + distance → AgreeAt versions i) → IsBoundary distance versions place
+  boundary_before place differ quiet = boundary_by place place differ (λ one other there here apart.
       inl (record { differ = apart; before = λ i lt near. quiet i lt near one other there here }))
 
   -- after it all agree
-  pub seam_after : (last place : ℕ) → place ≡ last + 1 → DifferAt versions last → ((i : ℕ) → place ≤ i → i < place + distance → AgreeAt versions i)
-      → IsSeam distance versions place
-  seam_after last place next differ quiet = seam_by place last differ (λ one other there here apart.
+  pub boundary_after : (last place : ℕ) → place ≡ last + 1 → DifferAt versions last → ((i : ℕ) → place ≤ i → i < place + distance → AgreeAt versions i)
+      → IsBoundary distance versions place
+  boundary_after last place next differ quiet = boundary_by place last differ (λ one other there here apart.
       inr (record { last = last; next = next; differ = apart; after = λ i low lt. quiet i low lt one other there here }))
 
-  -- ---- where a seam can lie
+  -- ---- where a boundary can lie
 
-  -- Where all versions agree at a place and at the one before it, it is no seam.
-  pub quiet_no_seam : (place : ℕ) → AgreeAt versions (place - 1) → AgreeAt versions place → IsSeam distance versions place → ⊥
-  quiet_no_seam place before here seam = elim seam.parted [
-    | inl begins ↦ begins.differ (here seam.one seam.other seam.one_there seam.other_there)
+  -- Where all versions agree at a place and at the one before it, it is no boundary.
+  pub quiet_no_boundary : (place : ℕ) → AgreeAt versions (place - 1) → AgreeAt versions place → IsBoundary distance versions place → ⊥
+  quiet_no_boundary place before here boundary = elim boundary.parted [
+    | inl begins ↦ begins.differ (here boundary.one boundary.other boundary.one_there boundary.other_there)
     | inr ends ↦ let next = ends.next in let same : place - 1 ≡ ends.last = omega arith in
-        ends.differ (subst (AgreeAt versions) same before seam.one seam.other seam.one_there seam.other_there)
+        ends.differ (subst (AgreeAt versions) same before boundary.one boundary.other boundary.one_there boundary.other_there)
   ]
 
-  pub seam_within : (size place : ℕ) → HaveLength versions size → IsSeam distance versions place → place ≤ size
-  seam_within size place long seam =
-      let past = λ (i : ℕ) (over : size ≤ i). get_or_past seam.one i 0 (omega (arith, long seam.one seam.one_there))
-      ∙ sym (get_or_past seam.other i 0 (omega (arith, long seam.other seam.other_there))) in
+  pub boundary_within : (size place : ℕ) → HaveLength versions size → IsBoundary distance versions place → place ≤ size
+  boundary_within size place long boundary =
+      let past = λ (i : ℕ) (over : size ≤ i). get_or_past boundary.one i 0 (omega (arith, long boundary.one boundary.one_there))
+      ∙ sym (get_or_past boundary.other i 0 (omega (arith, long boundary.other boundary.other_there))) in
       elim (cases_lt size place) [
         | inr within ↦ within
-        | inl over ↦ elim seam.parted [
+        | inl over ↦ elim boundary.parted [
           | inl begins ↦ absurd (begins.differ (past place (omega arith)))
           | inr ends ↦ let next = ends.next in absurd (ends.differ (past ends.last (omega arith)))
         ]
@@ -61,19 +61,19 @@ module _ (distance : ℕ) (versions : List (List ℕ)) where
 
   pub segment_within : (size s e : ℕ) → HaveLength versions size → IsSegment distance versions s e → e ≤ size
   segment_within size s e long h = elim h.last [
-    | inl seam ↦ seam_within size e long seam
+    | inl boundary ↦ boundary_within size e long boundary
     | inr at_end ↦ omega (arith, at_end.2, long at_end.0 at_end.1)
   ]
 
   segment_begins : (s e t f : ℕ) → IsSegment distance versions s e → IsSegment distance versions t f → s < t → t < e → ⊥
   segment_begins s e t f h k low high = elim k.first [
     | inl zero ↦ omega arith
-    | inr seam ↦ h.within t low high seam
+    | inr boundary ↦ h.within t low high boundary
   ]
 
   segment_ends : (size s e t f : ℕ) → HaveLength versions size → IsSegment distance versions s e → IsSegment distance versions t f → t < e → e < f → ⊥
   segment_ends size s e t f long h k low high = elim h.last [
-    | inl seam ↦ k.within e low high seam
+    | inl boundary ↦ k.within e low high boundary
     | inr at_end ↦ omega (arith, at_end.2, long at_end.0 at_end.1, segment_within size t f long k)
   ]
 
@@ -99,27 +99,27 @@ module _ (distance : ℕ) (versions : List (List ℕ)) where
 
   -- ---- the next segment at which versions differ
 
-  -- what is known of a first place at which they differ, of where its segment begins, and of the next seam
+  -- what is known of a first place at which they differ, of where its segment begins, and of the next boundary
   pub record IsAround (size from first start end : ℕ) : Type 0 where
     pub below : first < size
     pub beyond : from ≤ first
     pub until : (i : ℕ) → from ≤ i → i < first → AgreeAt versions i
-    pub begins : (start ≡ from) ⊎ ((start ≡ first) × IsSeam distance versions first)
-    pub seam : from < first → start ≡ from → IsSeam distance versions first → ⊥
+    pub begins : (start ≡ from) ⊎ ((start ≡ first) × IsBoundary distance versions first)
+    pub boundary : from < first → start ≡ from → IsBoundary distance versions first → ⊥
     pub after : first < end
     pub within : end ≤ size
-    pub quiet : (i : ℕ) → first < i → i < end → IsSeam distance versions i → ⊥
-    pub there : end < size → IsSeam distance versions end
+    pub quiet : (i : ℕ) → first < i → i < end → IsBoundary distance versions i → ⊥
+    pub there : end < size → IsBoundary distance versions end
 
-  no_seam : (size from first start end : ℕ) → IsAround size from first start end → (i : ℕ) → start < i → i < end → IsSeam distance versions i → ⊥
-  no_seam size from first start end h i low lt seam =
+  no_boundary : (size from first start end : ℕ) → IsAround size from first start end → (i : ℕ) → start < i → i < end → IsBoundary distance versions i → ⊥
+  no_boundary size from first start end h i low lt boundary =
       elim (cases_lt first i) [
-        | inl past ↦ h.quiet i past lt seam
+        | inl past ↦ h.quiet i past lt boundary
         | inr near ↦ elim h.begins [
           | inr there ↦ let is = there.0 in omega arith
           | inl is ↦ elim (cases_lt i first) [
-            | inl below ↦ quiet_no_seam i (h.until (i - 1) (omega arith) (omega arith)) (h.until i (omega arith) below) seam
-            | inr above ↦ let same : i ≡ first = omega arith in h.seam (omega arith) is (subst (IsSeam distance versions) same seam)
+            | inl below ↦ quiet_no_boundary i (h.until (i - 1) (omega arith) (omega arith)) (h.until i (omega arith) below) boundary
+            | inr above ↦ let same : i ≡ first = omega arith in h.boundary (omega arith) is (subst (IsBoundary distance versions) same boundary)
           ]
         ]
       ]
@@ -139,11 +139,11 @@ module _ (distance : ℕ) (versions : List (List ℕ)) where
         part = record {
           some = omega arith;
           first = elim h.begins [
-            | inr there ↦ let is = there.0 in inr (subst (IsSeam distance versions) (sym is) there.1)
+            | inr there ↦ let is = there.0 in inr (subst (IsBoundary distance versions) (sym is) there.1)
             | inl is ↦ elim edge [
               | inl zero ↦ inl (is ∙ zero)
               | inr segment ↦ let ended : IsSegment distance versions segment.0 from = segment.1 in elim ended.last [
-                | inl seam ↦ inr (subst (IsSeam distance versions) (sym is) seam)
+                | inl boundary ↦ inr (subst (IsBoundary distance versions) (sym is) boundary)
                 | inr at_end ↦ absurd (omega (arith, at_end.2, long at_end.0 at_end.1))
               ]
             ]
@@ -153,6 +153,6 @@ module _ (distance : ℕ) (versions : List (List ℕ)) where
             | inr past ↦ let there = Contains-get_or versions 0 [] some in
                 inr (get_or versions 0 [], there, omega (arith, long (get_or versions 0 []) there))
           ];
-          within = no_seam size from first start end h;
+          within = no_boundary size from first start end h;
         };
       }
