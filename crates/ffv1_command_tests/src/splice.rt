@@ -270,8 +270,8 @@ fn reports(
     lines: &str,
 ) -> bool {
     let (mut out, mut printed) = (Vec::new(alloc), Vec::new(alloc));
-    let returned = run_splice(alloc, &mut [one, other], &mut out, &mut printed);
-    returned.ok() == Some(returned)
+    let gave = run_splice(alloc, &mut [one, other], &mut out, &mut printed);
+    gave.ok() == Some(returned)
         && out.as_slice() == payload
         && printed.as_slice() == lines.as_bytes()
 }
@@ -357,8 +357,8 @@ fn the_command_writes_and_reports_the_splice(rt: HostRuntime) {
 fn other_length_is_reported(alloc: Global) -> bool {
     let (mut out, mut printed) = (Vec::new(alloc), Vec::new(alloc));
     let mut copies = [RECORDED.as_slice(), &RECORDED[1..]];
-    let returned = run_splice(alloc, &mut copies, &mut out, &mut printed);
-    matches!(returned, Err(CliFault::Splice(CommandPath::Copy(1))))
+    let gave = run_splice(alloc, &mut copies, &mut out, &mut printed);
+    matches!(gave, Err(CliFault::Splice(CommandPath::Copy(1))))
         && out.is_empty()
         && printed.is_empty()
 }
