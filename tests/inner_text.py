@@ -1,4 +1,4 @@
-"""Where the definitions of specs/ stand: what readers are to believe apart from what only proofs are for.
+"""Where the definitions of specs/ stand: what readers are to believe apart from what only proofs are for, and what each theorem rests on.
 
 A definition that a contract of a public call cites, or that such a definition cites, says what is promised. The others are invariants of
 loops and contracts of private calls: nothing that is promised rests on them, as they are proved to hold. They stand in specs/Inner/.
@@ -8,7 +8,7 @@ from __future__ import annotations
 import re
 import typing
 
-import map_text
+import specs_text
 
 # A definition: the path of its file below crates/, and its name.
 Name = typing.Tuple[str, str]
@@ -32,7 +32,7 @@ def definitions(text: str) -> typing.Dict[str, str]:
 
 def cited_in(path: str, text: str, body: str) -> typing.Iterator[Name]:
     """The definitions that a definition of this file cites: of other files, and of its own."""
-    yield from map_text.citations(text, body)
+    yield from specs_text.citations(text, body)
     words = set(re.findall(r"[\w'-]+|[^\s\w(){}]+", body))
     yield from ((path, name) for name in definitions(text) if name.replace("◌", "") in words)
 
@@ -52,14 +52,57 @@ def reached(source: typing.Callable[[str], str], first: typing.Iterable[Name]) -
 
 def public_in(path: str) -> typing.List[str]:
     """The public definitions of a file, without those in a module within it, and without laws, which have a dash in their names."""
-    text = map_text.source(path)
-    return [name for name in map_text.names_defined(text) if name in definitions(text) and "-" not in name]
+    text = specs_text.source(path)
+    return [name for name in specs_text.names_defined(text) if name in definitions(text) and "-" not in name]
 
 
 def faults() -> typing.Iterator[str]:
-    believed = reached(map_text.source, map_text.cited_by_contracts())
-    for crate in map_text.crates():
-        for path in map_text.files_of(crate):
+    believed = reached(specs_text.source, specs_text.cited_by_contracts())
+    for crate in specs_text.crates():
+        for path in specs_text.files_of(crate):
             yield from (f"no contract of a public call reaches {name} in {path}" for name in public_in(path) if (path, name) not in believed)
-        for path in map_text.inner_files_of(crate):
+        for path in specs_text.inner_files_of(crate):
             yield from (f"a contract of a public call reaches {name} in {path}" for name in public_in(path) if (path, name) in believed)
+
+
+# The theorems of docs/PROMISES.md for which it lists what to read, each with its mark and the calls whose contracts state it.
+THEOREMS = {
+    "H": ["same_copies_make_one_file", "commands_restore_the_original"],
+    "S": ["same_copies_make_one_splice", "splice_gives_the_original", "splice_weaves_the_original"],
+    "M": ["any_order_makes_one_file", "mend_claims_what_is_vouched", "mend_gives_the_original"],
+    "R": ["one_reading", "one_fault"],
+    "D": ["burst_seen", "near_found"],
+}
+NAMES = {"H": "holdings", "S": "splicing", "M": "files", "R": "one reading", "D": "small damage"}
+MADE = re.compile(r"(?<=<!-- made -->\n).*?(?=<!-- /made -->)", re.S)
+
+
+def statement(call: str) -> typing.Tuple[str, str]:
+    """The text of the file of code in which a public function stands, without comments, and the function's head."""
+    for path in sorted(specs_text.TOP.glob("crates/*/src/*.rt")):
+        text = re.sub(r"^ *//.*\n", "", path.read_text(), flags=re.M)
+        found = re.search(rf"^pub fn {call}\b.*?^\{{", text, re.S | re.M)
+        if found:
+            return text, found.group()
+    raise KeyError(call)
+
+
+def rests_on(calls: typing.Iterable[str]) -> typing.Set[Name]:
+    """The definitions that the contracts of these calls reach."""
+    first = [name for call in calls for name in specs_text.citations(*statement(call))]
+    return {(path, name) for path, name in reached(specs_text.source, first) if name in definitions(specs_text.source(path))}
+
+
+def reading_list() -> str:
+    """For each theorem how many lines are to be read, and a row for each file with the definitions that some theorem reaches."""
+    reach = {mark: rests_on(calls) for mark, calls in THEOREMS.items()}
+    lines = {path: {name: len(body.splitlines()) for name, body in definitions(specs_text.source(path)).items()} for path in specs_text.files()}
+    sums = {mark: sum(lines[path][name] for path, name in names) for mark, names in reach.items()}
+    page = "".join(f"- {mark}, {NAMES[mark]}: {len(reach[mark])} definitions, {sums[mark]} lines\n" for mark in THEOREMS)
+    page += "\n| File | Definitions, with their lines | For |\n|---|---|---|\n"
+    for path in specs_text.files():
+        names = [name for name in lines[path] if any((path, name) in found for found in reach.values())]
+        marks = "".join(mark for mark, found in reach.items() if any((path, name) in found for name in names))
+        if names:
+            page += f"| `{path}` | {', '.join(f'`{name}` {lines[path][name]}' for name in names)} | {marks} |\n"
+    return page

@@ -65,3 +65,23 @@ class Inner(unittest.TestCase):
         self.assertIn("SetOf", names)
         self.assertNotIn("contains-empty", names)
         self.assertNotIn("contains-union", names)
+
+
+class ReadingList(unittest.TestCase):
+    def test_statement(self) -> None:
+        text, head = inner_text.statement("burst_seen")
+        self.assertIn("BurstIsSeen", head)
+        self.assertIn(head, text)
+        self.assertRaises(KeyError, inner_text.statement, "no_such_call")
+
+    def test_rests_on(self) -> None:
+        found = inner_text.rests_on(["burst_seen"])
+        self.assertIn(("ffv1_bits/specs/Parity.antt", "BurstIsSeen"), found)
+        self.assertIn(("ffv1_bits/specs/Bits.antt", "bits_of"), found)
+        self.assertNotIn(("ffv1_slice/specs/Near.antt", "NearFound"), found)
+
+    def test_reading_list(self) -> None:
+        page = inner_text.reading_list()
+        self.assertRegex(page, r"(?m)^- D, small damage: \d+ definitions, \d+ lines$")
+        self.assertRegex(page, r"(?m)^\| `ffv1_slice/specs/Near\.antt` \| .*`NearFound` \d+.* \| \w*D \|$")
+        self.assertEqual(inner_text.MADE.findall(f"a\n<!-- made -->\n{page}<!-- /made -->\n"), [page])

@@ -5,7 +5,7 @@ use Rattle.std.specs.List.{fold}
 use Rattle.ffv1_bits.specs.Bits.{bit_value}
 use Rattle.ffv1_bits.specs.Parity.{polynomial_of, parity_divisor, divided, remainder_of, remainder_by}
 use Rattle.ffv1_bits.specs.Inner.Division.{reduced_at}
-use Rattle.ffv1_bits.proofs.Divisors.{IsDivisor, reduced_by_shift, divided_by_is_fold, remainder_by_is_fold, reduced_by-xor, divided_by-xor, reduced_by_low, divided_by_low, shifted_by_small, fold_by_small, remainder_by_small, shifted_by_injective, fold_by_injective}
+use Rattle.ffv1_bits.proofs.Divisors.{IsDivisor, reduced_by_shift, divided_by_is_fold, remainder_by_is_fold, reduced_by-xor, divided_by-xor, reduced_by_low, divided_by_low, remainder_by_small, fold_by_injective}
 pub use Rattle.ffv1_bits.proofs.Divisors.{polynomial_small, polynomial_injective}
 
 pub is_divisor : IsDivisor parity_divisor
@@ -46,21 +46,9 @@ pub divided_low : (n p : ℕ) → p < 2 ^ 32 → divided n p ≡ p
 unfolding divided
 divided_low = divided_by_low parity_divisor
 
-pub shifted_small : (r : ℕ) (b : Bool) → r < 2 ^ 32 → shifted r b < 2 ^ 32
-unfolding shifted reduced_at
-shifted_small = shifted_by_small parity_divisor is_divisor
-
-pub fold_small : (r : ℕ) (bits : List Bool) → r < 2 ^ 32 → fold shifted r bits < 2 ^ 32
-unfolding shifted reduced_at
-fold_small = fold_by_small parity_divisor is_divisor
-
 pub remainder_small : (bits : List Bool) → remainder_of bits < 2 ^ 32
 unfolding remainder_of remainder_by divided
 remainder_small = remainder_by_small parity_divisor is_divisor
-
-pub shifted_injective : (r s : ℕ) (b : Bool) → shifted r b ≡ shifted s b → r ≡ s
-unfolding shifted reduced_at
-shifted_injective = shifted_by_injective parity_divisor is_divisor
 
 pub fold_injective : (r s : ℕ) (bits : List Bool) → fold shifted r bits ≡ fold shifted s bits → r ≡ s
 unfolding shifted reduced_at

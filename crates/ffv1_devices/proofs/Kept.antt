@@ -34,8 +34,3 @@ Keeps-of_nil None b c p q = tt
 Keeps-of_nil (Some x) None c p q = absurd p
 Keeps-of_nil (Some x) (Some y) None p q = absurd q
 Keeps-of_nil (Some x) (Some y) (Some z) p q = q ∙ append-nil y ∙ p
-
-pub Keeps-consumed_nil : (a b : Option (List ℕ)) → Consumes a b [] → Keeps a b
-Keeps-consumed_nil None b p = tt
-Keeps-consumed_nil (Some x) None p = absurd p
-Keeps-consumed_nil (Some x) (Some y) p = sym p

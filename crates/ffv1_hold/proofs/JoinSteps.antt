@@ -53,14 +53,6 @@ still given a b e g = subst (λ (x : Bool). WentBefore x a b) (sym e) g
 takes-after : (a b c : Devices) (i j k : ℕ × ℕ) → TakesAtMost a b i j → TakesAtMost b c j k → TakesAtMost a c i k
 takes-after a b c i j k p q = record { left' = omega (arith, p.left', q.left'); right' = omega (arith, p.right', q.right'); same = q.same ∙ p.same }
 
-pub AllGoOn-refl : (a : Devices) (i : ℕ × ℕ) → AllGoOn a a i i
-AllGoOn-refl a i = record {
-  left' = GoesOn-refl _;
-  right' = GoesOn-refl _;
-  sink' = GoesOn-refl _;
-  few = record { left' = omega arith; right' = omega arith; same = refl };
-}
-
 pub AllGoOn-trans : (a b c : Devices) (i j k : ℕ × ℕ) → AllGoOn a b i j → AllGoOn b c j k → AllGoOn a c i k
 AllGoOn-trans a b c i j k p q = record {
   left' = GoesOn-trans _ _ _ p.left' q.left';

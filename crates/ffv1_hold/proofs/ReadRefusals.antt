@@ -19,9 +19,6 @@ Takes-trans a b c i j k xs ys p q = record {
   within = q.within;
 }
 
-pub Takes-from : (a b : Option (List ℕ)) (i j k : ℕ) (xs : List ℕ) → i ≡ j → Takes a b i k xs → Takes a b j k xs
-Takes-from a b i j k xs same t = subst (λ n. Takes a b n k xs) same t
-
 -- an earlier call took xs
 module _ (P P' : List ℕ → Type 0) (a b c : Option (List ℕ)) (i j : ℕ) (xs : List ℕ) (t : Takes a b i j xs) (more : (s : List ℕ) → P s → P' (xs ++ s)) where
   taken_all : (s : List ℕ) → Consumes b c s → Consumes a c (xs ++ s)

@@ -1,11 +1,10 @@
 -- Reading text off a source, call after call.
 use Rattle.std.proofs.Common.{◌≡◌, ℕ, ◌+◌, ◌≤◌, List, [], ◌∷◌, ◌++◌, length, Bool, true, false, Result, Ok, Err, arith, inl, inr, subst, append-nil}
 use Rattle.std.specs.Prelude.{◌⊎◌}
-use Rattle.std.specs.Result.{IsErrOf}
 use Rattle.std.specs.Io.KnownBytes.{Consumes, IsAtEnd}
 use Rattle.std.proofs.KnownBytes.{Consumes-trans}
 use Rattle.ffv1_bits.specs.Limits.{file_limit}
-use Rattle.ffv1_devices.specs.Logs.{Tries, ReadLog, GoesOn, Reads, BreaksOff, HasFailed}
+use Rattle.ffv1_devices.specs.Logs.{Tries, ReadLog, GoesOn, Reads, BreaksOff}
 use Rattle.ffv1_devices.proofs.Steps.{GoesOn-refl, GoesOn-trans, GivesUp-after}
 use Rattle.ffv1_hold.specs.declared.file_fault.HoldFileFault.{HoldFileFault}
 use Rattle.ffv1_hold.specs.declared.file_fault.HoldFileFault.TheVariants as faults
@@ -150,9 +149,3 @@ StopsAt-part P P' Q a b i f fits r p =
     StopsAt-after P P' Never Never Never Q a a b i i [] (TakesText-nil a i fits) f r p (λ f s h. h) (λ f s h. absurd h)
 
 -- ---- what is derived
-
--- `Read` is returned only if the source counted a failure
-pub HasFailed-read : {T : Type 0} (f : HoldFileFault) (a b : Tries) → WentBefore (is_read f) a b → IsErrOf {T = T} (Err f) faults.Read → HasFailed a.failures b.failures
-HasFailed-read f a b w is =
-    let same : f ≡ faults.Read = cc in
-    (subst (λ f. WentBefore (is_read f) a b) same w).failed

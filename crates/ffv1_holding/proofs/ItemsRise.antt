@@ -1,7 +1,6 @@
 -- A set lists its items in rising order, and an item above all others comes last.
 use Rattle.std.proofs.Common.{◌≡◌, ℕ, zero, suc, ◌-◌, ◌<◌, Bool, true, false, ◌&&◌, List, [], ◌∷◌, ◌++◌, length, map, get_or, sym, refl, ap, subst, ◌∙◌, inl, inr, arith, length-append}
 use Rattle.std.specs.Prelude.{T}
-use Rattle.std.specs.List.{AllByRecursion}
 use Rattle.std.specs.Ordering.{is_lt}
 use Rattle.std.specs.Cmp.{IsTotalOrder}
 use Rattle.std.specs.FinMap as finite
@@ -83,8 +82,3 @@ module _ {K : Type 0} {R : K → K → Ordering} (o : IsTotalOrder R) (same : Is
       let up = rising-append R (items s) (e ∷ []) (items-rising s) (rising_one R e)
       (λ i j d lt here. subst (λ k. R (get_or (items s) i d) (get_or (e ∷ []) k d) ≡ Less) {x = 0} {y = j} (omega arith) (below i d lt)) in
       ap items (sym (from_list-push s e)) ∙ items-from_list o (items s ++ e ∷ []) up
-
--- what holds of each item by its place holds of all
-pub all_by_recursion : {X : Type 0} (P : X → Type 0) (xs : List X) → ((i : ℕ) (d : X) → i < length xs → P (get_or xs i d)) → AllByRecursion P xs
-all_by_recursion P [] each = tt
-all_by_recursion P (x ∷ xs) each = (each 0 x (omega arith), all_by_recursion P xs (λ i d lt. each (suc i) d (omega arith)))

@@ -79,13 +79,6 @@ row_of across i j h = div-eq_of_lt-le {k = j} across {m = j * across + i} (omega
 pub row_below : (across down t : ℕ) → 0 < across → t < across * down → t / across < down
 row_below across down t some h = (div-lt_iff_lt-mul {k = across} {x = t} {y = down} some).1 (omega arith)
 
--- a row and a column of tiles are no longer than all tiles together
-pub few_across : (g : GridValue) → IsGrid g → g.across ≤ most_tiles
-few_across g grid = let most : g.across * 1 ≤ g.across * g.down = mul-le-mul_left g.across grid.some_down in omega (arith, grid.few_tiles)
-
-pub few_down : (g : GridValue) → IsGrid g → g.down ≤ most_tiles
-few_down g grid = let most : 1 * g.down ≤ g.across * g.down = mul-le-mul_right {m = 1} {n = g.across} g.down grid.some_across in omega (arith, grid.few_tiles)
-
 pub number_below : (across down i j : ℕ) → i < across → j < down → j * across + i < across * down
 number_below across down i j h k =
     let most : (j + 1) * across ≤ down * across = mul-le-mul_right {m = j + 1} {n = down} across (omega arith) in omega arith

@@ -172,18 +172,6 @@ to_z-count n few = to_z-small n (omega arith)
 pub count_fits : (n : ℕ) → n ≤ 128 → SFits w32 (pos n)
 count_fits n few = SFits-small (pos n) (omega (arith, ints)) (omega (arith, ints))
 
-zero-less : (n : ℕ) → pos 0 -ℤ pos n ≡ neg_ℤ (pos n)
-zero-less n = omega (arith, ints)
-
-less_fits : (n : ℕ) → n ≤ 128 → SFits w32 (neg_ℤ (pos n))
-less_fits n few = SFits-small (neg_ℤ (pos n)) (omega (arith, ints)) (omega (arith, ints))
-
-pub count_less_fits : (n : ℕ) → n ≤ 128 → SFits w32 (pos 0 -ℤ to_z w32 n)
-count_less_fits n few = rw (to_z-count n few, zero-less n) (less_fits n few)
-
-count_less_is : (n : ℕ) → n ≤ 128 → to_z w32 (of_z w32 (pos 0 -ℤ to_z w32 n)) ≡ neg_ℤ (pos n)
-count_less_is n few = rw (to_z-count n few, zero-less n) (to_z-of_z w32 (neg_ℤ (pos n)) (less_fits n few))
-
 -- a count moved over to the other side of a test
 moved_le : (x y : ℤ) (b : Bool) → int_le (x +ℤ y) (pos 0) ≡ b → b ≡ int_le x (neg_ℤ y)
 moved_le x y true is = omega (arith, ints)

@@ -1,12 +1,4 @@
-"""The table of definitions in docs/MAP.md, made of the files of specs/: a row for each file that defines something.
-
-- Its notion is the first sentence of the comment that the file begins with.
-- Its names, in the order in which the file defines them, are those that are cited elsewhere: by a contract of a public call, by a
-  definition in another file of which some name is cited so, or by the glossary for a term. Of a file that only private functions and
-  proofs cite there is none.
-- Its sections are those that its first comment names. Where that names none, they are those of its other comments, and the file is own too.
-  What the comments don't say stands below.
-"""
+"""The definitions of specs/: which there are, what each file cites, and what contracts of public calls cite of them."""
 from __future__ import annotations
 
 import pathlib
@@ -16,31 +8,6 @@ import typing
 TOP = pathlib.Path(__file__).resolve().parent.parent
 # The folder in a crate's specs for definitions that no contract of a public call reaches.
 INNER = "Inner"
-HEAD = "| Notion | Name | File | RFC 9043 (own: not from it) |\n|---|---|---|---|\n"
-
-# The sections of files whose comments name none, and the files that name some and have own notions too.
-SECTIONS = {
-    "ffv1_bits/specs/Bits.antt": "bit order of its bitstream",
-    "ffv1_bits/specs/Reader.antt": "bit order of its bitstream",
-    "ffv1_weave/specs/Combinations.antt": "4.9, own",
-    "ffv1_splice/specs/Whole.antt": "4.9, own",
-    "ffv1_holding/specs/Reels.antt": "4.3, own",
-}
-OWN = {
-    "ffv1_bits/specs/Parity.antt",
-    "ebml_crc/specs/Element.antt",
-    "ffv1_range/specs/Setup.antt",
-    "ffv1_range/specs/SetupForms.antt",
-    "ffv1_range/specs/Tables.antt",
-    "ffv1_plane/specs/Stuck.antt",
-    "ffv1_slice/specs/Chain.antt",
-    "ffv1_splice/specs/Pieces.antt",
-    "ffv1_scan/specs/Verdicts.antt",
-    "ffv1_picture/specs/TilePictures.antt",
-}
-
-# Names of definitions, by the path of their file below crates/.
-Cited = typing.Dict[str, typing.Set[str]]
 
 
 def source(path: str) -> str:
@@ -52,39 +19,6 @@ def names_defined(text: str) -> typing.List[str]:
     # what is indented is in a module within the file, if it is no field of a record
     found = re.findall(r"^(?: *(?:abbrev|unfoldable) pub|pub(?: data| record)?) (?!(?:mod|use|data|record) )(\S+)", text, re.M)
     return list(dict.fromkeys(found))
-
-
-def comments(text: str) -> typing.List[str]:
-    """The comments of a file, each as one line: first the one that it begins with, which is empty if there is none."""
-    blocks = re.findall(r"(?:^ *--.*\n)+", text, re.M)
-    joined = [" ".join(re.sub(r"^ *--+", "", block, flags=re.M).split()) for block in blocks]
-    return joined if text.startswith("--") else ["", *joined]
-
-
-def notion_of(comment: str) -> str:
-    """The first sentence, without what the table says of its sections."""
-    sentence = re.split(r"\.(?= [A-Z]|$)", comment)[0]
-    return re.sub(r" \((?:own|(?:RFC \d+, )?sections? [\d.]+(?:(?:,| to| and|, and) [\d.]+)*)\)", "", sentence)
-
-
-def sections_in(comment: str) -> typing.List[str]:
-    """The sections that a comment names: those of RFC 9043 by their number alone, those of another standard after its name."""
-    if "section" not in comment:
-        return []
-    standard, found = "RFC 9043", []
-    for other, section in re.findall(r"(RFC \d+|IEEE \d+\.\d+)|(\d+(?:\.\d+)+(?: to \d+(?:\.\d+)+)?)", comment):
-        standard = other or standard
-        if section:
-            found.append(section if standard == "RFC 9043" else f"{standard}, {section}")
-    return list(dict.fromkeys(found))
-
-
-def sections_of(path: str, text: str) -> str:
-    first, *others = comments(text)
-    named = sections_in(first)
-    own = not named or path in OWN or bool(re.search(r"\(own\b|; own:|\bis own\b", first))
-    named = named or list(dict.fromkeys(section for comment in others for section in sections_in(comment)))
-    return SECTIONS.get(path) or ", ".join(named + ["own"] * own)
 
 
 def crates() -> typing.List[str]:
@@ -160,22 +94,6 @@ def contracts(text: str, public: typing.Set[str]) -> typing.Iterator[str]:
         yield item
 
 
-def cited(terms: Cited) -> Cited:
-    """The names that stand for a file elsewhere. `terms` are those of the glossary."""
-    found: Cited = {}
-    rest = list(cited_by_contracts())
-    while rest:
-        path, name = rest.pop()
-        if path not in found:
-            text = source(path)
-            body = re.sub(r"--.*", "", re.sub(r"^use .*", "", text, flags=re.M))
-            rest.extend(citations(text, body))
-        found.setdefault(path, set()).add(name)
-    for path, names in terms.items():
-        found.setdefault(path, set()).update(names)
-    return found
-
-
 def cited_by_contracts() -> typing.Iterator[typing.Tuple[str, str]]:
     for crate in crates():
         public = exported(crate)
@@ -185,32 +103,9 @@ def cited_by_contracts() -> typing.Iterator[typing.Tuple[str, str]]:
                 yield from citations(text, contract)
 
 
-def rows(terms: Cited) -> typing.Iterator[str]:
-    found = cited(terms)
-    for path in files():
-        text = source(path)
-        names = [f"`{name}`" for name in names_defined(text) if name in found.get(path, ())]
-        yield f"| {notion_of(comments(text)[0])} | {', '.join(names) or 'none'} | `{path}` | {sections_of(path, text)} |\n"
-
-
-def table(terms: Cited) -> str:
-    return HEAD + "".join(rows(terms))
-
-
-def table_in(page: str) -> str:
-    """The table that stands in the map, from its head to its last row; empty if there is none."""
-    found = re.search(re.escape(HEAD) + r"(?:\|.*\n)*", page)
-    return found.group() if found else ""
-
-
 def faults() -> typing.Iterator[str]:
-    """What keeps the table from being made as it should be."""
+    """Files of specs that no module lists, or that don't begin with a line that says what they define."""
     listed = files()
     there = {str(path.relative_to(TOP / "crates")) for path in TOP.glob("crates/*/specs/*.antt") if path.stem not in ("Lib", INNER)}
     yield from (f"{path} is not among the modules of its crate's specs/Lib.antt" for path in sorted(there - set(listed)))
-    yield from (f"{path} does not begin with a sentence that says its notion" for path in listed if not comments(source(path))[0])
-    yield from (f"tests/map_text.py has a section of a file that is not there: {path}" for path in sorted({*SECTIONS, *OWN} - there))
-    for path in sorted(there):
-        first, *others = (bool(sections_in(comment)) for comment in comments(source(path)))
-        if path in SECTIONS and (first or any(others)) or path in OWN and not first:
-            yield f"tests/map_text.py has a section of {path} that its comments do without"
+    yield from (f"{path} does not begin with a line that says its notion" for path in listed if not source(path).startswith("-- "))

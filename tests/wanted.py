@@ -1,0 +1,185 @@
+"""What each command has to report, print and make of its files, by tests/readings.py."""
+import readings
+
+
+class Wanted:
+    """What is known of a run's result: its status, output, made file and line of fault, each None where it is not known, the line
+    also a tuple of those that may be; and whether an output and a file fit what is known of them besides."""
+
+    def __init__(self, status=None, printed=None, made=None, reported=None, fits=lambda printed, made: True):
+        self.status, self.printed, self.made, self.reported, self.fits = status, printed, made, reported, fits
+
+
+def fault_wanted(fault, kind):
+    return Wanted(1, b"", reported=f"{kind} fault {fault.args[0]}")
+
+
+def wanted_chain(one):
+    found, broken = readings.links(one.payloads[0])
+    lines = []
+    for start, piece in found:
+        judged = "pass" if readings.passes(piece) else "fail"
+        lines.append(f"{start}..{start + len(piece)} size {len(piece) - 8} status {piece[-5]} {judged}\n")
+    lines.append("end whole\n" if broken is None else f"end broken at {broken}\n")
+    return Wanted(0, "".join(lines).encode())
+
+
+def with_setup(wanted):
+    """What is wanted of a command whose record is judged first."""
+
+    def judged(one):
+        try:
+            setup = readings.setup_of(one.record, one.size)
+        except readings.Fault as fault:
+            return fault_wanted(fault, "setup")
+        return Wanted() if setup is None else wanted(one, setup)
+
+    return judged
+
+
+def wanted_show(_, setup):
+    return Wanted(0, readings.setup_text(setup))
+
+
+def wanted_take(one, setup):
+    held, lines = {}, ""
+    for number, payload in enumerate(one.payloads, 1):
+        found = readings.found_slices(setup, payload)
+        lines += f"copy {number} links {len(readings.links(payload)[0])} slices {len(found)} new {len(set(found) - set(held))}\n"
+        held = readings.united(held, readings.taken(setup, payload))
+    return Wanted(0, lines.encode(), readings.holding_text(one.record, one.size, held))
+
+
+def wanted_decode(one, setup):
+    found, broken = readings.links(one.payloads[0])
+    for name, frame in one.recording.frames.items():
+        samples = one.recording.planes.get(name.replace("frame", "planes"))
+        if samples and (frame, one.record, one.size) == (one.payloads[0], one.recording.record, one.recording.size):
+            return Wanted(0, made=samples)
+    if broken is not None or len(found) != readings.tiles_of(setup):
+        return Wanted(1, b"", reported="frame fault 1")
+    for place, (start, piece) in enumerate(reversed(found)):
+        tile = readings.tile_of(setup, piece, start == 0)
+        if tile != place:
+            return Wanted(1, b"", reported=f"frame fault {2 if tile is None else 3} at {place}")
+    return Wanted()
+
+
+def wanted_join(one):
+    held, lines, first = {}, "", None
+    for number, text in enumerate(one.texts, 1):
+        read = readings.read_holding(text)
+        if read is None:
+            return Wanted()
+        first = first or read[:2]
+        if read[:2] != first:
+            return Wanted(1, b"", reported="hold fault 1")
+        lines += f"file {number} new {len(set(read[3]) - set(held))}\n"
+        held = readings.united(held, read[3])
+    return Wanted(0, lines.encode(), readings.holding_text(*first, held))
+
+
+def heads(one):
+    """The bytes of both files of `merge` after their version, up to the end of their records."""
+    return [text[8 : 20 + int.from_bytes(text[16:20], "big")] for text in (one.texts[0], one.texts[-1])]
+
+
+def wanted_merge(one):
+    """Either file's fault may come first, and another reel of two heads before a fault after them."""
+    read, faults = [], []
+    for text in (one.texts[0], one.texts[-1]):
+        try:
+            read.append(readings.read_holding(text))
+        except readings.Fault as fault:
+            faults.append(f"holding file fault {fault.args[0]}")
+    if None in read:
+        return Wanted()
+    left, right = heads(one)
+    if left != right:
+        faults.append("holding file fault 12")
+    if faults:
+        return Wanted(1, b"", reported=tuple(faults))
+    return Wanted(0, b"", readings.holding_text(*read[0][:2], readings.united(read[0][3], read[1][3])))
+
+
+def wanted_report(_, record, size, setup, held):
+    return Wanted(0, readings.report_text(size, held, readings.tiles_of(setup)))
+
+
+def wanted_restore(_, record, size, setup, held):
+    stand = readings.standing(held, readings.tiles_of(setup))
+    for tile, pieces in enumerate(stand):
+        if len(pieces) != 1:
+            return Wanted(1, b"", reported=f"{'disputed' if pieces else 'missing'} tile {tile}")
+    payload = b"".join(pieces[0] for pieces in stand)
+    return Wanted(0, f"restored {len(payload)} bytes\n".encode(), payload)
+
+
+def wanted_picture(_, record, size, setup, held):
+    stand = readings.standing(held, readings.tiles_of(setup))
+    open_tiles = {tile: "disputed {}".format(len(pieces)) if pieces else "missing" for tile, pieces in enumerate(stand) if len(pieces) != 1}
+
+    def fits(printed, made):
+        lines = [line.split(" ", 2) for line in printed.decode().splitlines()]
+        reported = {int(tile): how for _, tile, how in lines}
+        readable = {tile: how for tile, how in reported.items() if not how.startswith("fault plane ")}
+        return readable == open_tiles and list(reported) == sorted(reported) and len(made) == readings.samples_of(setup, size)
+
+    return Wanted(3 if open_tiles else None, fits=fits)
+
+
+def wanted_splice(one):
+    copies = [one.payloads[number] for number in one.order]
+    for number, copy in zip(one.order, copies):
+        if len(copy) != len(copies[0]):
+            return Wanted(1, b"", reported=f"cannot splice frame-{number}")
+    payload, lines, status = readings.spliced(copies)
+    return Wanted(status, lines, payload)
+
+
+def wanted_scan(one):
+    printed, status, reported = readings.scanned(one.list, one.reel)
+    return Wanted(status, printed, reported=reported)
+
+
+def wanted_mend(one):
+    made, printed, status, reported = readings.mended(one.list, [(f"frame-{number}", one.payloads[number]) for number in one.order])
+    return Wanted(status, printed, made, reported)
+
+
+def with_holding(wanted):
+    """What is wanted of a command on one holding file."""
+
+    def judged(one):
+        read = readings.read_holding(one.texts[0])
+        return Wanted() if read is None else wanted(one, *read)
+
+    return judged
+
+
+def with_files(wanted):
+    """What is wanted of a command that stops at the first fault of a holding file."""
+
+    def judged(one):
+        try:
+            return wanted(one)
+        except readings.Fault as fault:
+            return fault_wanted(fault, "holding file")
+
+    return judged
+
+
+WANTED = {
+    "chain": wanted_chain,
+    "show": with_setup(wanted_show),
+    "take": with_setup(wanted_take),
+    "join": with_files(wanted_join),
+    "merge": wanted_merge,
+    "report": with_files(with_holding(wanted_report)),
+    "restore": with_files(with_holding(wanted_restore)),
+    "picture": with_files(with_holding(wanted_picture)),
+    "decode": with_setup(wanted_decode),
+    "splice": wanted_splice,
+    "scan": wanted_scan,
+    "mend": wanted_mend,
+}
