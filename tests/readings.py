@@ -16,10 +16,12 @@ MAGIC = b"FFV1HLD"
 Setup = collections.namedtuple("Setup", "micro chroma shifts grid contexts intra")
 
 
+# FORMAT: The holding file
 class Fault(Exception):
     """A number that can't be read, or a holding file's fault with its number."""
 
 
+# FORMAT: Parity
 def parity(piece):
     """The remainder of some bytes followed by four bytes of 0: zlib's, whose bits are the other way round, from 0 and without
     its inversions. It is 0 exactly where that of the bytes alone is."""
@@ -27,15 +29,18 @@ def parity(piece):
     return int(f"{register:032b}"[::-1], 2)
 
 
+# FORMAT: Parity
 def with_parity(content):
     return content + parity(content).to_bytes(4, "big")
 
 
+# FORMAT: Footers
 def sliced(content, status):
     """A slice of this content, whose footer fits it."""
     return with_parity(content + (len(content) & 0xFFFFFF).to_bytes(3, "big") + bytes([status]))
 
 
+# FORMAT: The chain of a payload
 def links(payload):
     """The links of a payload from its end, each as its first byte's place and its bytes, and where the chain breaks, or None."""
     found, end = [], len(payload)
@@ -48,10 +53,12 @@ def links(payload):
     return found, end or None
 
 
+# FORMAT: Parity
 def passes(piece):
     return len(piece) >= 8 and parity(piece) == 0
 
 
+# FORMAT: Range coding
 def transitions():
     """The state after a 1, by the recipe that the default table was made with: a step towards 1 of a twentieth."""
     one, factor, table = 1 << 32, int(0.05 * 2**32), [0] * 256
@@ -73,6 +80,7 @@ def transitions():
 AFTER_ONE = transitions()
 
 
+# FORMAT: Range coding
 class Coder:
     """A range decoder. After a record's content it reads zeros, after a slice's header nothing: then it is not closed."""
 
@@ -116,6 +124,7 @@ class Coder:
         return -value if signed and self.bit(row, 11 + min(highest, 10)) else value
 
 
+# FORMAT: The configuration record
 def table_runs(coder, scale):
     """Reads a table of a set, and returns the scale after it."""
     row, filled, runs = [128] * 32, 0, 0
@@ -130,11 +139,13 @@ def table_runs(coder, scale):
     return scale
 
 
+# FORMAT: The configuration record
 def judge(holds, number):
     if not holds:
         raise Fault(number)
 
 
+# FORMAT: The configuration record
 def read_front(coder, row, size):
     """What a record has before its tables: micro_version, planes and shifts, and the grid."""
     judge(coder.number(row) == 3, 4)
@@ -154,6 +165,7 @@ def read_front(coder, row, size):
     return micro, chroma, shifts if chroma else [0, 0], grid
 
 
+# FORMAT: The configuration record
 def read_deltas(coder, row, contexts):
     """Passes over the deltas of all sets. Answers whether they are few enough to be read here."""
     rows = [[128] * 32 for _ in range(32)]
@@ -166,6 +178,7 @@ def read_deltas(coder, row, contexts):
     return True
 
 
+# FORMAT: The configuration record
 def read_tables(coder, row):
     """The contexts of each set of tables."""
     sets = coder.number(row)
@@ -179,6 +192,7 @@ def read_tables(coder, row):
     return contexts
 
 
+# FORMAT: The configuration record
 def setup_of(record, size):
     """The setup of a record, or Fault with the number of its first fault; None where its deltas are too many to be read here."""
     judge(len(record) >= 6, 1)
@@ -196,16 +210,19 @@ def setup_of(record, size):
         raise Fault(*(fault.args or [3])) from None
 
 
+# FORMAT: Tiles
 def tiles_of(setup):
     return setup.grid[0] * setup.grid[1]
 
 
+# FORMAT: Tiles
 def samples_of(setup, size):
     """How many samples a frame has, in all its planes."""
     chroma = [-(-side >> shift) for side, shift in zip(size, setup.shifts)]
     return size[0] * size[1] + 2 * bool(setup.chroma) * chroma[0] * chroma[1]
 
 
+# man page: show
 def setup_text(setup):
     """What `show` prints."""
     lines = [
@@ -219,6 +236,7 @@ def setup_text(setup):
     return "".join(line + "\n" for line in lines).encode()
 
 
+# FORMAT: Slice headers
 def tile_of(setup, piece, first):
     """The tile of which some bytes are a slice, or None."""
     if not passes(piece) or int.from_bytes(piece[-8:-5], "big") != len(piece) - 8:
@@ -239,24 +257,28 @@ def tile_of(setup, piece, first):
     return tile if first == (tile == 0) else None
 
 
+# FORMAT: Slices of a payload
 def found_slices(setup, payload):
     """The slices found in a payload, each with its tile, in the chain's order."""
     found = [(tile_of(setup, piece, start == 0), piece) for start, piece in links(payload)[0]]
     return [each for each in found if each[0] is not None]
 
 
+# FORMAT: Holdings
 def best(pieces):
     """Of some slices those that have the least error status."""
     least = min((piece[-5] for piece in pieces), default=None)
     return [piece for piece in pieces if piece[-5] == least]
 
 
+# FORMAT: Holdings
 def taken(setup, payload):
     """What a copy adds to a holding: the slices found in it, each with its tile and the copy's digest."""
     digest = hashlib.sha256(payload).digest()
     return {each: {digest} for each in found_slices(setup, payload)}
 
 
+# FORMAT: Holdings
 def united(*holdings):
     """The slices of all, each with the digests that any of them has of it."""
     held = {}
@@ -266,6 +288,7 @@ def united(*holdings):
     return held
 
 
+# FORMAT: Holdings
 def by_tile(held, tiles):
     """The slices of each tile."""
     found = [[] for _ in range(tiles)]
@@ -274,28 +297,33 @@ def by_tile(held, tiles):
     return found
 
 
+# FORMAT: Holdings
 def standing(held, tiles):
     """How each tile stands: its slices of the least status."""
     return [best(pieces) for pieces in by_tile(held, tiles)]
 
 
+# FORMAT: The holding file
 def entry_text(tile, piece, origins, version=2):
     """An entry of a holding file; one of version 1 has no origins."""
     text = b"\x01" + tile.to_bytes(2, "big") + len(piece).to_bytes(4, "big") + piece
     return text if version == 1 else text + len(origins).to_bytes(4, "big") + b"".join(origins)
 
 
+# FORMAT: The holding file
 def file_text(record, size, entries, version=2):
     """A holding file with these texts of entries."""
     head = b"".join(number.to_bytes(4, "big") for number in (*size, len(record)))
     return MAGIC + bytes([version]) + head + record + b"".join(entries) + b"\x00"
 
 
+# FORMAT: The holding file
 def holding_text(record, size, held, version=2):
     """The file of a holding: of its slices, each with its tile, and the digests of each."""
     return file_text(record, size, (entry_text(*each, sorted(held[each]), version) for each in sorted(held)), version)
 
 
+# man page: report
 def report_text(size, held, tiles):
     """The report of a holding."""
     lines, count = [f"reel {size[0]}x{size[1]} tiles {tiles}"], [0, 0, 0]
@@ -317,6 +345,7 @@ def report_text(size, held, tiles):
     return "".join(line + "\n" for line in lines).encode()
 
 
+# FORMAT: The holding file
 def read_holding(text):
     """The record, size, setup and slices of a holding file, each with its tile and digests, or Fault with the first fault's number;
     None where the record's deltas are too many to be read here."""
@@ -334,6 +363,7 @@ def read_holding(text):
     return setup and (record, size, setup, read_entries(setup, text, 20 + length))
 
 
+# FORMAT: The holding file
 def read_entries(setup, text, place):
     """The entries of a holding file from a place on."""
     held, last = {}, None
@@ -354,6 +384,7 @@ def read_entries(setup, text, place):
     return held
 
 
+# FORMAT: The holding file
 def read_origins(text, place):
     """The digests after an entry's slice, and the place after them."""
     count = int.from_bytes(text[place : place + 4], "big")
@@ -376,6 +407,7 @@ MOST_COMBINATIONS, GREATEST_DISTANCE, MOST_REPAIRS, MOST_CROSSED = 4096, 64, 1 <
 DISTANCES = [0, 2, 8, GREATEST_DISTANCE]
 
 
+# FORMAT: Splicing copies of one length
 def claimed_starts(copies, end):
     """Each copy whose footer there gives a start, with it: one of size 0 gives none, nor one of more bytes than come before it."""
     for copy in copies:
@@ -384,6 +416,7 @@ def claimed_starts(copies, end):
             yield copy, end - 8 - size
 
 
+# FORMAT: Weaving versions of a slice
 def differing(versions):
     """The places at which byte strings of one length differ."""
     first, *others = (int.from_bytes(version, "big") for version in versions)
@@ -393,7 +426,8 @@ def differing(versions):
     return [place for place, differs in enumerate(differences.to_bytes(len(versions[0]), "big")) if differs]
 
 
-def seams(versions, distance):
+# FORMAT: Weaving versions of a slice
+def boundaries(versions, distance):
     """The places at which a streak of some two versions begins, and those after which one ends: these two differ there, and are alike in as
     many bytes before it, or after it, as the distance. So the versions have fewer byte strings there without the place than with it."""
     found = set()
@@ -406,6 +440,7 @@ def seams(versions, distance):
     return found
 
 
+# FORMAT: Weaving versions of a slice
 def ends_of_regions(versions):
     """Both ends of each region: places at which versions differ are of one region if they follow each other closely enough."""
     places = differing(versions)
@@ -413,28 +448,33 @@ def ends_of_regions(versions):
     return {places[number] for number in far} | {places[number - 1] + 1 for number in far} if places else set()
 
 
+# FORMAT: Weaving versions of a slice
 def splits(versions):
-    """The places at which some versions are split, from the finest to the coarsest: their seams at each distance, and the ends of their
+    """The places at which some versions are split, from the finest to the coarsest: their boundaries at each distance, and the ends of their
     regions."""
-    yield from (seams(versions, distance) for distance in DISTANCES)
+    yield from (boundaries(versions, distance) for distance in DISTANCES)
     yield ends_of_regions(versions)
 
 
+# FORMAT: Weaving versions of a slice
 def choices(versions, places):
     """For each part of some versions between two places at which they are split, the different bytes that they have there."""
     bounds = sorted({0, len(versions[0])} | places)
     return [{version[start:end] for version in versions} for start, end in itertools.pairwise(bounds)]
 
 
+# FORMAT: Footers
 def is_slice(piece):
     return passes(piece) and int.from_bytes(piece[-8:-5], "big") == len(piece) - 8
 
 
+# FORMAT: Footers
 def sized(version):
     """The bytes with the size field of a slice as long as they are."""
     return version[:-8] + (len(version) - 8).to_bytes(3, "big") + version[-5:]
 
 
+# FORMAT: Weaving versions of a slice
 def combinations(versions):
     """How many combinations some versions have where they are split as finely as can be tried, and these; none of them where there are too
     many however they are split."""
@@ -447,24 +487,27 @@ def combinations(versions):
     return number, ()
 
 
+# FORMAT: Weaving versions of a slice
 def woven(versions, is_valid):
     """How many combinations some versions have, and those that are valid."""
     number, wholes = combinations(versions)
     return number, [whole for whole in wholes if is_valid(whole)]
 
 
+# FORMAT: What most versions of a slice have
 def most_common(versions, start, end):
     """The byte strings that most of some different versions have between two places."""
     counts = collections.Counter(version[start:end] for version in versions)
     return {piece for piece, count in counts.items() if count == max(counts.values())}
 
 
+# FORMAT: What most versions of a slice have
 def voted(versions):
     """How many byte strings have in each segment what most versions have there, at each distance at which they are few enough to be tried; and
     those that are slices. Fewer than three different versions do not vote."""
     distinct, number, found = sorted(set(versions)), 0, set()
     for distance in DISTANCES if len(distinct) > 2 else ():
-        bounds = sorted({0, len(distinct[0])} | seams(distinct, distance))
+        bounds = sorted({0, len(distinct[0])} | boundaries(distinct, distance))
         most = [most_common(distinct, start, end) for start, end in itertools.pairwise(bounds)]
         count = math.prod(map(len, most))
         if count <= MOST_COMBINATIONS:
@@ -478,6 +521,7 @@ DIVISOR = 0x104C11DB7
 CHANGES = [parity(b"\x01")]
 
 
+# FORMAT: Parity
 def changes_of_bits(bits):
     """What each of so many bits changes of the parity, the last bit first."""
     while len(CHANGES) < bits:
@@ -486,6 +530,7 @@ def changes_of_bits(bits):
     return CHANGES[:bits]
 
 
+# FORMAT: Repairing a slice with one wrong bit
 def repaired(versions):
     """How many byte strings are a combination of some versions with one bit inverted, and those that are slices. None are looked for where
     there are too many."""
@@ -501,11 +546,13 @@ def repaired(versions):
     return number * bits, {piece for piece in found if is_slice(piece)}
 
 
+# FORMAT: Splicing copies of one length
 def pieces_that_end(copies, end):
     """The different pieces that end there: the footer that ends there in a copy gives where one begins, and it passes."""
     return {piece for piece in {copy[start:end] for copy, start in claimed_starts(copies, end)} if passes(piece)}
 
 
+# FORMAT: Splicing copies of one length
 def pieces_that_begin(copies, start, top):
     """Of the pieces that begin there and end at the top or before it, the different ones that end first."""
     for end in range(start + 9, top + 1):
@@ -515,6 +562,7 @@ def pieces_that_begin(copies, start, top):
     return set()
 
 
+# FORMAT: Splicing copies of one length
 def settled_down(copies):
     """The only piece that ends at the copies' end, the one that ends where it begins, and so on; and where the first of them begins."""
     found, end = [], len(copies[0])
@@ -524,6 +572,7 @@ def settled_down(copies):
     return found, end
 
 
+# FORMAT: Splicing copies of one length
 def settled_up(copies, top):
     """The only shortest piece that begins at the copies' start, the one that begins where it ends, and so on, as long as no other piece
     ends where it ends; and where the last ends. None goes past the top. Where that stops, it goes on over slices that are lost in all copies:
@@ -541,6 +590,7 @@ def settled_up(copies, top):
     return found, start
 
 
+# FORMAT: Splicing copies of one length
 def lost_place(copies):
     """The place at the copies' start of a slice that is lost in all of them: no piece begins there, and one end alone is claimed, at which no
     piece ends, but one begins. None where it is not so."""
@@ -557,6 +607,7 @@ def lost_place(copies):
     return place_before(copies, end)
 
 
+# FORMAT: Splicing copies of one length
 def place_before(copies, end):
     """The place that ends there: how it stands, and the bytes that stand there; None where what lies before it can't be divided."""
     pieces, starts = pieces_that_end(copies, end), {start for _, start in claimed_starts(copies, end)}
@@ -583,6 +634,7 @@ def place_before(copies, end):
     return "missing", versions[0]
 
 
+# FORMAT: Splicing copies of one length
 def divided(copies):
     """What lies between the two walks, from its end: how each place stands and its bytes; and how many bytes can't be divided."""
     found, end = [], len(copies[0])
@@ -592,6 +644,7 @@ def divided(copies):
     return found, end
 
 
+# FORMAT: Splicing copies of one length
 class Splice:
     """Copies of one length put together: the places from their end, each as its start, its end and how it stands; where the front
     that can't be divided ends; and the payload."""
@@ -619,11 +672,13 @@ class Splice:
         return not self.front and all(is_sure(stands) for _, _, stands in self.places)
 
 
+# FORMAT: Splicing copies of one length
 def is_sure(stands):
     """Whether a place that stands so is settled or woven."""
     return stands.split()[0] in ("settled", "woven")
 
 
+# FORMAT: Splicing copies of one length
 def spliced(copies):
     """What `splice` makes of copies of one length: the payload, the lines that it prints, and its exit status."""
     splice = Splice(copies)
@@ -631,6 +686,7 @@ def spliced(copies):
     return splice.payload, "".join([*lines, splice.end, "\n"]).encode(), 0 if splice.given_back() else 3
 
 
+# FORMAT: Ranges of a file
 def ranges_of(text):
     """The ranges that a list gives, each as its place and size; a fault has the number of the first wrong line."""
     lines, ranges, end = text.split(b"\n"), [], 0
@@ -644,6 +700,7 @@ def ranges_of(text):
     return ranges
 
 
+# FORMAT: Ranges of a file
 def scanned(text, content):
     """What `scan` prints of the ranges of some content, its exit status, and its fault, where the file has the name `reel`."""
     try:
@@ -671,6 +728,7 @@ Stretch = collections.namedtuple("Stretch", "kind size source places parts")
 Outcome = collections.namedtuple("Outcome", "state bytes splices")
 
 
+# FORMAT: Stretches of a file
 class Sound(collections.namedtuple("Sound", "state payload")):
     """What becomes of a part that is a frame of FLAC: its state, and the version that passes or None."""
 
@@ -678,12 +736,14 @@ class Sound(collections.namedtuple("Sound", "state payload")):
         return self.payload is not None
 
 
+# FORMAT: Ranges of a file
 def number_of(word):
     """The number that some digits spell, or None where it is not under 2^64 or there are other characters."""
     digits = re.fullmatch(rb"0*([0-9]{1,20})", word)
     return int(digits.group(1)) if digits and int(digits.group(1)) < 1 << 64 else None
 
 
+# FORMAT: A list of stretches
 def stretch_of(words, copies, ends):
     """The stretch of a line of a list for so many copies, whose stretches so far end at these places; None where it is none."""
     if len(words) != 3 + copies or words[0] not in (b"frame", b"crc32", b"record", b"flac", b"plain"):
@@ -699,6 +759,7 @@ def stretch_of(words, copies, ends):
     return Stretch(words[0].decode(), size, source, places, [])
 
 
+# FORMAT: A list of stretches
 def part_of(words, stretch):
     """The part of a line of a list, as its offset and its size, and `flac` where it is a frame of FLAC, after this stretch with its parts so
     far; None where it is none."""
@@ -711,6 +772,7 @@ def part_of(words, stretch):
     return (offset, size, *(word.decode() for word in words[3:]))
 
 
+# FORMAT: A list of stretches
 def stretches_of(text, copies):
     """The stretches of a list for so many copies; a fault has the number of the first wrong line."""
     lines, found, ends = text.split(b"\n"), [], [0] * copies
@@ -728,26 +790,31 @@ def stretches_of(text, copies):
     return found
 
 
+# FORMAT: Elements with a CRC-32
 def crc_left(content):
     """The sum of the CRC-32 in the content of an element and that of the rest of it."""
     return zlib.crc32(content[6:]) ^ int.from_bytes(content[2:6], "little")
 
 
+# FORMAT: Elements with a CRC-32
 def is_element(content):
     """Whether some bytes are the content of an EBML element that begins with the CRC-32 of the rest of it."""
     return len(content) >= 6 and content[:2] == b"\xbf\x84" and crc_left(content) == 0
 
 
+# FORMAT: Elements with a CRC-32
 def element_of(rest):
     """The content of an element that begins with the CRC-32 of the rest of it."""
     return b"\xbf\x84" + zlib.crc32(rest).to_bytes(4, "little") + rest
 
 
+# FORMAT: Stretches of a file
 def is_record(content):
     """Whether some bytes are a Configuration Record: their parity is right, and not by being all zeros."""
     return len(content) >= 6 and any(content) and parity(content) == 0
 
 
+# FORMAT: Frames of FLAC
 def crc_of(content, width, divisor):
     """What is left of some bytes by a divisor of this many bits, without its highest: from nothing, most significant bit first."""
     register = 0
@@ -758,6 +825,7 @@ def crc_of(content, width, divisor):
     return register
 
 
+# FORMAT: Frames of FLAC
 def header_of_flac(frame):
     """How many bytes stand before the CRC-8 in the header of a FLAC frame, or None where some bytes begin with no such header."""
     if len(frame) < 5 or frame[0] != 0xFF or frame[1] not in (0xF8, 0xF9):
@@ -771,33 +839,39 @@ def header_of_flac(frame):
     return 4 + max(ones, 1) + {6: 1, 7: 2}.get(size, 0) + {12: 1, 13: 2, 14: 2}.get(rate, 0)
 
 
+# FORMAT: Frames of FLAC
 def is_flac(frame):
     """Whether some bytes are a FLAC frame, whose header has a right CRC-8, and all of it a right CRC-16."""
     length = header_of_flac(frame)
     return length is not None and length + 3 <= len(frame) and crc_of(frame[: length + 1], 8, 0x07) == 0 == crc_of(frame, 16, 0x8005)
 
 
+# FORMAT: Frames of FLAC
 def flac_of(header, body):
     """A FLAC frame with this header, which has no CRC-8 yet, and these bytes after it."""
     frame = header + bytes([crc_of(header, 8, 0x07)]) + body
     return frame + crc_of(frame, 16, 0x8005).to_bytes(2, "big")
 
 
+# FORMAT: Stretches of a file
 def with_part(content, offset, piece):
     return content[:offset] + piece + content[offset + len(piece) :]
 
 
+# FORMAT: Stretches of a file
 def part_outcome(versions, sort):
     """What becomes of a part of these versions."""
     return sound_of(versions) if sort else Splice(versions)
 
 
+# FORMAT: Stretches of a file
 def sound_of(versions):
     """What becomes of a part of these versions that is a frame of FLAC."""
     passing = {version for version in versions if is_flac(version)}
     return Sound("whole", passing.pop()) if len(passing) == 1 else Sound("disputed" if passing else "missing", None)
 
 
+# FORMAT: Stretches of a file
 def given_by(part, made):
     """What a part gives to each version of its element: an offset, and the bytes from there on."""
     if isinstance(made, Sound):
@@ -806,6 +880,7 @@ def given_by(part, made):
     return [(part[0] + start, made.payload[start:end]) for start, end in sure]
 
 
+# FORMAT: Stretches of a file
 def improved(versions, parts, made):
     """The versions of an element, each with the bytes of all settled, woven, voted and repaired places of the splices of its parts, and with
     each frame of FLAC of which one version alone passes."""
@@ -815,6 +890,7 @@ def improved(versions, parts, made):
     return sorted(versions)
 
 
+# FORMAT: Stretches of a file
 def element_outcome(versions, source, parts):
     """What becomes of an element with a CRC-32, of these versions and that of the copy it is taken from."""
     made = [part_outcome([version[offset : offset + size] for version in versions], sort) for offset, size, *sort in parts]
@@ -829,6 +905,7 @@ def element_outcome(versions, source, parts):
     return Outcome("disputed" if passing else "missing", source, made)
 
 
+# FORMAT: Stretches of a file
 def record_outcome(versions, source):
     """What becomes of a Configuration Record."""
     passing = sorted({version for version in versions if is_record(version)})
@@ -840,12 +917,14 @@ def record_outcome(versions, source):
     return Outcome("disputed" if passing else "missing", source, [])
 
 
+# FORMAT: Stretches of a file
 def flac_outcome(versions, source):
     """What becomes of a frame of FLAC: nothing of it is woven."""
     sound = sound_of(versions)
     return Outcome(sound.state, source if sound.payload is None else sound.payload, [])
 
 
+# FORMAT: Stretches of a file
 def frame_outcome(versions):
     splice = Splice(versions)
     counts = [int(stands.split()[1]) for _, _, stands in splice.places if stands.startswith("woven")]
@@ -853,11 +932,13 @@ def frame_outcome(versions):
     return Outcome(state if splice.given_back() else "missing", splice.payload, [splice])
 
 
+# FORMAT: Stretches of a file
 def plain_outcome(versions, source):
     state = "alone" if len(versions) == 1 else "agreed" if len(set(versions)) == 1 else "open"
     return Outcome(state, source, [])
 
 
+# FORMAT: Stretches of a file
 def outcome_of(stretch, versions):
     """What becomes of a stretch whose versions these are, each copy's or None."""
     there, source = [version for version in versions if version is not None], versions[stretch.source - 1]
@@ -868,11 +949,13 @@ def outcome_of(stretch, versions):
     return {"record": record_outcome, "flac": flac_outcome, "plain": plain_outcome}[stretch.kind](there, source)
 
 
+# FORMAT: A list of stretches
 def marks(versions, made, start, end):
     """For each copy whether it has in a range what was made."""
     return "".join("-" if version is None else "01"[version[start:end] == made[start:end]] for version in versions)
 
 
+# FORMAT: A list of stretches
 def splice_lines(splice, offset, versions, made):
     """The lines of a splice that stands at an offset."""
     for start, end, stands in splice.places:
@@ -880,6 +963,7 @@ def splice_lines(splice, offset, versions, made):
     yield f"  {splice.end}\n"
 
 
+# FORMAT: A list of stretches
 def part_is_shown(part, made, versions):
     """Whether a part is not settled or whole, or not alike in all copies that have it."""
     offset, size = part[:2]
@@ -889,6 +973,7 @@ def part_is_shown(part, made, versions):
     return len(there) > 1 or made.front or any(stands != "settled" for _, _, stands in made.places)
 
 
+# FORMAT: A list of stretches
 def part_lines(part, made, versions, content):
     """The lines of a part."""
     offset, size = part[:2]
@@ -898,6 +983,7 @@ def part_lines(part, made, versions, content):
         yield from splice_lines(made, offset, versions, content)
 
 
+# FORMAT: A list of stretches
 def stretch_lines(number, stretch, versions, outcome):
     """What is printed of a stretch."""
     seen = marks(versions, outcome.bytes, 0, stretch.size)
@@ -912,10 +998,12 @@ def stretch_lines(number, stretch, versions, outcome):
             yield from part_lines(part, made, versions, outcome.bytes)
 
 
+# FORMAT: Stretches of a file
 def is_good(state):
     return state.split()[0] in ("whole", "woven", "agreed")
 
 
+# FORMAT: A list of stretches
 def versions_of(stretch, copies):
     """What each copy, which has a name and a content or None, has of a stretch, or None; a fault has the name of the first one that
     can't be read, or ends within it."""
@@ -924,6 +1012,7 @@ def versions_of(stretch, copies):
     return [None if place is None else content[place : place + stretch.size] for (_, content), place in zip(copies, stretch.places)]
 
 
+# FORMAT: A list of stretches
 def mended(text, copies):
     """What `mend` makes by a list of copies, each with its name and its content, or None where it can't be read: the file, None where
     nothing was written; what is printed; the exit status; and the fault."""
