@@ -2,6 +2,7 @@
 use Rattle.std.specs.Prelude.{ℕ, ◌≡◌, ◌<◌, ◌≤◌, ◌⊎◌, List, [], ◌++◌, length, Option, Some, None, Result, Ok, Err}
 use Rattle.std.specs.Io.KnownBytes.{Consumes, Appends, IsAtEnd}
 use Rattle.ffv1_bits.specs.Limits.{record_limit, file_limit}
+use Rattle.ffv1_devices.specs.Logs.{ReadLog}
 use Rattle.ffv1_devices.specs.Writing.{WritesFront}
 use Rattle.ffv1_holding.specs.Reels.{Reel}
 use Rattle.ffv1_holding.specs.Contents.{Contents, IsHolding, IsSameReel, joined}
@@ -20,6 +21,15 @@ pub record Inputs : Type 0 where
   pub left_new : Option (List ℕ)
   pub right_old : Option (List ℕ)
   pub right_new : Option (List ℕ)
+
+-- the same, by the logs of both
+abbrev pub inputs_read : (left_old left_new right_old right_new : ReadLog) → Inputs
+inputs_read left_old left_new right_old right_new = record {
+  left_old = left_old.remaining;
+  left_new = left_new.remaining;
+  right_old = right_old.remaining;
+  right_new = right_new.remaining;
+}
 
 -- ---- inputs that are texts
 

@@ -10,7 +10,7 @@ ghost use Rattle.ffv1_hold.specs.declared.version.Version.{Version};
 ghost use Rattle.ffv1_hold.specs.FileEntries.{IsFileEntryOf};
 ghost use Rattle.ffv1_hold.specs.Inner.Reading.{Takes};
 ghost use Rattle.ffv1_hold.specs.FileFaults.{IsFileReel};
-ghost use Rattle.ffv1_hold.specs.MergedStreams.{IsFileOf, IsFileOfSome, WritesUnion, ReturnsUnion, BeginsWithHead, ReturnsOther, MergeRefuses, WritesNoEnd, WritesFrontSoFar, WritesAtMost, StaysInReadLimit};
+ghost use Rattle.ffv1_hold.specs.MergedStreams.{inputs_read, IsFileOf, IsFileOfSome, WritesUnion, ReturnsUnion, BeginsWithHead, ReturnsOther, MergeRefuses, WritesNoEnd, WritesFrontSoFar, WritesAtMost, StaysInReadLimit};
 ghost use Rattle.ffv1_hold.specs.Inner.Merging.{Start, AreVersions, inputs_from, IsOpened, Stands, Stops, MergeIsRefused, HeadsRefuse, Ends, IsTurn, IsWritten, with_digests};
 ghost use Rattle.ffv1_hold.specs.MergeLogs.{MergeWent};
 ghost use Rattle.ffv1_hold.specs.Inner.MergeLogs.{WritesEntry};
@@ -48,12 +48,7 @@ pub fn join_streams<R: Source, Q: Source, W: Sink>(
     sink: &mut W,
 ) -> Result<(), HoldFileFault>
     // Both inputs are files of holdings of one reel, and the text of their union was written.
-    ensures joined { OnOk result (WritesUnion (record {
-      left_old = (R.log left.old).remaining;
-      left_new = (R.log left.new).remaining;
-      right_old = (Q.log right.old).remaining;
-      right_new = (Q.log right.new).remaining;
-    }) (W.log sink.old).contents (W.log sink.new).contents) }
+    ensures joined { OnOk result (WritesUnion (inputs_read (R.log left.old) (R.log left.new) (Q.log right.old) (Q.log right.new)) (W.log sink.old).contents (W.log sink.new).contents) }
 
     // For such inputs the result is that, `Read`, `Write` or `Memory`, or `TooLong` where the union has no text.
     ensures only { (v w : Version) (g h : Contents) → IsSameReel g h → IsFileOf (R.log left.old).remaining v g → IsFileOf (Q.log right.old).remaining w h
@@ -65,12 +60,7 @@ pub fn join_streams<R: Source, Q: Source, W: Sink>(
     ensures untouched { IsErrOf result HoldFileFault.OtherReel → sink.new ≡ sink.old }
 
     // The bytes that were read show the fault, and it is the first: what was taken of the other input shows none.
-    ensures fault { IfErr result (MergeRefuses (record {
-      left_old = (R.log left.old).remaining;
-      left_new = (R.log left.new).remaining;
-      right_old = (Q.log right.old).remaining;
-      right_new = (Q.log right.new).remaining;
-    })) }
+    ensures fault { IfErr result (MergeRefuses (inputs_read (R.log left.old) (R.log left.new) (Q.log right.old) (Q.log right.new))) }
 
     // After `Write` no more was taken of an input that is a text than up to its read_limit: where the other one is a text too, with the
     // digests of both.
@@ -82,18 +72,8 @@ pub fn join_streams<R: Source, Q: Source, W: Sink>(
         → StaysInReadLimit v h other (Q.log right.old).remaining (Q.log right.new).remaining (W.log sink.old).contents (W.log sink.new).contents }
 
     // What was written: after `Write` a front of a text, after another refusal no end tag.
-    ensures write { IsErrOf result HoldFileFault.Write → WritesFrontSoFar (record {
-      left_old = (R.log left.old).remaining;
-      left_new = (R.log left.new).remaining;
-      right_old = (Q.log right.old).remaining;
-      right_new = (Q.log right.new).remaining;
-    }) (W.log sink.old).contents (W.log sink.new).contents }
-    ensures no_end { IfErr result (λ f. f ≢ HoldFileFault.Write → WritesNoEnd (record {
-      left_old = (R.log left.old).remaining;
-      left_new = (R.log left.new).remaining;
-      right_old = (Q.log right.old).remaining;
-      right_new = (Q.log right.new).remaining;
-    }) (W.log sink.old).contents (W.log sink.new).contents) }
+    ensures write { IsErrOf result HoldFileFault.Write → WritesFrontSoFar (inputs_read (R.log left.old) (R.log left.new) (Q.log right.old) (Q.log right.new)) (W.log sink.old).contents (W.log sink.new).contents }
+    ensures no_end { IfErr result (λ f. f ≢ HoldFileFault.Write → WritesNoEnd (inputs_read (R.log left.old) (R.log left.new) (Q.log right.old) (Q.log right.new)) (W.log sink.old).contents (W.log sink.new).contents) }
     ensures most { WritesAtMost (W.log sink.old).contents (W.log sink.new).contents file_limit }
     // At `Read` one input was given up, at `Write` the sink, and no other device; no more was taken than the limits.
     ensures went { MergeWent result (record { left = R.log left.old; right = Q.log right.old; sink = W.log sink.old })
@@ -116,19 +96,9 @@ fn merge_files<R: Source, Q: Source, W: Sink>(
     requires left_held { merge.old.lefts.held ≡ None }
     requires right_held { merge.old.rights.held ≡ None }
     requires room { merge.old.room ≡ file_limit }
-    ensures ok { OnOk result (WritesUnion (record {
-      left_old = (R.log left.old).remaining;
-      left_new = (R.log left.new).remaining;
-      right_old = (Q.log right.old).remaining;
-      right_new = (Q.log right.new).remaining;
-    }) (W.log sink.old).contents (W.log sink.new).contents) }
+    ensures ok { OnOk result (WritesUnion (inputs_read (R.log left.old) (R.log left.new) (Q.log right.old) (Q.log right.new)) (W.log sink.old).contents (W.log sink.new).contents) }
     ensures most { OnOk result (WritesAtMost (W.log sink.old).contents (W.log sink.new).contents file_limit) }
-    ensures err { IfErr result (MergeIsRefused (record {
-      left_old = (R.log left.old).remaining;
-      left_new = (R.log left.new).remaining;
-      right_old = (Q.log right.old).remaining;
-      right_new = (Q.log right.new).remaining;
-    }) (W.log sink.old).contents (W.log sink.new).contents) }
+    ensures err { IfErr result (MergeIsRefused (inputs_read (R.log left.old) (R.log left.new) (Q.log right.old) (Q.log right.new)) (W.log sink.old).contents (W.log sink.new).contents) }
     ensures untouched { IsErrOf result HoldFileFault.OtherReel → sink.new ≡ sink.old }
     ensures went { MergeWent result (record { left = R.log left.old; right = Q.log right.old; sink = W.log sink.old })
         (record { left = R.log left.new; right = Q.log right.new; sink = W.log sink.new }) (0, 0) (file_limit, file_limit) }
@@ -176,12 +146,7 @@ impl Merge {
         ensures left_held { self.new.lefts.held ≡ self.old.lefts.held }
         ensures right_held { self.new.rights.held ≡ self.old.rights.held }
         ensures room { self.new.room ≡ self.old.room }
-        ensures err { IfErr result (HeadsRefuse (record {
-          left_old = (R.log left.old).remaining;
-          left_new = (R.log left.new).remaining;
-          right_old = (Q.log right.old).remaining;
-          right_new = (Q.log right.new).remaining;
-        })) }
+        ensures err { IfErr result (HeadsRefuse (inputs_read (R.log left.old) (R.log left.new) (Q.log right.old) (Q.log right.new))) }
         ensures went { (s : WriteLog) → MergeWent result (record { left = R.log left.old; right = Q.log right.old; sink = s })
             (record { left = R.log left.new; right = Q.log right.new; sink = s }) (0, 0) (self.new.lefts.place, self.new.rights.place) }
     {
