@@ -7,7 +7,7 @@ of these words:
     case NAME            the case's name
     words WORD...        the program's words, quoted as a shell would have them
     in PATH = CONTENT    a file that lies where it runs; of a PATH that ends in / an empty folder
-    made PATH = CONTENT  a file that it has to make
+    made PATH = CONTENT  a file that it has to make, or the SHA-256 of its bytes after 'sha256'
     status N             its exit status, where that is not 0
     stdout, stderr       what it has to print: the lines after it, without the two spaces before them
     output KIND          'full' where standard output takes nothing, 'closed' where neither it nor standard input is open, 'none'
@@ -24,6 +24,7 @@ on, or 'zero' and how many bytes are zero there, or 'gone' and how many bytes ar
 The cases of tests/cases/mend-reel are of that tool, which runs the program.
 """
 import dataclasses
+import hashlib
 import pathlib
 import shlex
 
@@ -53,6 +54,13 @@ def shared_contents():
     """The contents that tests/cases/files names."""
     lines = (line.partition(" ") for line in (FOLDER / "files").read_text().splitlines())
     return {name: bytes.fromhex(digits) for name, _, digits in lines}
+
+
+class Digest(bytes):
+    """The SHA-256 digest of a file that has to be made, in place of its bytes."""
+
+    def is_of(self, content):
+        return hashlib.sha256(content).digest() == self
 
 
 def content_of(text, shared):
@@ -89,7 +97,8 @@ def read_line(case, line, shared):
         if path.endswith("/"):
             case.folders.append(path)
         else:
-            (case.inputs if word == "in" else case.made)[path] = content_of(content, shared)
+            digest = word == "made" and content.startswith("sha256 ")
+            (case.inputs if word == "in" else case.made)[path] = Digest.fromhex(content[7:]) if digest else content_of(content, shared)
     elif word in ("status", "limit", "open"):
         setattr(case, word, int(rest))
     elif word == "output":
