@@ -62,13 +62,14 @@ SpliceGivesNearCopies =
     → ((start end : ℕ) → IsLinkOf original start end → IsIntactInSome original copies start end)
     → GiveOnly copies original
 
--- Where some links are intact in no copy, but a footer of some copy claims each start, and each link is among the combinations of
--- what the copies have there: where it returns `true`, what it wrote is the original.
+-- Where some links are intact in no copy, but a footer of some copy claims each start, and each link is among the combinations that are
+-- tried there: where it returns `true`, what it wrote is the original.
 abbrev pub SpliceGivesWovenCopies : Type 0
 SpliceGivesWovenCopies =
     (original : List ℕ) (copies : List (List ℕ)) → AreCopiesOf original copies → AreWeavable original copies → GiveOnlyIfTrue copies original
 
--- So it is of near copies where each link is among the combinations, and each slice that begins at a start of a link is that link.
+-- So it is of near copies where each link is among the combinations that are tried of what they have there, and each slice that begins at a
+-- start of a link is that link.
 abbrev pub SpliceGivesNearWovenCopies : Type 0
 SpliceGivesNearWovenCopies =
     (original : List ℕ) (copies : List (List ℕ)) → AreNearCopies original copies → AreConsistentFromBelow original copies

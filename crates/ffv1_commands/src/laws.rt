@@ -41,9 +41,10 @@ pub fn splice_gives_the_original()
 {}
 
 /// Where some of the original's slices are intact in no copy, but a footer of some copy claims the start of each, and
-/// each is a combination of what the copies have there (so it is where each region in which they differ is intact in
-/// some copy): where `splice` returns `true`, what it wrote is the original byte for byte; and it is refused only by a
-/// device or because memory ran out. Of near copies the starts need not be asked for.
+/// each is among the combinations that are tried there (so it is where each region in which the copies differ is intact
+/// in some copy; and where each byte is, and there are at most 4096 combinations at distance 0): where `splice` returns
+/// `true`, what it wrote is the original byte for byte; and it is refused only by a device or because memory ran out. Of
+/// near copies the starts need not be asked for.
 pub fn splice_weaves_the_original()
     ensures original { SpliceGivesWovenCopies }
     ensures near { SpliceGivesNearWovenCopies }
@@ -77,9 +78,10 @@ pub fn mend_claims_what_is_vouched()
 
 /// Where the original of each stretch is known again, and `mend` returns `true`, what it wrote is the originals, one after the other; and
 /// it is refused only by a device or because memory ran out. An original is known again so: that of an element passes its CRC-32, no
-/// version that passes differs from it, and it is among the combinations of the improved versions; so it is of a record, of its versions as
-/// they are; that of a frame of FLAC passes, and no version that passes differs from it; no slice of a version of a frame of FFV1 that
-/// passes its parity differs from the original's, and the versions can be woven; and some version of bytes without a checksum has them.
+/// version that passes differs from it, and it is among the combinations that are tried of the improved versions; so it is of a record, of
+/// its versions as they are; that of a frame of FLAC passes, and no version that passes differs from it; no slice of a version of a frame of
+/// FFV1 that passes its parity differs from the original's, and the versions can be woven; and some version of bytes without a checksum has
+/// them.
 pub fn mend_gives_the_original()
     ensures { MendGivesTheOriginal }
 {}

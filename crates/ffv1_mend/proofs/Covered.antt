@@ -4,7 +4,7 @@ use Rattle.std.specs.Prelude.{◌⊎◌, All, Contains}
 use Rattle.std.proofs.lemmas.Bool.{cases_lt}
 use Rattle.std.proofs.lemmas.List.Elements.{All-head, All-tail, Contains-get_or}
 use Rattle.ffv1_weave.specs.Parts.{written}
-use Rattle.ffv1_weave.specs.Regions.{AgreeAt}
+use Rattle.ffv1_weave.specs.Regions.{HaveLength, AgreeAt}
 use Rattle.ffv1_slice.specs.Members.{IsOfTwo}
 use Rattle.ffv1_weave.specs.Checks.{CanWeave}
 use Rattle.ffv1_weave.specs.Combinations.{IsCombination, IsValid}
@@ -13,11 +13,10 @@ use Rattle.ffv1_weave.specs.Weave.Weave.{woven, missing}
 use Rattle.ffv1_weave.specs.declared.check.Check.{Check}
 use Rattle.ffv1_weave.specs.declared.check.Check.TheVariants as checks
 use Rattle.ffv1_weave.specs.declared.check.Check.TheVariants.{Element}
-use Rattle.ffv1_weave.specs.Laws.{IsCovered}
+use Rattle.ffv1_weave.specs.Laws.{IsCoveredByRegions, HasEachByte}
 use Rattle.ffv1_weave.specs.Laws as weave_laws
 use Rattle.ffv1_weave.proofs.Agreeing.{agree_past}
-use Rattle.ffv1_weave.proofs.WeaveLaws.{covered_is_combination}
-use Rattle.ffv1_weave.proofs.Coarsest.{original_is_woven}
+use Rattle.ffv1_weave.proofs.AmongTried.{regions_combine, are_among_tried, original_is_woven}
 use Rattle.ffv1_weave.proofs.Choices.{length-written, written_before, written_inside, written_after, same_range, range_at}
 use Rattle.ffv1_splice.specs.Splice.{SplicedValue}
 use Rattle.ffv1_splice.proofs.WovenLaws.{given_back_is_original}
@@ -59,8 +58,8 @@ module _ (original : List ℕ) where
         ]
       ]
 
-module _ (original : List ℕ) (versions : List (List ℕ)) (parts : List Part) (mends : List PartValue) (covered : IsCovered original versions)
-    (fit : AreFitting (length original) parts mends) (right : All (IsRight original) (given_patches parts mends)) where
+module _ (original : List ℕ) (versions : List (List ℕ)) (parts : List Part) (mends : List PartValue)
+    (one_length : HaveLength versions (length original)) (fit : AreFitting (length original) parts mends) (right : All (IsRight original) (given_patches parts mends)) where
   better : List ℕ → List ℕ
   better version = patched version (given_patches parts mends)
 
@@ -74,7 +73,7 @@ module _ (original : List ℕ) (versions : List (List ℕ)) (parts : List Part) 
 
   long : (version : List ℕ) → Contains versions version → length (patched version (given_patches parts mends)) ≡ length original
   long version there =
-      length-patched (length original) (given_patches parts mends) version (covered.one_length version there)
+      length-patched (length original) (given_patches parts mends) version (one_length version there)
       (given_fit (length original) parts mends fit)
 
   -- where the versions agree, the improved ones do
@@ -85,30 +84,30 @@ module _ (original : List ℕ) (versions : List (List ℕ)) (parts : List Part) 
       let first = ap (λ z. get_or z i 0) a.2 in
       let second = ap (λ z. get_or z i 0) b.2 in
       elim (at i) [
-        | inl stays ↦ first ∙ stays a.0 (covered.one_length a.0 a.1) ∙ agree a.0 b.0 a.1 b.1 ∙ sym (second ∙ stays b.0 (covered.one_length b.0 b.1))
-        | inr given ↦ first ∙ given a.0 (covered.one_length a.0 a.1) ∙ sym (second ∙ given b.0 (covered.one_length b.0 b.1))
+        | inl stays ↦ first ∙ stays a.0 (one_length a.0 a.1) ∙ agree a.0 b.0 a.1 b.1 ∙ sym (second ∙ stays b.0 (one_length b.0 b.1))
+        | inr given ↦ first ∙ given a.0 (one_length a.0 a.1) ∙ sym (second ∙ given b.0 (one_length b.0 b.1))
       ]
 
   there_of : (version : List ℕ) → Contains versions version → Contains (improved versions parts mends) (patched version (given_patches parts mends))
   there_of version there = mapped_there (λ version. patched version (given_patches parts mends)) versions version there
 
-  pub original_among : IsCombination (improved versions parts mends) original
-  original_among =
+  pub original_among : IsCoveredByRegions original versions → IsCombination (improved versions parts mends) original
+  original_among covered =
       record {
         same_length = λ one there. let a = of one there in sym (ap length a.2 ∙ long a.0 a.1);
         agrees = λ i agree one there.
             let a = of one there in
             let first = ap (λ z. get_or z i 0) a.2 in
             elim (at i) [
-              | inr given ↦ sym (first ∙ given a.0 (covered.one_length a.0 a.1))
+              | inr given ↦ sym (first ∙ given a.0 (one_length a.0 a.1))
               | inl stays ↦
-                  let same : AgreeAt versions i = λ v w in_v in_w. sym (stays v (covered.one_length v in_v))
+                  let same : AgreeAt versions i = λ v w in_v in_w. sym (stays v (one_length v in_v))
                   ∙ agree (patched v (given_patches parts mends)) (patched w (given_patches parts mends)) (there_of v in_v) (there_of w in_w)
-                  ∙ stays w (covered.one_length w in_w) in
-                  sym (first ∙ stays a.0 (covered.one_length a.0 a.1) ∙ covered.right i same a.0 a.1)
+                  ∙ stays w (one_length w in_w) in
+                  sym (first ∙ stays a.0 (one_length a.0 a.1) ∙ covered.right i same a.0 a.1)
             ];
         parts = λ start end region.
-            let wide = region_around versions (improved versions parts mends) (length original) start end covered.one_length agree_on region in
+            let wide = region_around versions (improved versions parts mends) (length original) start end one_length agree_on region in
             let intact = covered.intact wide.begin wide.last wide.region in
             let version : List ℕ = intact.0 in
             let low = wide.before in
@@ -124,12 +123,27 @@ module _ (original : List ℕ) (versions : List (List ℕ)) (parts : List Part) 
               there_of version intact.1,
               same_range original (patched version (given_patches parts mends)) start end (omega arith) (omega arith)
                   (λ i above below. elim (at i) [
-                    | inr given ↦ sym (given version (covered.one_length version intact.1))
-                    | inl stays ↦ sym (stays version (covered.one_length version intact.1)
+                    | inr given ↦ sym (given version (one_length version intact.1))
+                    | inl stays ↦ sym (stays version (one_length version intact.1)
                         ∙ sym (range_at version wide.begin wide.last i (omega arith) (omega arith))
                         ∙ ap (λ z. get_or z (i - wide.begin) 0) intact.2
                         ∙ range_at original wide.begin wide.last i (omega arith) (omega arith))
                   ]),
+            );
+      }
+
+  pub improved_each_byte : HasEachByte original versions → HasEachByte original (improved versions parts mends)
+  improved_each_byte has =
+      record {
+        one_length = λ one there. let a = of one there in ap length a.2 ∙ long a.0 a.1;
+        intact = λ i lt.
+            let version = has.intact i lt in (
+              patched version.0 (given_patches parts mends),
+              there_of version.0 version.1,
+              elim (at i) [
+                | inr given ↦ given version.0 (one_length version.0 version.1)
+                | inl stays ↦ stays version.0 (one_length version.0 version.1) ∙ version.2
+              ],
             );
       }
 
@@ -146,17 +160,16 @@ improved_none (version ∷ versions) parts =
     let rest : improved versions parts [] ≡ versions = improved_none versions parts in
     ap (λ v. v ∷ improved versions parts []) here ∙ ap (λ vs. version ∷ vs) rest
 
-covered_among : (original : List ℕ) (versions : List (List ℕ)) (from : List ℕ) (parts : List Part) (mended : MendedValue)
-    → IsElementMend versions from parts mended → All (IsWithin (length original)) parts → 0 < length versions → IsCovered original versions
-    → All (IsRight original) (given_patches parts mended.parts) → IsCombination (improved versions parts mended.parts) original
-covered_among original versions from parts mended is within some covered right = elim is.mends [
-  | inl all ↦ subst (λ ss. IsCombination (improved versions parts ss) original) (sym all.1)
-      (subst (λ vs. IsCombination vs original) (sym (improved_none versions parts)) (covered_is_combination original versions covered))
+-- where no part was looked at, the versions are as they were given; else what the parts give fits
+improved_or_given : (original : List ℕ) (versions : List (List ℕ)) (from : List ℕ) (parts : List Part) (mended : MendedValue)
+    → IsElementMend versions from parts mended → All (IsWithin (length original)) parts → 0 < length versions → HaveLength versions (length original)
+    → (improved versions parts mended.parts ≡ versions) ⊎ AreFitting (length original) parts mended.parts
+improved_or_given original versions from parts mended is within some one_length = elim is.mends [
+  | inl all ↦ inl (ap (λ ss. improved versions parts ss) all.1 ∙ improved_none versions parts)
   | inr each ↦
       let first : List ℕ = get_or versions 0 [] in
       let there = Contains-get_or versions 0 [] some in
-      original_among original versions parts mended.parts covered
-      (parts_fit versions (length original) covered.one_length first there parts mended.parts within each.1) right
+      inr (parts_fit versions (length original) one_length first there parts mended.parts within each.1)
 ]
 
 -- ---- an original
@@ -227,6 +240,17 @@ original_is_mended =
       kept = λ original versions from parts mended of is.
           kept Element original versions (improved versions parts mended.parts) (fallback from parts mended.parts) mended.bytes of mended.state is.stands;
       kept_by = λ check original versions from mended of is. kept check original versions versions from mended.bytes of mended.state is.stands;
-      among = λ original versions parts mended covered. covered_is_combination original (improved versions parts mended.parts) covered;
-      covered = covered_among;
+      among = λ original versions parts mended covered. are_among_tried.covered original (improved versions parts mended.parts) covered;
+      covered = λ original versions from parts mended is within some covered right.
+          elim (improved_or_given original versions from parts mended is within some covered.one_length) [
+            | inl same ↦ subst (λ vs. IsCombination vs original) (sym same) (regions_combine original versions covered)
+            | inr fit ↦ original_among original versions parts mended.parts covered.one_length fit right covered
+          ];
+      each_byte = λ original versions from parts mended count is within some has right few.
+          let improved_has : HasEachByte original (improved versions parts mended.parts) =
+          elim (improved_or_given original versions from parts mended is within some has.one_length) [
+            | inl same ↦ subst (HasEachByte original) (sym same) has
+            | inr fit ↦ improved_each_byte original versions parts mended.parts has.one_length fit right has
+          ] in
+          are_among_tried.each_byte original (improved versions parts mended.parts) count improved_has few;
     }

@@ -1,5 +1,5 @@
 -- A checksum, or two versions at least that are alike, vouch for what is good.
-use Rattle.std.proofs.Common.{◌≡◌, ◌<◌, ◌≤◌, ℕ, true, List, length, sym, subst, arith, inl, inr}
+use Rattle.std.proofs.Common.{◌≡◌, ◌<◌, ℕ, true, List, length, sym, subst, arith, inl, inr}
 use Rattle.ffv1_slice.specs.Members.{IsOnly}
 use Rattle.ffv1_splice.specs.Splice.{SplicedValue, IsGivenBack}
 use Rattle.ffv1_splice.specs.Whole.{IsWholeFrame}

@@ -6,8 +6,8 @@ use Rattle.flac_frame.specs.Frame.{PassesFlac, DifferWithin16}
 use Rattle.ffv1_slice.specs.Chain.{IsLinkOf}
 use Rattle.ffv1_slice.specs.Members.{HasSameMembers, IsOnly, IsOfTwo}
 use Rattle.ffv1_weave.specs.Checks.{PassesBy, CanWeave}
-use Rattle.ffv1_weave.specs.Laws.{IsCovered}
-use Rattle.ffv1_weave.specs.Combinations.{IsCombination, IsValid}
+use Rattle.ffv1_weave.specs.Laws.{IsCovered, IsCoveredByRegions, HasEachByte}
+use Rattle.ffv1_weave.specs.Combinations.{IsCombination, IsAmongTried, HasFewByByte, IsValid}
 use Rattle.ffv1_weave.specs.Weave.{AreMany}
 use Rattle.ffv1_weave.specs.declared.check.Check.{Check}
 use Rattle.ffv1_weave.specs.declared.check.Check.TheVariants as checks
@@ -72,11 +72,11 @@ GoodIsVouched =
 -- ---- an original
 
 -- An original that passes its check: no version that passes differs from it, and where versions are woven by the check, it is among the
--- combinations of those with which that is tried.
+-- combinations that are tried of those with which that is done.
 pub record IsOriginalBy (check : Check) (original : List ℕ) (versions tried : List (List ℕ)) : Type 0 where
   pub passes : PassesBy check original
   pub alone : (version : List ℕ) → Contains versions version → PassesBy check version → version ≡ original
-  pub among : CanWeave check → IsCombination tried original
+  pub among : CanWeave check → IsAmongTried tried original
 
 -- the original of an element: its improved versions are woven
 abbrev pub IsOriginalOf : List ℕ → List (List ℕ) → List Part → MendedValue → Type 0
@@ -99,8 +99,10 @@ HasOriginal Flac original versions parts mended = IsOriginalBy checks.Flac origi
 HasOriginal Plain original versions parts mended = Contains versions original
 
 -- Then a stretch that is good or alone is the original, and an element, a record and a frame of FLAC is kept. The original of an element is among
--- the combinations where each region in which the improved versions differ is intact in one of them, and where all agree they are right; and
--- so where it is so of the versions as they were given, and what the parts give, voted and repaired places too, is right.
+-- the combinations that are tried where the improved versions cover it by the split that is tried. What the parts give, voted and
+-- repaired places too, be right: then it is a combination of regions of the improved versions where each region in which the versions as they
+-- were given differ is intact in one of these, and where all agree they are right; and it is among those that are tried where each byte is intact
+-- in a version as it was given, and there are at most 4096 combinations of the improved versions at distance 0.
 pub record OriginalIsMended : Type 0 where
   pub original : (kind : Kind) (original : List ℕ) (versions : List (List ℕ)) (from : List ℕ) (parts : List Part) (mended : MendedValue)
       → HasOriginal kind original versions parts mended → IsMendOf kind versions from parts mended
@@ -112,10 +114,14 @@ pub record OriginalIsMended : Type 0 where
       → IsOriginalBy check original versions versions → IsCheckedMend check versions from mended
       → MendKeepsOriginal check original versions mended.bytes mended.state
   pub among : (original : List ℕ) (versions : List (List ℕ)) (parts : List Part) (mended : MendedValue)
-      → IsCovered original (improved versions parts mended.parts) → IsCombination (improved versions parts mended.parts) original
+      → IsCovered original (improved versions parts mended.parts) → IsAmongTried (improved versions parts mended.parts) original
   pub covered : (original : List ℕ) (versions : List (List ℕ)) (from : List ℕ) (parts : List Part) (mended : MendedValue)
-      → IsElementMend versions from parts mended → All (IsWithin (length original)) parts → 0 < length versions → IsCovered original versions
+      → IsElementMend versions from parts mended → All (IsWithin (length original)) parts → 0 < length versions → IsCoveredByRegions original versions
       → All (IsRight original) (given_patches parts mended.parts) → IsCombination (improved versions parts mended.parts) original
+  pub each_byte : (original : List ℕ) (versions : List (List ℕ)) (from : List ℕ) (parts : List Part) (mended : MendedValue) (count : ℕ)
+      → IsElementMend versions from parts mended → All (IsWithin (length original)) parts → 0 < length versions → HasEachByte original versions
+      → All (IsRight original) (given_patches parts mended.parts) → HasFewByByte (improved versions parts mended.parts) count
+      → IsAmongTried (improved versions parts mended.parts) original
 
 -- ---- versions that are near an original
 
@@ -137,9 +143,9 @@ pub record AreNearVersions (check : Check) (original : List ℕ) (versions : Lis
   pub passes : PassesBy check original
   pub near : (version : List ℕ) → Contains versions version → IsNearVersion check original version
 
--- Then no version that passes differs from the original: what is whole is the original, and nothing is disputed. A frame of FFV1 that is good is
--- the original where each link of each version is near the original's, and is among the combinations, and each slice that passes and begins
--- where a link of the original begins is that link.
+-- Then no version that passes differs from the original: what is whole is the original, and nothing is disputed. A frame of FFV1 that is good is the original where each link of each version is near the
+-- original's, and is among the combinations that are tried, and each slice that passes and begins where a link of the original begins is
+-- that link.
 pub record NearVersionsMend : Type 0 where
   pub alone : (check : Check) (original : List ℕ) (versions : List (List ℕ)) → AreNearVersions check original versions → (version : List ℕ)
       → Contains versions version → PassesBy check version → version ≡ original

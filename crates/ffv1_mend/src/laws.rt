@@ -16,22 +16,25 @@ pub fn good_is_vouched()
 {}
 
 /// Where a stretch is good or alone, it is the original: of an element, where the original passes, no version that passes differs from it, and
-/// it is among the combinations of the improved versions; of a record the same, of its versions as they are; of a frame of FLAC, where no
-/// version that passes differs from the original, which passes; of a frame of FFV1, where no slice that passes its parity differs from the
-/// original's, the start of each of its slices is claimed by some version, and each is among the combinations; of bytes without a
-/// checksum, where some version has them.
+/// it is among the combinations that are tried of the improved versions; of a record the same, of its versions as they are; of a frame of
+/// FLAC, where no version that passes differs from the original, which passes; of a frame of FFV1, where no slice that passes its parity
+/// differs from the original's, the start of each of its slices is claimed by some version, and each is among the combinations that are tried
+/// there; of bytes without a checksum, where some version has them.
 ///
 /// Such an element, record or frame of FLAC is never disputed, and of the first two it is missing only where there are too many combinations,
-/// or another one passes too. The original is among them where each region in which the versions differ is intact in one of them, where
-/// all agree they are right, and what the parts give is right; or where that is so of the improved versions.
+/// or another one passes too. The original of an element is among those that are tried where the improved versions cover it by the split that is
+/// tried. Where what the parts give is right, it is among them where each region in which the versions differ is intact in one of
+/// them, and where all agree they are right; or where each byte is intact in some version, and there are at most 4096 combinations of the
+/// improved versions at distance 0.
 pub fn original_is_mended()
     ensures { OriginalIsMended }
 {}
 
 /// Damage within 32 consecutive bits of each version, or within 16 of a frame of FLAC, is never taken for the original: an element, a record or
-/// a frame of FLAC of which each version is the original or damaged so is never disputed, and where it is whole it is the original; and so
-/// is a frame of FFV1 that is good, where each slice of each version is intact or damaged so off its size field, and is among the
-/// combinations.
+/// a frame of FLAC of which each version is the original or damaged so is never disputed, and where it is whole it is the original. Where the
+/// original is among the combinations that are tried, nothing else is woven, and it is missing only where there are too many combinations or
+/// another one passes too; where it is not, nothing is claimed of what is woven. A frame of FFV1 that is good is the original, where each slice
+/// of each version is intact or damaged so off its size field, and is among the combinations that are tried.
 pub fn near_versions_mend()
     ensures { NearVersionsMend }
 {}

@@ -16,10 +16,10 @@ use Rattle.ffv1_weave.specs.Weave.Weave.{woven}
 use Rattle.ffv1_weave.specs.declared.weaving.WeaveResult.{WeaveResult}
 use Rattle.ffv1_weave.specs.declared.weaving.WeaveResult.TheVariants as outcomes
 use Rattle.ffv1_weave.proofs.Choices.{same_range, range_at}
-use Rattle.ffv1_splice.specs.Pieces.{HasContent, IsPiece, IsClaimedStart}
+use Rattle.ffv1_splice.specs.Pieces.{AllReach, HasContent, IsPiece, IsClaimedStart}
 use Rattle.ffv1_splice.specs.Standings.{versions_at, sized, IsWeaveFromFront, IsWeaveOfSeveral, StandsAs, IsStop}
 use Rattle.ffv1_splice.specs.declared.place.Standing.TheVariants.{Woven}
-use Rattle.ffv1_splice.proofs.PlaceSteps.{AllReach, claim_below, none_not_only}
+use Rattle.ffv1_splice.proofs.PlaceSteps.{claim_below, none_not_only}
 use Rattle.ffv1_splice.proofs.Versions.{mapped_there, mapped_of, same_mapped, same_versions, version_there, version_of, version_length, weave_size}
 use Rattle.ffv1_weave.proofs.Agreeing.{some_differ}
 use Rattle.ffv1_weave.proofs.WiderRegions.{region_of}

@@ -24,6 +24,8 @@ pub mod DividedLinks
 pub mod StandingPlaces
 pub mod OriginalLaws
 pub mod WovenLaws
+pub mod ClaimedPlaces
+pub mod TriedLinks
 pub mod RepairedLaws
 pub mod NearDivisions
 pub mod NearCopies

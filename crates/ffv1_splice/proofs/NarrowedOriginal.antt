@@ -6,35 +6,59 @@ use Rattle.ffv1_bits.specs.Parity.{PassesParity}
 use Rattle.ffv1_bits.proofs.Bytes.{AreBytes-range}
 use Rattle.ffv1_slice.specs.Chain.{FooterGives, IsEnd, IsLinkOf, LinkValue, link_of}
 use Rattle.ffv1_slice.specs.Chain.IsEnd.{last, before}
+use Rattle.ffv1_slice.specs.Members.{IsOfTwo}
 use Rattle.ffv1_slice.specs.Near.{IsDamagedWithin32}
 use Rattle.ffv1_slice.specs.Walk.{walked, walk_at}
 use Rattle.ffv1_slice.proofs.Links.{walked-none, turn_some}
 use Rattle.ffv1_slice.proofs.NearLaws.{length-range}
-use Rattle.ffv1_weave.specs.Combinations.{IsCombination}
+use Rattle.ffv1_weave.specs.Combinations.{IsAmongTried}
 use Rattle.ffv1_splice.specs.Pieces.{HasContent, IsClaimedStart}
-use Rattle.ffv1_splice.specs.Standings.{versions_at}
+use Rattle.ffv1_splice.specs.Standings.{versions_at, sized}
 use Rattle.ffv1_splice.specs.Splice.{LieFrom}
-use Rattle.ffv1_splice.specs.Originals.{AreCopiesOf, AreConsistentWith, IsAmong, AreWeavable, IsUndamaged, IsNearCopy, AreNearCopies, IsIntactInSome}
+use Rattle.ffv1_splice.specs.Originals.{AreCopiesOf, AreConsistentWith, IsTriedAt, AreWeavable, IsUndamaged, IsNearCopy, AreNearCopies, IsIntactInSome}
 use Rattle.ffv1_splice.specs.declared.place.Place.{Place}
 use Rattle.ffv1_splice.proofs.DividedLinks.{end_within, same_cut}
 use Rattle.ffv1_splice.proofs.Versions.{version_there, version_of}
-use Rattle.ffv1_splice.proofs.Narrowed.{range_of_range, cut_out, cut_in, versions_of_versions, piece_out, claim_in}
+use Rattle.ffv1_splice.proofs.Narrowed.{range_of_range, cut_out, cut_in, versions_of_versions, piece_out, claim_in, claim_out}
 
 -- What makes copies weavable, except that no piece contradicts the original from below: as much as a division rests on.
 pub record AreWeavableDown (original : List ℕ) (copies : List (List ℕ)) : Type 0 where
   pub agree : AreConsistentWith original copies
   pub claim : (start end : ℕ) → IsLinkOf original start end → IsClaimedStart copies end start
   pub passes : (start end : ℕ) → IsLinkOf original start end → PassesParity (slice_range original start end)
-  pub among : (start end : ℕ) → IsLinkOf original start end → IsAmong original copies start end
+  pub among : (start end : ℕ) → IsLinkOf original start end → IsTriedAt copies start end (slice_range original start end)
 
 -- ---- what the copies have of a link
 
+module _ (from to : ℕ) (copies : List (List ℕ)) (start end : ℕ) (slice : List ℕ) (within : from + end ≤ to) where
+  -- two starts that are claimed in what the copies have from a place on are claimed in the copies
+  two_out : IsOfTwo (IsClaimedStart (versions_at copies from to) end) → IsOfTwo (IsClaimedStart copies (from + end))
+  two_out two =
+      record {
+        one = from + two.one;
+        other = from + two.other;
+        one_there = claim_out from to copies end two.one within two.one_there;
+        other_there = claim_out from to copies end two.other within two.other_there;
+        differ = λ same. two.differ (omega arith);
+      }
+
+  pub tried_narrowed : IsTriedAt copies (from + start) (from + end) slice → IsTriedAt (versions_at copies from to) start end slice
+  tried_narrowed tried =
+      let same = sym (versions_of_versions from to copies start end within) in
+      record {
+        claimed = λ claim. subst (λ vs. IsAmongTried vs slice) same (tried.claimed (claim_out from to copies end start within claim));
+        unclaimed = λ content no_claim. subst (λ vs. IsAmongTried (map sized vs) slice) same
+            (tried.unclaimed (let content : HasContent start end = content in omega arith) (λ claim. no_claim (claim_in from to copies end start within claim)));
+        several = λ two are_bytes. subst (λ vs. IsAmongTried (map sized vs) slice) same
+            (tried.several (two_out two) (λ version there. are_bytes version (subst (λ vs. Contains vs version) same there)));
+      }
+
 module _ (from to : ℕ) (original : List ℕ) (copies : List (List ℕ)) (start end : ℕ) (within : from + end ≤ to) where
-  pub among_narrowed : IsAmong original copies (from + start) (from + end) → IsAmong (slice_range original from to) (versions_at copies from to) start end
-  among_narrowed among =
-      subst (λ versions. IsCombination versions (slice_range (slice_range original from to) start end))
-      (sym (versions_of_versions from to copies start end within))
-      (subst (IsCombination (versions_at copies (from + start) (from + end))) (sym (range_of_range from to original start end within)) among)
+  pub link_narrowed : IsTriedAt copies (from + start) (from + end) (slice_range original (from + start) (from + end))
+      → IsTriedAt (versions_at copies from to) start end (slice_range (slice_range original from to) start end)
+  link_narrowed tried =
+      tried_narrowed from to copies start end (slice_range (slice_range original from to) start end) within
+      (subst (IsTriedAt copies (from + start) (from + end)) (sym (range_of_range from to original start end within)) tried)
 
   -- some cut copy has the link intact exactly where some copy has it
   pub intact_narrowed : IsIntactInSome (slice_range original from to) (versions_at copies from to) start end
@@ -207,7 +231,7 @@ module _ (from to : ℕ) (original : List ℕ) (order : from ≤ to) (is_to : Is
           claim = λ start end link. claim_in from to copies end start (narrowed_within end link.is_end)
               (weavable.claim (from + start) (from + end) (link_out start end link));
           passes = passes_narrowed weavable.passes;
-          among = λ start end link. among_narrowed from to original copies start end (narrowed_within end link.is_end)
+          among = λ start end link. link_narrowed from to original copies start end (narrowed_within end link.is_end)
               (weavable.among (from + start) (from + end) (link_out start end link));
         }
 

@@ -102,7 +102,18 @@ module _ (original : List ℕ) (copies : List (List ℕ)) (near : AreNearCopies 
   pub are_weavable : (copy : List ℕ) → Contains copies copy → AreConsistentFromBelow original copies
       → ((start end : ℕ) → IsLinkOf original start end → IsAmong original copies start end) → AreWeavable original copies
   are_weavable copy there below among =
-      record { agree = near_agree; below = below; claim = claim_link copy there; passes = near.undamaged.passes; among = among }
+      record {
+        agree = near_agree;
+        below = below;
+        claim = claim_link copy there;
+        passes = near.undamaged.passes;
+        among = λ start end link. record {
+          claimed = λ claim. among start end link;
+          unclaimed = λ content no_claim. absurd (no_claim (claim_link copy there start end link));
+          several = λ two are_bytes. absurd (two.differ (claimed_start end start two.one link two.one_there
+              ∙ sym (claimed_start end start two.other link two.other_there)));
+        };
+      }
 
   -- the copy of a piece has the link intact
   pub piece_intact : (start end : ℕ) (bytes : List ℕ) → IsLinkOf original start end → IsPiece copies end (record { start = start; bytes = bytes })

@@ -1,10 +1,9 @@
 -- The place that ends at an end of the splice: how long it is, and how it stands.
 use Rattle.std.proofs.Common.{◌≡◌, ℕ, ◌+◌, ◌≤◌, List, length, refl, sym, ap, ◌∙◌, inl, inr, arith}
-use Rattle.std.specs.Prelude.{Contains}
 use Rattle.ffv1_slice.specs.Chain.{FooterGives, LinkValue}
 use Rattle.ffv1_slice.proofs.NearLaws.{length-range}
 use Rattle.ffv1_slice.specs.Members.{IsOnly, IsOfTwo, IsOfNone}
-use Rattle.ffv1_splice.specs.Pieces.{IsPiece, IsClaimedStart, IsLeast}
+use Rattle.ffv1_splice.specs.Pieces.{AllReach, IsPiece, IsClaimedStart, IsLeast}
 use Rattle.ffv1_weave.specs.Weave.{Weave, IsWeaveOf}
 use Rattle.ffv1_weave.specs.Weave.Weave.{missing, too_many}
 use Rattle.ffv1_weave.specs.declared.check.Check.TheVariants.{Slice}
@@ -34,10 +33,6 @@ pub two_not_none : {X : Type 0} (P : X → Type 0) → IsOfTwo P → IsOfNone P 
 two_not_none P two none = none two.one two.one_there
 
 -- ---- how long a place is
-
--- each copy reaches to the end
-abbrev pub AllReach : List (List ℕ) → ℕ → Type 0
-AllReach copies end = (copy : List ℕ) → Contains copies copy → end ≤ length copy
 
 pub cut_below : (copy : List ℕ) (start end : ℕ) → FooterGives copy start end → start + 8 ≤ end
 cut_below copy start end cut = omega arith

@@ -12,11 +12,12 @@ use Rattle.ffv1_bits.proofs.Bytes.{AreBytes-range}
 use Rattle.ffv1_slice.specs.Chain.{IsFramed}
 use Rattle.ffv1_weave.specs.Regions.{HaveLength, AgreeAt}
 use Rattle.ffv1_weave.specs.Combinations.{IsCombination}
+use Rattle.ffv1_weave.specs.Laws.{HasEachByte}
 use Rattle.ffv1_weave.proofs.Agreeing.{agree_past}
 use Rattle.ffv1_weave.proofs.Choices.{same_range, range_at}
+use Rattle.ffv1_splice.specs.Pieces.{AllReach}
 use Rattle.ffv1_splice.specs.Standings.{versions_at, sized}
-use Rattle.ffv1_splice.proofs.PlaceSteps.{AllReach}
-use Rattle.ffv1_splice.proofs.Versions.{mapped_there, mapped_of, version_there, version_of, version_length}
+use Rattle.ffv1_splice.proofs.Versions.{mapped_there, mapped_of, version_there, version_length}
 use Rattle.ffv1_splice.proofs.FirstSlices.{length-sized, same_inside, combination_between}
 use Rattle.ffv1_weave.proofs.WiderRegions.{region_around}
 
@@ -121,42 +122,23 @@ field_of_slice : (slice : List ℕ) (size : ℕ) → AreBytes slice → IsFramed
 field_of_slice slice size small framed same i =
     subst (λ n. IsInField n i → get_or slice i 0 ≡ get_or (big_bytes 3 (n - 8)) (i - (n - 8)) 0) same (own_field slice small framed i)
 
--- ---- a combination
+-- ---- what copies have between two places, with its size
 
-module _ (copies : List (List ℕ)) (start end : ℕ) (copy slice : List ℕ) (reach : AllReach copies end) (there : Contains copies copy)
-    (below : start + 8 ≤ end) (are_bytes : (copy : List ℕ) → Contains copies copy → AreBytes copy) (framed : IsFramed slice)
-    (is : IsCombination (versions_at copies start end) slice) where
+module _ (copies : List (List ℕ)) (start end : ℕ) (slice : List ℕ) (reach : AllReach copies end) (below : start + 8 ≤ end) (framed : IsFramed slice)
+    (small : AreBytes slice) (slice_length : length slice ≡ end - start) where
   abbrev versions : List (List ℕ)
   versions = versions_at copies start end
 
   abbrev size : ℕ
   size = end - start
 
-  first_there : Contains versions (slice_range copy start end)
-  first_there = version_there copies start end copy there
-
   long : HaveLength versions size
   long = version_length copies start end (omega arith) reach
-
-  slice_length : length slice ≡ size
-  slice_length = is.same_length (slice_range copy start end) first_there ∙ long (slice_range copy start end) first_there
-
-  slice_bytes : AreBytes slice
-  slice_bytes i = elim (cases_lt i size) [
-    | inl lt ↦
-        let part = combination_between versions size long slice is (slice_range copy start end) first_there i (i + 1) (omega arith) (omega arith) (omega arith) in
-        let of = version_of copies start end part.0 part.1 in
-        let same : get_or slice i 0 ≡ get_or part.0 i 0 = same_inside slice part.0 i (i + 1) i (omega arith) (omega arith) part.2 in
-        let small : AreBytes part.0 = subst AreBytes (sym of.2) (AreBytes-range of.0 start end (are_bytes of.0 of.1)) in
-        omega (arith, small i)
-    | inr past ↦ omega (arith, get_or-eq_default slice 0 (let same = slice_length in let far : length slice ≤ i = omega arith in far))
-  ]
 
   -- In the field the slice has what each version with its size has; elsewhere a version is as it was.
   same_in : (version : List ℕ) → Contains versions version → (i : ℕ) → IsInField size i → get_or slice i 0 ≡ get_or (sized version) i 0
   same_in version here i field =
-      field_of_slice slice size slice_bytes framed slice_length i field
-      ∙ sym (sized_in version size (omega arith) (long version here) i field)
+      field_of_slice slice size small framed slice_length i field ∙ sym (sized_in version size (omega arith) (long version here) i field)
 
   same_off : (version : List ℕ) → Contains versions version → (i : ℕ) → (IsInField size i → ⊥) → get_or (sized version) i 0 ≡ get_or version i 0
   same_off version here i off =
@@ -184,8 +166,20 @@ module _ (copies : List (List ℕ)) (start end : ℕ) (copy slice : List ℕ) (r
   sized_size : (version : List ℕ) → Contains versions version → length (sized version) ≡ size
   sized_size version here = let same = long version here in length-sized version (omega arith) ∙ same
 
-  pub sized_combination : IsCombination (map sized versions) slice
-  sized_combination =
+  -- each byte is intact in some version with its size where it is in some version
+  pub sized_each_byte : HasEachByte slice versions → HasEachByte slice (map sized versions)
+  sized_each_byte has =
+      record {
+        one_length = λ one in_one.
+            let a = mapped_of sized versions one in_one in ap length a.2 ∙ sized_size a.0 a.1 ∙ sym slice_length;
+        intact = λ i lt.
+            let version = has.intact i lt in
+            let same = sym version.2 in
+            (sized version.0, mapped_there sized versions version.0 version.1, sym (same_at version.0 version.1 i same));
+      }
+
+  combination_sized : IsCombination versions slice → IsCombination (map sized versions) slice
+  combination_sized is =
       record {
         same_length = λ one in_one.
             let a = mapped_of sized versions one in_one in slice_length ∙ sym (ap length a.2 ∙ sized_size a.0 a.1);
@@ -216,3 +210,32 @@ module _ (copies : List (List ℕ)) (start end : ℕ) (copy slice : List ℕ) (r
                   (λ i above lt. same_at whole.0 whole.1 i (same_inside slice whole.0 wide.begin wide.last i (omega arith) (omega arith) whole.2)),
             );
       }
+
+-- ---- a combination
+
+module _ (copies : List (List ℕ)) (start end : ℕ) (copy slice : List ℕ) (reach : AllReach copies end) (there : Contains copies copy)
+    (below : start + 8 ≤ end) (framed : IsFramed slice) (is : IsCombination (versions_at copies start end) slice) where
+  first_there : Contains (versions_at copies start end) (slice_range copy start end)
+  first_there = version_there copies start end copy there
+
+  all_long : HaveLength (versions_at copies start end) (end - start)
+  all_long = version_length copies start end (omega arith) reach
+
+  length-slice : length slice ≡ end - start
+  length-slice = is.same_length (slice_range copy start end) first_there ∙ all_long (slice_range copy start end) first_there
+
+  slice_bytes : ((version : List ℕ) → Contains (versions_at copies start end) version → AreBytes version) → AreBytes slice
+  slice_bytes are_bytes i = elim (cases_lt i (end - start)) [
+    | inl lt ↦
+        let part = combination_between (versions_at copies start end) (end - start) all_long slice is (slice_range copy start end) first_there i (i + 1)
+        (omega arith) (omega arith) (omega arith) in
+        let same : get_or slice i 0 ≡ get_or part.0 i 0 = same_inside slice part.0 i (i + 1) i (omega arith) (omega arith) part.2 in
+        let small : AreBytes part.0 = are_bytes part.0 part.1 in
+        omega (arith, small i)
+    | inr past ↦ omega (arith, get_or-eq_default slice 0 (let same = length-slice in let far : length slice ≤ i = omega arith in far))
+  ]
+
+  pub sized_combination : ((version : List ℕ) → Contains (versions_at copies start end) version → AreBytes version)
+      → IsCombination (map sized (versions_at copies start end)) slice
+  sized_combination are_bytes =
+      combination_sized copies start end slice reach below framed (slice_bytes are_bytes) length-slice is

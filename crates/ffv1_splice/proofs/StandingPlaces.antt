@@ -3,18 +3,18 @@ use Rattle.std.proofs.Common.{◌≡◌, ℕ, ◌+◌, ◌≤◌, List, length, 
 use Rattle.std.specs.Prelude.{All, Contains, slice_range}
 use Rattle.std.proofs.lemmas.List.Elements.{All-contains, All-contains_itself}
 use Rattle.ffv1_slice.specs.Chain.{link_of}
-use Rattle.ffv1_splice.specs.Pieces.{IsPiece, IsClaimedStart}
+use Rattle.ffv1_splice.specs.Pieces.{AllReach, IsPiece}
 use Rattle.ffv1_splice.specs.Standings.{versions_at, StandsAs}
 use Rattle.ffv1_splice.specs.Splice.{SplicedValue, IsSettledDown, IsSettledUp, IsCrossed, IsSpliceOf, moved_by, IsSettledOrWoven, IsGivenBack}
+use Rattle.ffv1_splice.specs.Originals.{IsTriedAt}
 use Rattle.ffv1_splice.specs.declared.place.Standing.TheVariants.{Settled, Undivided}
 use Rattle.ffv1_splice.specs.declared.place.Place.{Place}
-use Rattle.ffv1_splice.proofs.PlaceSteps.{AllReach}
 use Rattle.ffv1_splice.proofs.Walks.{ends_below}
-use Rattle.ffv1_splice.proofs.Narrowed.{range_of_range, versions_of_versions, piece_out, claim_out}
+use Rattle.ffv1_splice.proofs.Narrowed.{range_of_range, versions_of_versions, piece_out}
+use Rattle.ffv1_splice.proofs.NarrowedOriginal.{tried_narrowed}
 use Rattle.ffv1_splice.proofs.PlaceLists.{all_stand_undivided, no_front}
 use Rattle.ffv1_splice.proofs.BoundSteps.{bound_within}
 use Rattle.ffv1_splice.proofs.Crossings.{crossed_within}
-use Rattle.ffv1_splice.proofs.Versions.{version_length}
 use Rattle.ffv1_splice.proofs.SplicePlaces.{all_lower, all_places, all_of_hole, all_undivided, end_within, hole_length, hole_upright}
 
 -- The place stands as follows from what the copies have from one place up to another: so the hole's places do, and those over lost slices.
@@ -30,22 +30,17 @@ pub record StandsBetween (copies : List (List ℕ)) (payload : List ℕ) (place 
   pub stands : StandsAs (versions_at copies from to) start end (slice_range payload place.start place.end) place.standing
 
 module _ (copies : List (List ℕ)) (payload : List ℕ) (place : Place) (h : StandsBetween copies payload place) where
-  -- each of the cut copies reaches to its end
-  pub between_reach : AllReach (versions_at copies h.from h.to) h.end
-  between_reach version there =
-      let within = h.within in
-      omega (arith, version_length copies h.from h.to (omega arith) h.reach version there)
-
   -- what the cut copies have there is what the copies have there
   pub between_versions : versions_at (versions_at copies h.from h.to) h.start h.end ≡ versions_at copies place.start place.end
   between_versions =
       versions_of_versions h.from h.to copies h.start h.end h.within ∙ ap (λ n. versions_at copies n (h.from + h.end)) (sym h.starts)
       ∙ ap (λ n. versions_at copies place.start n) (sym h.ends)
 
-  pub between_claim : IsClaimedStart (versions_at copies h.from h.to) h.end h.start → IsClaimedStart copies place.end place.start
-  between_claim claim =
-      subst (λ s. IsClaimedStart copies place.end s) (sym h.starts)
-      (subst (λ e. IsClaimedStart copies e (h.from + h.start)) (sym h.ends) (claim_out h.from h.to copies h.end h.start h.within claim))
+  -- a slice that is among the combinations that are tried there is among those that are tried of the cut copies
+  pub between_tried : (slice : List ℕ) → IsTriedAt copies place.start place.end slice → IsTriedAt (versions_at copies h.from h.to) h.start h.end slice
+  between_tried slice tried =
+      tried_narrowed h.from h.to copies h.start h.end slice h.within
+      (subst (λ s. IsTriedAt copies s (h.from + h.end) slice) h.starts (subst (λ e. IsTriedAt copies place.start e slice) h.ends tried))
 
 -- How a place of the splice stands: settled from above or from below, as follows from copies that are cut, or as what can't be divided.
 pub data IsPlaceOf (copies : List (List ℕ)) (spliced : SplicedValue) (is : IsSpliceOf copies spliced) : Place → Type 0 where

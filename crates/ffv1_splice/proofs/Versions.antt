@@ -9,9 +9,10 @@ use Rattle.ffv1_weave.specs.Regions.{HaveLength}
 use Rattle.ffv1_weave.specs.Weave.Weave.{woven}
 use Rattle.ffv1_weave.specs.Repairs.{inverted, IsRepair}
 use Rattle.ffv1_weave.proofs.Choices.{length-written}
+use Rattle.ffv1_splice.specs.Pieces.{AllReach}
 use Rattle.ffv1_splice.specs.Standings.{versions_at, IsWeaveAt, IsVoteAt, IsRepairAt}
 use Rattle.ffv1_weave.proofs.References.{value_at, length-values_of, value_there}
-use Rattle.ffv1_splice.proofs.PlaceSteps.{AllReach, claim_below, unwoven_weave}
+use Rattle.ffv1_splice.proofs.PlaceSteps.{claim_below, unwoven_weave}
 
 -- ---- what is made of each member
 

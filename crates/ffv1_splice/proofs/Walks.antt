@@ -5,7 +5,7 @@ use Rattle.std.proofs.Math.Seq.{drop-append_seam}
 use Rattle.std.proofs.lemmas.List.{drop-append-le, take-append-le, take_all, take-take, length-append, length-drop, length-take-le}
 use Rattle.std.proofs.lemmas.List.Elements.{All-nil, All-cons, All-head, All-tail}
 use Rattle.std.proofs.lemmas.Bool.{cases_lt}
-use Rattle.ffv1_splice.specs.Pieces.{IsLeast}
+use Rattle.ffv1_splice.specs.Pieces.{AllReach, IsLeast}
 use Rattle.ffv1_splice.specs.Standings.{StandsAs, IsStop}
 use Rattle.ffv1_splice.specs.Splice.{SplicedValue, LieFrom, IsDivisionOf}
 use Rattle.ffv1_splice.specs.declared.place.Standing.{Standing}
@@ -13,7 +13,7 @@ use Rattle.ffv1_splice.specs.declared.place.Standing.TheVariants.{Settled, Woven
 use Rattle.ffv1_splice.specs.declared.place.Place.{Place}
 use Rattle.ffv1_splice.proofs.FirstSlices.{woven_below, woven_size}
 use Rattle.ffv1_splice.proofs.Versions.{vote_size, repair_size}
-use Rattle.ffv1_splice.proofs.PlaceSteps.{AllReach, cut_below, claim_below, piece_size, gap_size, least_size, unwoven_weave}
+use Rattle.ffv1_splice.proofs.PlaceSteps.{cut_below, claim_below, piece_size, gap_size, least_size, unwoven_weave}
 
 -- What stands before an end. Where no place ends, it is one front that can't be divided; else the place that ends there, and what stands
 -- before its start.

@@ -6,13 +6,12 @@ use Rattle.ffv1_bits.specs.Parity.{PassesParity}
 use Rattle.ffv1_slice.specs.Chain.{FooterGives, IsEnd, IsFramed, LinkValue, link_of}
 use Rattle.ffv1_slice.specs.Chain.IsEnd.{last, before}
 use Rattle.ffv1_slice.proofs.NearLaws.{length-range, size_of_range}
-use Rattle.ffv1_splice.specs.Pieces.{HasContent, IsPiece}
+use Rattle.ffv1_splice.specs.Pieces.{AllReach, HasContent, IsPiece}
 use Rattle.ffv1_splice.specs.Standings.{versions_at, StandsAs}
 use Rattle.ffv1_splice.specs.Splice.{SplicedValue, LieFrom, IsSpliceOf, IsSettledOrWoven, IsGivenBack}
 use Rattle.ffv1_splice.specs.declared.place.Standing.{Standing}
 use Rattle.ffv1_splice.specs.declared.place.Standing.TheVariants.{Settled, Woven, Voted, Repaired, Disputed, Missing, Undivided}
 use Rattle.ffv1_splice.specs.declared.place.Place.{Place}
-use Rattle.ffv1_splice.proofs.PlaceSteps.{AllReach}
 use Rattle.ffv1_splice.proofs.Walks.{reach_less}
 use Rattle.ffv1_splice.proofs.Narrowed.{piece_out}
 use Rattle.ffv1_splice.proofs.SplicePlaces.{places_lie, places_within}

@@ -4,38 +4,38 @@ use Rattle.std.specs.Prelude.{All, Contains, slice_range}
 use Rattle.std.proofs.lemmas.List.Elements.{All-contains_itself}
 use Rattle.std.proofs.lemmas.Bool.{cases_eq}
 use Rattle.ffv1_bits.specs.Parity.{AreBytes, PassesParity}
+use Rattle.ffv1_bits.proofs.Bytes.{AreBytes-range}
 use Rattle.ffv1_slice.specs.Chain.{FooterGives, IsEnd, IsLinkOf, IsFramed}
 use Rattle.ffv1_slice.specs.Chain.IsEnd.{last}
-use Rattle.ffv1_slice.specs.Members.{IsOnly}
+use Rattle.ffv1_slice.specs.Members.{IsOnly, IsOfTwo}
 use Rattle.ffv1_slice.proofs.NearLaws.{length-range, size_of_range}
-use Rattle.ffv1_weave.specs.Combinations.{IsCombination}
-use Rattle.ffv1_weave.specs.Weave.{IsWeaveOf, AreMany}
+use Rattle.ffv1_weave.specs.Combinations.{IsAmongTried}
+use Rattle.ffv1_weave.specs.Laws.{KeepsOriginal}
+use Rattle.ffv1_weave.specs.Weave.{Weave, IsWeaveOf, AreMany}
 use Rattle.ffv1_weave.specs.Weave.Weave.{woven as weave_woven, missing as weave_missing}
 use Rattle.ffv1_weave.specs.declared.check.Check.TheVariants.{Slice}
-use Rattle.ffv1_weave.proofs.Coarsest.{original_is_woven}
+use Rattle.ffv1_weave.proofs.AmongTried.{original_is_woven}
 use Rattle.ffv1_splice.specs.Pieces.{HasContent, IsClaimedStart}
-use Rattle.ffv1_splice.specs.Standings.{versions_at, sized, IsUnwovenAt, IsWeaveOfSeveral, StandsAs}
+use Rattle.ffv1_splice.specs.Standings.{versions_at, sized, IsWeaveAt, IsUnwovenAt, IsWeaveOfSeveral, StandsAs}
 use Rattle.ffv1_splice.specs.Splice.{SplicedValue, IsDivisionOf, IsSpliceOf, IsSettledOrWoven, IsGivenBack}
-use Rattle.ffv1_splice.specs.Originals.{AreCopiesOf, IsAmong, AreWeavable}
-use Rattle.ffv1_splice.specs.Laws.{KeepsLink, WovenIsOriginal, SizedIsOriginal, GivenBackIsOriginal}
+use Rattle.ffv1_splice.specs.Originals.{AreCopiesOf, IsTriedAt, AreWeavable}
+use Rattle.ffv1_splice.specs.Laws.{KeepsLink, WovenIsOriginal, GivenBackIsOriginal}
 use Rattle.ffv1_splice.specs.declared.place.Standing.{Standing}
 use Rattle.ffv1_splice.specs.declared.place.Standing.TheVariants.{Settled, Woven, Voted, Repaired, Disputed, Missing, Undivided}
 use Rattle.ffv1_splice.specs.declared.place.Place.{Place}
 use Rattle.ffv1_splice.proofs.DividedLinks.{end_within, link_at, AreLinkPlaces, link_places, settled_link, same_payload}
-use Rattle.ffv1_splice.proofs.FirstSlices.{combination_claim}
-use Rattle.ffv1_splice.proofs.Versions.{version_there}
-use Rattle.ffv1_splice.proofs.PlaceSteps.{AllReach, claim_below, unwoven_weave, missing_unwoven}
-use Rattle.ffv1_splice.proofs.SizedCombinations.{sized_combination}
+use Rattle.ffv1_splice.proofs.Versions.{version_of}
+use Rattle.ffv1_splice.proofs.PlaceSteps.{claim_below, unwoven_weave, missing_unwoven}
 use Rattle.ffv1_splice.proofs.NarrowedOriginal.{AreWeavableDown, copies_narrowed, weavable_narrowed}
 use Rattle.ffv1_splice.proofs.Walks.{IsSpliceBefore, division_walk, stands_below}
-use Rattle.ffv1_splice.proofs.SplicePlaces.{copy_at_hand, places_lie, start_within}
-use Rattle.ffv1_splice.proofs.StandingPlaces.{between_reach, between_versions, between_claim, IsPlaceOf, place_of, hole_given_back}
+use Rattle.ffv1_splice.proofs.SplicePlaces.{places_lie, start_within}
+use Rattle.ffv1_splice.proofs.StandingPlaces.{between_versions, between_tried, IsPlaceOf, place_of, hole_given_back}
 use Rattle.ffv1_splice.proofs.StandingPlaces.IsPlaceOf.{above, between, undivided, below}
 use Rattle.ffv1_splice.proofs.SameBytes.{IsSameAt}
 use Rattle.ffv1_splice.proofs.OriginalLaws.{settled_is_original, as_long, above_links, across_links, joined_links}
 
 -- a link's slice has its footer
-framed_link : (original : List ℕ) (start end : ℕ) → IsLinkOf original start end → IsFramed (slice_range original start end)
+pub framed_link : (original : List ℕ) (start end : ℕ) → IsLinkOf original start end → IsFramed (slice_range original start end)
 framed_link original start end link =
     let cut : FooterGives original start end = link.cut in
     let within = end_within original end link.is_end in
@@ -46,44 +46,53 @@ framed_link original start end link =
 -- ---- a slice that is among the combinations
 
 -- what is woven of versions among whose combinations it is
-slice_of_weave : (slice : List ℕ) → IsFramed slice → PassesParity slice → (versions : List (List ℕ)) (bytes : List ℕ) (count : ℕ)
-    → IsCombination versions slice → IsWeaveOf Slice versions (weave_woven bytes count) → bytes ≡ slice
+pub slice_of_weave : (slice : List ℕ) → IsFramed slice → PassesParity slice → (versions : List (List ℕ)) (bytes : List ℕ) (count : ℕ)
+    → IsAmongTried versions slice → IsWeaveOf Slice versions (weave_woven bytes count) → bytes ≡ slice
 slice_of_weave slice framed passes versions bytes count among h = original_is_woven Slice slice versions (weave_woven bytes count) (framed, passes) among h
 
+-- the copies are of bytes, and so is what they have between two places
+versions_bytes : (copies : List (List ℕ)) (start end : ℕ) → ((copy : List ℕ) → Contains copies copy → AreBytes copy)
+    → (version : List ℕ) → Contains (versions_at copies start end) version → AreBytes version
+versions_bytes copies start end are_bytes version there =
+    let of = version_of copies start end version there in
+    subst AreBytes (sym of.2) (AreBytes-range of.0 start end (are_bytes of.0 of.1))
+
 module _ (copies : List (List ℕ)) (start end : ℕ) (slice : List ℕ) (framed : IsFramed slice) (passes : PassesParity slice)
-    (among : IsCombination (versions_at copies start end) slice) where
-  -- What is woven is the slice. Its start is claimed: some copy has its size field.
-  pub woven_slice : (copy bytes : List ℕ) (standing : Standing) (count : ℕ) → AllReach copies end → Contains copies copy → standing ≡ Woven count
-      → StandsAs copies start end bytes standing → bytes ≡ slice
-  woven_slice copy bytes Settled count reach there is h = absurd (cc)
-  woven_slice copy bytes (Woven n) count reach there is (inl h) = slice_of_weave slice framed passes (versions_at copies start end) bytes n among h.weave'
-  woven_slice copy bytes (Woven n) count reach there is (inr (inr h)) =
-      let below = claim_below copies start end h.claim in
+    (tried : IsTriedAt copies start end slice) where
+  -- What is woven is the slice.
+  pub woven_slice : (bytes : List ℕ) (standing : Standing) (count : ℕ) → standing ≡ Woven count → StandsAs copies start end bytes standing → bytes ≡ slice
+  woven_slice bytes Settled count is h = absurd (cc)
+  woven_slice bytes (Woven n) count is (inl h) =
+      slice_of_weave slice framed passes (versions_at copies start end) bytes n (tried.claimed h.claim.there) h.weave'
+  woven_slice bytes (Woven n) count is (inr (inr h)) =
       slice_of_weave slice framed passes (map sized (versions_at copies start end)) bytes (get_or h.tried start 0)
-      (sized_combination copies start end copy slice reach there below h.are_bytes framed among) h.weave'
-  woven_slice copy bytes (Woven n) count reach there is (inr (inl h)) =
-      absurd (h.1.no_claim 0 (combination_claim copies end copy slice reach there h.1.content framed
-      (subst (λ s. IsCombination (versions_at copies s end) slice) h.0 among)))
-  woven_slice copy bytes (Voted n) count reach there is h = absurd (cc)
-  woven_slice copy bytes (Repaired n) count reach there is h = absurd (cc)
-  woven_slice copy bytes Disputed count reach there is h = absurd (cc)
-  woven_slice copy bytes Missing count reach there is h = absurd (cc)
-  woven_slice copy bytes Undivided count reach there is h = absurd (cc)
+      (tried.several h.several (versions_bytes copies start end h.are_bytes)) h.weave'
+  woven_slice bytes (Woven n) count is (inr (inl h)) =
+      let first : IsTriedAt copies 0 end slice = subst (λ s. IsTriedAt copies s end slice) h.0 tried in
+      slice_of_weave slice framed passes (map sized (versions_at copies 0 end)) bytes n (first.unclaimed h.1.content (h.1.no_claim 0)) h.1.weave'
+  woven_slice bytes (Voted n) count is h = absurd (cc)
+  woven_slice bytes (Repaired n) count is h = absurd (cc)
+  woven_slice bytes Disputed count is h = absurd (cc)
+  woven_slice bytes Missing count is h = absurd (cc)
+  woven_slice bytes Undivided count is h = absurd (cc)
+
+  -- something is woven from the one start that is claimed, if there are not too many combinations
+  kept : (weave : Weave) → IsWeaveAt copies start end weave → KeepsOriginal slice weave
+  kept weave h = original_is_woven Slice slice (versions_at copies start end) weave (framed, passes) (tried.claimed h.claim.there) h.weave'
 
   -- it is not repaired, ..
   pub unrepaired_slice : (bytes : List ℕ) (standing : Standing) (count : ℕ) → standing ≡ Repaired count → StandsAs copies start end bytes standing → ⊥
   unrepaired_slice bytes Settled count is h = absurd (cc)
   unrepaired_slice bytes (Woven n) count is h = absurd (cc)
   unrepaired_slice bytes (Voted n) count is h = absurd (cc)
-  unrepaired_slice bytes (Repaired n) count is h =
-      original_is_woven Slice slice (versions_at copies start end) (weave_missing h.combinations) (framed, passes) among h.missed.weave'
+  unrepaired_slice bytes (Repaired n) count is h = kept (weave_missing h.combinations) h.missed
   unrepaired_slice bytes Disputed count is h = absurd (cc)
   unrepaired_slice bytes Missing count is h = absurd (cc)
   unrepaired_slice bytes Undivided count is h = absurd (cc)
 
   -- .. and where nothing is woven there are too many combinations: ..
   unwoven_slice : IsUnwovenAt copies start end → AreMany (versions_at copies start end)
-  unwoven_slice (inl h) = absurd (original_is_woven Slice slice (versions_at copies start end) (weave_missing h.0) (framed, passes) among h.1.weave')
+  unwoven_slice (inl h) = absurd (kept (weave_missing h.0) h.1)
   unwoven_slice (inr h) = h.weave'
 
   -- .. so where it is missing, ..
@@ -108,22 +117,6 @@ module _ (copies : List (List ℕ)) (start end : ℕ) (slice : List ℕ) (framed
   voted_slice bytes Missing count is h = absurd (cc)
   voted_slice bytes Undivided count is h = absurd (cc)
 
--- Where its start is claimed by no copy, and it is a combination of the versions with their size, what is woven is the slice.
-sized_slice : (copies : List (List ℕ)) (start end : ℕ) (slice : List ℕ) → IsFramed slice → PassesParity slice → (IsClaimedStart copies end start → ⊥)
-    → IsCombination (map sized (versions_at copies start end)) slice → (bytes : List ℕ) (standing : Standing) (count : ℕ) → standing ≡ Woven count
-    → StandsAs copies start end bytes standing → bytes ≡ slice
-sized_slice copies start end slice framed passes no_claim among bytes Settled count is h = absurd (cc)
-sized_slice copies start end slice framed passes no_claim among bytes (Woven n) count is (inl h) = absurd (no_claim h.claim.there)
-sized_slice copies start end slice framed passes no_claim among bytes (Woven n) count is (inr (inr h)) = absurd (no_claim h.claim)
-sized_slice copies start end slice framed passes no_claim among bytes (Woven n) count is (inr (inl h)) =
-    slice_of_weave slice framed passes (map sized (versions_at copies 0 end)) bytes n
-    (subst (λ s. IsCombination (map sized (versions_at copies s end)) slice) h.0 among) h.1.weave'
-sized_slice copies start end slice framed passes no_claim among bytes (Voted n) count is h = absurd (cc)
-sized_slice copies start end slice framed passes no_claim among bytes (Repaired n) count is h = absurd (cc)
-sized_slice copies start end slice framed passes no_claim among bytes Disputed count is h = absurd (cc)
-sized_slice copies start end slice framed passes no_claim among bytes Missing count is h = absurd (cc)
-sized_slice copies start end slice framed passes no_claim among bytes Undivided count is h = absurd (cc)
-
 -- ---- what is woven in a splice
 
 module _ (original : List ℕ) (copies : List (List ℕ)) (spliced : SplicedValue) (is : IsSpliceOf copies spliced) where
@@ -145,42 +138,24 @@ module _ (original : List ℕ) (copies : List (List ℕ)) (spliced : SplicedValu
   keeps_undivided place stands = keeps_unless place (λ n woven. cc) (λ n repaired. cc) (λ missing. cc) (λ n voted. cc)
 
   keeps_link : (place : Place) → IsPlaceOf copies spliced is place → IsLinkOf original place.start place.end
-      → PassesParity (slice_range original place.start place.end) → IsAmong original copies place.start place.end → KeepsLink original copies spliced place
-  keeps_link place (above settled) link passes among = keeps_settled place settled.standing
-  keeps_link place (between h) link passes among =
+      → PassesParity (slice_range original place.start place.end) → IsTriedAt copies place.start place.end (slice_range original place.start place.end)
+      → KeepsLink original copies spliced place
+  keeps_link place (above settled) link passes tried = keeps_settled place settled.standing
+  keeps_link place (between h) link passes tried =
       let bytes : List ℕ = slice_range spliced.payload place.start place.end in
       let slice : List ℕ = slice_range original place.start place.end in
       let versions : List (List ℕ) = versions_at copies h.from h.to in
-      let copy = copy_at_hand copies spliced is in
       let same = between_versions copies spliced.payload place h in
       let framed = framed_link original place.start place.end link in
-      let all : IsCombination (versions_at versions h.start h.end) slice = subst (λ vs. IsCombination vs slice) (sym same) among in
+      let there = between_tried copies spliced.payload place h slice tried in
       record {
-        woven = λ count woven. woven_slice versions h.start h.end slice framed passes all (slice_range copy.0 h.from h.to) bytes place.standing count
-            (between_reach copies spliced.payload place h) (version_there copies h.from h.to copy.0 copy.1) woven h.stands;
-        unrepaired = λ count repaired. unrepaired_slice versions h.start h.end slice framed passes all bytes place.standing count repaired h.stands;
-        missing = λ missing. subst AreMany same (missing_slice versions h.start h.end slice framed passes all bytes place.standing missing h.stands);
-        voted = λ count voted. subst AreMany same (voted_slice versions h.start h.end slice framed passes all bytes place.standing count voted h.stands);
+        woven = λ count woven. woven_slice versions h.start h.end slice framed passes there bytes place.standing count woven h.stands;
+        unrepaired = λ count repaired. unrepaired_slice versions h.start h.end slice framed passes there bytes place.standing count repaired h.stands;
+        missing = λ missing. subst AreMany same (missing_slice versions h.start h.end slice framed passes there bytes place.standing missing h.stands);
+        voted = λ count voted. subst AreMany same (voted_slice versions h.start h.end slice framed passes there bytes place.standing count voted h.stands);
       }
-  keeps_link place (undivided stands) link passes among = keeps_undivided place stands
-  keeps_link place (below settled) link passes among = keeps_settled place settled.standing
-
-  sized_link : (place : Place) (count : ℕ) → IsPlaceOf copies spliced is place → IsLinkOf original place.start place.end
-      → (IsClaimedStart copies place.end place.start → ⊥) → PassesParity (slice_range original place.start place.end)
-      → IsCombination (map sized (versions_at copies place.start place.end)) (slice_range original place.start place.end) → place.standing ≡ Woven count
-      → slice_range spliced.payload place.start place.end ≡ slice_range original place.start place.end
-  sized_link place count (above settled) link no_claim passes among as_woven = (keeps_settled place settled.standing).woven count as_woven
-  sized_link place count (between h) link no_claim passes among as_woven =
-      let slice : List ℕ = slice_range original place.start place.end in
-      sized_slice (versions_at copies h.from h.to) h.start h.end slice (framed_link original place.start place.end link) passes
-      (λ claim. no_claim (between_claim copies spliced.payload place h claim))
-      (subst (λ vs. IsCombination (map sized vs) slice) (sym (between_versions copies spliced.payload place h)) among)
-      (slice_range spliced.payload place.start place.end) place.standing count as_woven h.stands
-  sized_link place count (undivided stands) link no_claim passes among as_woven = (keeps_undivided place stands).woven count as_woven
-  sized_link place count (below settled) link no_claim passes among as_woven = (keeps_settled place settled.standing).woven count as_woven
-
-pub sized_is_original : SizedIsOriginal
-sized_is_original original copies spliced place count is there = sized_link original copies spliced is place count (place_of copies spliced is place there)
+  keeps_link place (undivided stands) link passes tried = keeps_undivided place stands
+  keeps_link place (below settled) link passes tried = keeps_settled place settled.standing
 
 pub woven_is_original : WovenIsOriginal
 woven_is_original original copies spliced place is there = keeps_link original copies spliced is place (place_of copies spliced is place there)
@@ -195,14 +170,10 @@ module _ (original : List ℕ) (copies : List (List ℕ)) (spliced : SplicedValu
       let at = link_at original of.whole end is_end after in
       subst (λ s. FooterGives original s end) (only.others at.0 (weavable.claim at.0 end (record { is_end = is_end; cut = at.1 }))) at.1
 
-  -- a link's slice is a combination of what the copies have there with its size
-  among_sized : (start end : ℕ) → IsLinkOf original start end → ((copy : List ℕ) → Contains copies copy → AreBytes copy)
-      → IsCombination (map sized (versions_at copies start end)) (slice_range original start end)
-  among_sized start end link are_bytes =
-      let claim = weavable.claim start end link in
-      let within = end_within original end link.is_end in
-      sized_combination copies start end claim.copy (slice_range original start end) (λ copy there. omega (arith, of.one_length copy there)) claim.there
-      (claim_below copies start end claim) are_bytes (framed_link original start end link) (weavable.among start end link)
+  -- a link's slice is among the combinations of what the copies have there with its size
+  among_sized : (start end : ℕ) → IsLinkOf original start end → IsOfTwo (IsClaimedStart copies end)
+      → ((copy : List ℕ) → Contains copies copy → AreBytes copy) → IsAmongTried (map sized (versions_at copies start end)) (slice_range original start end)
+  among_sized start end link two are_bytes = (weavable.among start end link).several two (versions_bytes copies start end are_bytes)
 
   -- of several starts the one that gives a slice is the link's, since something comes of that
   several_cut : (start end : ℕ) (bytes : List ℕ) (count : ℕ) → IsEnd original end → IsWeaveOfSeveral copies start end bytes count → FooterGives original start end
@@ -214,7 +185,7 @@ module _ (original : List ℕ) (copies : List (List ℕ)) (spliced : SplicedValu
         | inl same ↦ subst (λ s. FooterGives original s end) same at.1
         | inr apart ↦
             absurd (original_is_woven Slice (slice_range original at.0 end) (map sized (versions_at copies at.0 end)) (weave_missing (get_or h.tried at.0 0))
-            (framed_link original at.0 end link, weavable.passes at.0 end link) (among_sized at.0 end link h.are_bytes)
+            (framed_link original at.0 end link, weavable.passes at.0 end link) (among_sized at.0 end link h.several h.are_bytes)
             (h.others at.0 (weavable.claim at.0 end link) apart))
       ]
 
@@ -251,13 +222,9 @@ module _ (original : List ℕ) (copies : List (List ℕ)) (spliced : SplicedValu
   has_link : (start end : ℕ) (bytes : List ℕ) (standing : Standing) → IsLinkOf original start end → IsSettledOrWoven standing
       → StandsAs copies start end bytes standing → bytes ≡ slice_range original start end
   has_link start end bytes Settled link right h = (settled_link original copies weavable.agree start end bytes Settled link.is_end refl h).1
-  has_link start end bytes (Woven count) link right (inl h) =
-      slice_of_weave (slice_range original start end) (framed_link original start end link) (weavable.passes start end link)
-      (versions_at copies start end) bytes count (weavable.among start end link) h.weave'
-  has_link start end bytes (Woven count) link right (inr (inl h)) = absurd (h.1.no_claim start (weavable.claim start end link))
-  has_link start end bytes (Woven count) link right (inr (inr h)) =
-      slice_of_weave (slice_range original start end) (framed_link original start end link) (weavable.passes start end link)
-      (map sized (versions_at copies start end)) bytes (get_or h.tried start 0) (among_sized start end link h.are_bytes) h.weave'
+  has_link start end bytes (Woven count) link right h =
+      woven_slice copies start end (slice_range original start end) (framed_link original start end link) (weavable.passes start end link)
+      (weavable.among start end link) bytes (Woven count) count refl h
   has_link start end bytes (Voted count) link right h = absurd right
   has_link start end bytes (Repaired count) link right h = absurd right
   has_link start end bytes Disputed link right h = absurd right

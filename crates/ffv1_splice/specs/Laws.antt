@@ -1,17 +1,18 @@
 -- Laws of the splice.
-use Rattle.std.specs.Prelude.{ℕ, ◌≡◌, ◌↔◌, List, All, Contains, map, slice_range}
+use Rattle.std.specs.Prelude.{ℕ, ◌≡◌, ◌↔◌, ◌⊎◌, List, All, Contains, map, slice_range}
 use Rattle.ffv1_slice.specs.Chain.{IsEnd, IsLinkOf, link_of}
 use Rattle.ffv1_slice.specs.Walk.{links_of}
-use Rattle.ffv1_slice.specs.Members.{HasSameMembers}
-use Rattle.ffv1_bits.specs.Parity.{PassesParity}
-use Rattle.ffv1_weave.specs.Combinations.{IsCombination}
+use Rattle.ffv1_slice.specs.Members.{HasSameMembers, IsOnly, IsOfTwo}
+use Rattle.ffv1_bits.specs.Parity.{AreBytes, PassesParity}
+use Rattle.ffv1_weave.specs.Combinations.{IsCombination, IsAmongTried, HasFewByByte}
+use Rattle.ffv1_weave.specs.Laws.{HasEachByte}
 use Rattle.ffv1_weave.specs.Weave.{AreMany}
 use Rattle.ffv1_weave.specs.Repairs.{IsRepair}
 use Rattle.ffv1_weave.specs.Votes.{IsVote}
-use Rattle.ffv1_splice.specs.Pieces.{IsClaimedStart}
+use Rattle.ffv1_splice.specs.Pieces.{AllReach, IsClaimedStart, IsClaimedFrom}
 use Rattle.ffv1_splice.specs.Standings.{versions_at, sized}
 use Rattle.ffv1_splice.specs.Splice.{SplicedValue, IsSpliceOf, IsGivenBack, crossing_places}
-use Rattle.ffv1_splice.specs.Originals.{AreCopiesOf, AreConsistentWith, AreConsistentFromBelow, HaveEachLink, IsAmong, AreWeavable, AreNearCopies, IsIntactInSome}
+use Rattle.ffv1_splice.specs.Originals.{AreCopiesOf, AreConsistentWith, AreConsistentFromBelow, HaveEachLink, IsAmong, IsTriedAt, AreWeavable, AreNearCopies, IsIntactInSome}
 use Rattle.ffv1_splice.specs.declared.place.Standing.TheVariants.{Settled, Woven, Voted, Repaired, Missing}
 use Rattle.ffv1_splice.specs.declared.place.Place.{Place}
 
@@ -82,22 +83,33 @@ pub record KeepsLink (original : List ℕ) (copies : List (List ℕ)) (spliced :
   pub missing : place.standing ≡ Missing → AreMany (versions_at copies place.start place.end)
   pub voted : (count : ℕ) → place.standing ≡ Voted count → AreMany (versions_at copies place.start place.end)
 
--- So it is at each place that is a link of the original, where the original's slice passes its parity and is among the combinations
--- of what the copies have there.
+-- So it is at each place that is a link of the original, where the original's slice passes its parity and is among the combinations that are
+-- tried there.
 abbrev pub WovenIsOriginal : Type 0
 WovenIsOriginal =
     (original : List ℕ) (copies : List (List ℕ)) (spliced : SplicedValue) (place : Place) → IsSpliceOf copies spliced → Contains spliced.places place
     → IsLinkOf original place.start place.end → PassesParity (slice_range original place.start place.end)
-    → IsAmong original copies place.start place.end → KeepsLink original copies spliced place
+    → IsTriedAt copies place.start place.end (slice_range original place.start place.end) → KeepsLink original copies spliced place
 
--- Where no copy claims the start of that link, so it is woven from the front of the hole: what is woven is the original's slice, if that
--- passes its parity and is among the combinations of what the copies have there, each with the size of a slice that is as long.
+-- Of the starts from the hole on, the footers at the end of a place claim that of the original's link alone. Then the place is that link, and so it
+-- is there.
+abbrev pub ClaimedAloneIsOriginal : Type 0
+ClaimedAloneIsOriginal =
+    (original : List ℕ) (copies : List (List ℕ)) (spliced : SplicedValue) (place : Place) (start : ℕ) → (is : IsSpliceOf copies spliced)
+    → Contains spliced.places place → IsOnly (IsClaimedFrom copies is.start place.end) start → IsLinkOf original start place.end
+    → PassesParity (slice_range original start place.end) → IsTriedAt copies start place.end (slice_range original start place.end)
+    → (place.start ≡ start) × KeepsLink original copies spliced place
+
+-- Where no copy claims the start of that link, so it is woven from the front of the hole, and where the footers there claim several starts from
+-- the hole on: what is woven is the original's slice, if that passes its parity and is among the combinations that are tried of what
+-- the copies have there, each with the size of a slice that is as long.
 abbrev pub SizedIsOriginal : Type 0
 SizedIsOriginal =
-    (original : List ℕ) (copies : List (List ℕ)) (spliced : SplicedValue) (place : Place) (count : ℕ) → IsSpliceOf copies spliced
-    → Contains spliced.places place → IsLinkOf original place.start place.end → (IsClaimedStart copies place.end place.start → ⊥)
+    (original : List ℕ) (copies : List (List ℕ)) (spliced : SplicedValue) (place : Place) (count : ℕ) → (is : IsSpliceOf copies spliced)
+    → Contains spliced.places place → IsLinkOf original place.start place.end
+    → (IsClaimedStart copies place.end place.start → ⊥) ⊎ IsOfTwo (IsClaimedFrom copies is.start place.end)
     → PassesParity (slice_range original place.start place.end)
-    → IsCombination (map sized (versions_at copies place.start place.end)) (slice_range original place.start place.end) → place.standing ≡ Woven count
+    → IsAmongTried (map sized (versions_at copies place.start place.end)) (slice_range original place.start place.end) → place.standing ≡ Woven count
     → slice_range spliced.payload place.start place.end ≡ slice_range original place.start place.end
 
 -- Where the original's slice passes its parity, and is one of the combinations of what the copies have there that are tried, with one bit
@@ -116,6 +128,18 @@ VotedIsOriginal =
     → Contains spliced.places place → IsVote (versions_at copies place.start place.end) (slice_range original place.start place.end)
     → place.standing ≡ Voted count
     → slice_range spliced.payload place.start place.end ≡ slice_range original place.start place.end
+
+-- When a link's slice is among the combinations that are tried there: where it is a combination of regions of what the copies have there; and
+-- where each byte of it is intact in some copy, and at distance 0 there are at most 4096 combinations of what the copies have there, as it
+-- is, and with the size of a slice that is as long.
+pub record LinksAreTried : Type 0 where
+  pub regions : (original : List ℕ) (copies : List (List ℕ)) (copy : List ℕ) (start end : ℕ) → Contains copies copy → AllReach copies end
+      → IsLinkOf original start end → IsCombination (versions_at copies start end) (slice_range original start end)
+      → IsTriedAt copies start end (slice_range original start end)
+  pub each_byte : (original : List ℕ) (copies : List (List ℕ)) (start end count more : ℕ) → AllReach copies end → IsLinkOf original start end
+      → AreBytes (slice_range original start end) → HasEachByte (slice_range original start end) (versions_at copies start end)
+      → HasFewByByte (versions_at copies start end) count → HasFewByByte (map sized (versions_at copies start end)) more
+      → IsTriedAt copies start end (slice_range original start end)
 
 -- Where the copies are weavable, a frame that is given back is the original, and its places are the original's links.
 abbrev pub GivenBackIsOriginal : Type 0

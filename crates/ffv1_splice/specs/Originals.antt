@@ -1,11 +1,12 @@
 -- Copies of an original: what they have and claim of its links.
-use Rattle.std.specs.Prelude.{ℕ, ◌≡◌, ◌≤◌, ◌⊎◌, List, Contains, length, slice_range}
+use Rattle.std.specs.Prelude.{ℕ, ◌≡◌, ◌≤◌, ◌⊎◌, List, Contains, length, map, slice_range}
 use Rattle.ffv1_bits.specs.Parity.{AreBytes, PassesParity}
 use Rattle.ffv1_slice.specs.Chain.{IsEnd, IsLinkOf, LinkValue, link_of}
 use Rattle.ffv1_slice.specs.Near.{IsDamagedWithin32}
-use Rattle.ffv1_weave.specs.Combinations.{IsCombination}
+use Rattle.ffv1_slice.specs.Members.{IsOfTwo}
+use Rattle.ffv1_weave.specs.Combinations.{IsAmongTried}
 use Rattle.ffv1_splice.specs.Pieces.{HasContent, IsPiece, IsClaimedStart, PieceFrom}
-use Rattle.ffv1_splice.specs.Standings.{versions_at}
+use Rattle.ffv1_splice.specs.Standings.{versions_at, sized}
 
 -- The chain of the original is whole, and all copies are as long as it is.
 pub record AreCopiesOf (original : List ℕ) (copies : List (List ℕ)) : Type 0 where
@@ -28,19 +29,29 @@ AreConsistentFromBelow original copies =
 abbrev pub HaveEachLink : List ℕ → List (List ℕ) → Type 0
 HaveEachLink original copies = (start end : ℕ) → IsLinkOf original start end → IsPiece copies end (link_of original start end)
 
--- The original's slice between two places is a combination of what the copies have there: so it is where each region in which they
--- differ is intact in some copy, and where all agree they are right.
+-- The original's slice between two places is among the combinations that are tried of what the copies have there. So it is where each region
+-- in which they differ is intact in some copy, and where all agree they are right; and where each byte is intact in some copy, and there are
+-- at most 4096 combinations by the finest split.
 abbrev pub IsAmong : List ℕ → List (List ℕ) → (start end : ℕ) → Type 0
-IsAmong original copies start end = IsCombination (versions_at copies start end) (slice_range original start end)
+IsAmong original copies start end = IsAmongTried (versions_at copies start end) (slice_range original start end)
+
+-- A slice is among the combinations that are tried between two places: of what the copies have there, where a footer there claims the start;
+-- and of what they have with the size of a slice that is as long, where none does, and where footers there claim several starts.
+pub record IsTriedAt (copies : List (List ℕ)) (start end : ℕ) (slice : List ℕ) : Type 0 where
+  pub claimed : IsClaimedStart copies end start → IsAmongTried (versions_at copies start end) slice
+  pub unclaimed : HasContent start end → (IsClaimedStart copies end start → ⊥) → IsAmongTried (map sized (versions_at copies start end)) slice
+  pub several : IsOfTwo (IsClaimedStart copies end)
+      → ((version : List ℕ) → Contains (versions_at copies start end) version → AreBytes version)
+      → IsAmongTried (map sized (versions_at copies start end)) slice
 
 -- No piece contradicts the original, from an end or from a start of its links. The start of each link is claimed by a footer of some
--- copy, and its slice, which passes its parity, is among the combinations of what the copies have there.
+-- copy, and its slice, which passes its parity, is among the combinations that are tried there.
 pub record AreWeavable (original : List ℕ) (copies : List (List ℕ)) : Type 0 where
   pub agree : AreConsistentWith original copies
   pub below : AreConsistentFromBelow original copies
   pub claim : (start end : ℕ) → IsLinkOf original start end → IsClaimedStart copies end start
   pub passes : (start end : ℕ) → IsLinkOf original start end → PassesParity (slice_range original start end)
-  pub among : (start end : ℕ) → IsLinkOf original start end → IsAmong original copies start end
+  pub among : (start end : ℕ) → IsLinkOf original start end → IsTriedAt copies start end (slice_range original start end)
 
 -- ---- copies that are near an original
 

@@ -1,11 +1,15 @@
 -- What copies of a frame have and claim of the slice that ends at a place, by its footer alone (RFC 9043, section 4.9). No setup is asked
 -- for: every FFV1 version 3 frame with parity has these footers, whatever its samples are coded by.
-use Rattle.std.specs.Prelude.{ℕ, ◌+◌, ◌<◌, ◌≤◌, ◌≡◌, List, Contains, slice_range}
+use Rattle.std.specs.Prelude.{ℕ, ◌+◌, ◌<◌, ◌≤◌, ◌≡◌, List, Contains, length, slice_range}
 use Rattle.std.specs.Ordering.{nat_cmp}
 use Rattle.std.specs.Cmp.Lexicographic.{slice_cmp}
 use Rattle.std.specs.declared.cmp.Ordering.TheVariants.{Less}
 use Rattle.ffv1_bits.specs.Parity.{PassesParity}
 use Rattle.ffv1_slice.specs.Chain.{FooterGives, LinkValue}
+
+-- each copy reaches to the end
+abbrev pub AllReach : List (List ℕ) → ℕ → Type 0
+AllReach copies end = (copy : List ℕ) → Contains copies copy → end ≤ length copy
 
 -- The slice between two places has content before its footer. One without is neither a piece nor a claimed start: a sector of zeros reads
 -- as a row of links of size 0, each of which passes its parity, and no slice of a frame is without content.
@@ -28,6 +32,11 @@ pub record IsClaimedStart (copies : List (List ℕ)) (end start : ℕ) : Type 0 
   pub there : Contains copies copy
   pub cut : FooterGives copy start end
   pub content : HasContent start end
+
+-- It claims this start, which does not lie before a place.
+pub record IsClaimedFrom (copies : List (List ℕ)) (from end start : ℕ) : Type 0 where
+  pub claim : IsClaimedStart copies end start
+  pub beyond : from ≤ start
 
 -- ---- pieces by where they begin
 

@@ -1,6 +1,6 @@
 //! Laws of the splice, whatever it is made by.
 ghost use Rattle.ffv1_splice.specs.Whole.{GivenBackIsWhole};
-ghost use Rattle.ffv1_splice.specs.Laws.{SameCopiesSplice, OriginalIsSpliced, SettledIsOriginal, SettledWalksAreOriginal, WalkAcrossIsOriginal, WovenIsOriginal, SizedIsOriginal, RepairedIsOriginal, VotedIsOriginal, GivenBackIsOriginal, NearCopiesSplice};
+ghost use Rattle.ffv1_splice.specs.Laws.{SameCopiesSplice, OriginalIsSpliced, SettledIsOriginal, SettledWalksAreOriginal, WalkAcrossIsOriginal, WovenIsOriginal, ClaimedAloneIsOriginal, SizedIsOriginal, LinksAreTried, RepairedIsOriginal, VotedIsOriginal, GivenBackIsOriginal, NearCopiesSplice};
 
 /// However the same copies are ordered or repeated, they have one splice.
 pub fn same_copies_splice()
@@ -32,17 +32,31 @@ pub fn walk_across_is_original()
     ensures { WalkAcrossIsOriginal }
 {}
 
-/// At a place that is a slice of an original, where the original's slice passes its parity and is among the combinations of what the
-/// copies have there: what is woven is the original's slice, it is never repaired, and it is missing or voted only where there are too
-/// many combinations.
+/// At a place that is a slice of an original, where the original's slice passes its parity and is among the combinations that are tried
+/// there: what is woven is the original's slice, it is never repaired, and it is missing or voted only where there are too many
+/// combinations.
 pub fn woven_is_original()
     ensures { WovenIsOriginal }
 {}
 
-/// At a place that is a slice of an original whose start no copy claims, where the original's slice passes its parity and is among the
-/// combinations of what the copies have there, each with the size of a slice that is as long: what is woven is the original's slice.
+/// Where a slice of an original ends at the end of a place, and of all starts from the hole on the copies' footers there claim that slice's
+/// alone: the place is that slice, and what is woven is the original's, as `woven_is_original` has it.
+pub fn claimed_alone_is_original()
+    ensures { ClaimedAloneIsOriginal }
+{}
+
+/// At a place that is a slice of an original whose start no copy claims, or at whose end the copies' footers claim several starts from the hole
+/// on, where the original's slice passes its parity and is among the combinations that are tried of what the copies have there,
+/// each with the size of a slice that is as long: what is woven is the original's slice.
 pub fn sized_is_original()
     ensures { SizedIsOriginal }
+{}
+
+/// A slice of an original is among the combinations that are tried there where each region in which the copies differ is intact in some copy,
+/// and where all agree they are right; and where each byte is intact in some copy, and there are at most 4096 combinations at
+/// distance 0.
+pub fn links_are_tried()
+    ensures { LinksAreTried }
 {}
 
 /// At a place where the original's slice passes its parity, and is one of the combinations of what the copies have there that are tried,
@@ -58,7 +72,7 @@ pub fn voted_is_original()
 {}
 
 /// Where no slice that passes its parity contradicts an original, the start of each of its slices is claimed by some copy, and each is
-/// among the combinations of what the copies have there: a splice all of whose places are settled or woven is the original.
+/// among the combinations that are tried there: a splice all of whose places are settled or woven is the original.
 pub fn given_back_is_original()
     ensures { GivenBackIsOriginal }
 {}

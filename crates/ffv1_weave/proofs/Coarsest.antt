@@ -6,12 +6,8 @@ use Rattle.std.proofs.lemmas.List.{get_or_default}
 use Rattle.ffv1_weave.specs.Regions.{HaveLength, DifferAt, IsRegion}
 use Rattle.ffv1_weave.specs.Boundaries.{IsBoundary, IsSegment}
 use Rattle.ffv1_weave.specs.Splits.{splits}
-use Rattle.ffv1_weave.specs.Checks.{PassesBy}
-use Rattle.ffv1_weave.specs.Combinations.{IsCombinationBy, IsCombination, IsValid}
-use Rattle.ffv1_weave.specs.Weave.{Weave, IsWeaveOf, AreFew}
-use Rattle.ffv1_weave.specs.Weave.Weave.{woven, disputed, missing, too_many}
-use Rattle.ffv1_weave.specs.Laws.{KeepsOriginal, OriginalIsWoven, TriedOriginalIsWoven, RegionsAreCoarsest}
-use Rattle.ffv1_weave.specs.declared.check.Check.{Check}
+use Rattle.ffv1_weave.specs.Combinations.{IsCombinationBy, IsCombination}
+use Rattle.ffv1_weave.specs.Laws.{RegionsAreCoarsest}
 use Rattle.ffv1_weave.specs.declared.splits.Split.TheVariants.{Pairs, Regions}
 use Rattle.ffv1_weave.specs.declared.regions.TheConstants.{SEPARATION}
 use Rattle.ffv1_weave.proofs.Agreeing.{some_differ}
@@ -19,7 +15,6 @@ use Rattle.ffv1_weave.proofs.WiderRegions.{region_of}
 use Rattle.ffv1_weave.proofs.BoundarySteps.{boundary_before, boundary_after, segment_within}
 use Rattle.ffv1_weave.proofs.SplitSteps.{region_within}
 use Rattle.ffv1_weave.proofs.Choices.{same_range, range_at}
-use Rattle.ffv1_weave.proofs.Tried.{tried_split, valid_by}
 
 -- ---- the ends of a region are boundaries
 
@@ -54,7 +49,7 @@ module _ (versions : List (List ℕ)) where
 
 -- ---- a combination of regions is one of segments
 
-segment_version : (distance : ℕ) (versions : List (List ℕ)) (start end : ℕ) → IsSegment distance versions start end → (version : List ℕ) × Contains versions version
+pub segment_version : (distance : ℕ) (versions : List (List ℕ)) (start end : ℕ) → IsSegment distance versions start end → (version : List ℕ) × Contains versions version
 segment_version distance versions start end h = elim h.last [ inl boundary ↦ (boundary.one, boundary.one_there) | inr at_end ↦ (at_end.0, at_end.1) ]
 
 module _ (versions : List (List ℕ)) (bytes : List ℕ) (is : IsCombination versions bytes) where
@@ -102,27 +97,3 @@ pub regions_are_coarsest : RegionsAreCoarsest
 regions_are_coarsest split versions bytes there is =
     subst (λ g. IsCombinationBy g versions bytes) (get_or_default splits there.0 Regions split there.1 ∙ there.2)
     (each_split versions bytes is there.0 there.1)
-
--- ---- an original
-
--- Where the original passes and is a combination of regions, it is valid.
-pub region_valid : (check : Check) (versions : List (List ℕ)) (original : List ℕ) (count : ℕ) → AreFew versions count → PassesBy check original
-    → IsCombination versions original → IsValid check versions original
-region_valid check versions original count few passes is =
-    valid_by versions check few.split count few.tried original
-    (regions_are_coarsest few.split versions original (tried_split versions few.split count few.tried) is) passes
-
-kept_valid : (check : Check) (versions : List (List ℕ)) (original : List ℕ) (weave : Weave)
-    → ((count : ℕ) → AreFew versions count → IsValid check versions original) → IsWeaveOf check versions weave → KeepsOriginal original weave
-kept_valid check versions original (woven bytes count) valid h = sym (h.0.others original (valid count h.1))
-kept_valid check versions original disputed valid h = tt
-kept_valid check versions original (missing count) valid h = h.0 original (valid count h.1)
-kept_valid check versions original too_many valid h = tt
-
-pub original_is_woven : OriginalIsWoven
-original_is_woven check original versions weave passes is h =
-    kept_valid check versions original weave (λ count few. region_valid check versions original count few passes is) h
-
-pub tried_original_is_woven : TriedOriginalIsWoven
-tried_original_is_woven check original versions split count weave passes tried is h =
-    kept_valid check versions original weave (λ _ few. valid_by versions check split count tried original is passes) h

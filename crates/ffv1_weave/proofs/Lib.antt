@@ -25,6 +25,7 @@ pub mod RepairLaws
 pub mod VoteLaws
 pub mod VoteSteps
 pub mod Coarsest
+pub mod AmongTried
 pub mod Vectors
 pub mod ThreeVersions
 pub mod MostVectors

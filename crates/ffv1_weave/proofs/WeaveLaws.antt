@@ -12,7 +12,7 @@ use Rattle.ffv1_weave.specs.declared.check.Check.{Check}
 use Rattle.ffv1_weave.specs.declared.splits.Split.{Split}
 use Rattle.ffv1_weave.specs.declared.splits.Split.TheVariants.{Pairs, Regions, Most}
 use Rattle.ffv1_slice.specs.Members.{HasSameMembers}
-use Rattle.ffv1_weave.specs.Laws.{SameVersionsWeave, CoveredIsCombination}
+use Rattle.ffv1_weave.specs.Laws.{SameVersionsWeave}
 use Rattle.ffv1_weave.proofs.Tried.{one_count, few_not_many}
 
 pub same_back : (versions others : List (List ℕ)) → HasSameMembers versions others → HasSameMembers others versions
@@ -209,11 +209,3 @@ module _ (check : Check) (versions : List (List ℕ)) where
 
 pub same_versions_weave : SameVersionsWeave
 same_versions_weave check versions others one other same h k = one_weave check others one other (weave_as check versions others same one h) k
-
-pub covered_is_combination : CoveredIsCombination
-covered_is_combination original versions h =
-    record {
-      same_length = λ version there. sym (h.one_length version there);
-      agrees = λ i agree version there. sym (h.right i agree version there);
-      parts = λ start end region. let version = h.intact start end region in (version.0, version.1, sym version.2);
-    }

@@ -6,7 +6,7 @@ use Rattle.ffv1_weave.specs.Splits.{IsPartBy, IsChoiceBy, splits}
 use Rattle.ffv1_weave.specs.Checks.{PassesBy}
 use Rattle.ffv1_weave.specs.declared.check.Check.{Check}
 use Rattle.ffv1_weave.specs.declared.splits.Split.{Split}
-use Rattle.ffv1_weave.specs.declared.splits.Split.TheVariants.{Regions}
+use Rattle.ffv1_weave.specs.declared.splits.Split.TheVariants.{Pairs, Regions}
 use Rattle.ffv1_weave.specs.declared.weaving.TheConstants.{MOST_COMBINATIONS}
 
 -- A combination by a split: where all versions agree it is as they are, and in each part it is as some version is in all of the part, or as
@@ -27,6 +27,10 @@ pub record HasFew (versions : List (List ℕ)) (split : Split) (count : ℕ) : T
   pub numbered : AreNumbered (IsCombinationBy split versions) count
   pub few : count ≤ MOST_COMBINATIONS
 
+-- So many where each byte is taken from some version on its own: by the finest split, at distance 0.
+abbrev pub HasFewByByte : List (List ℕ) → ℕ → Type 0
+HasFewByByte versions count = HasFew versions (Pairs 0) count
+
 -- By a split they have more than 4096.
 abbrev pub HasMany : List (List ℕ) → Split → Type 0
 HasMany versions split = AreMoreThan (IsCombinationBy split versions) MOST_COMBINATIONS
@@ -38,6 +42,11 @@ pub record IsTriedBy (versions : List (List ℕ)) (split : Split) (count : ℕ) 
   pub is : slice_index_or splits place Regions ≡ split
   pub finer : (k : ℕ) → k < place → HasMany versions (slice_index_or splits k Regions)
   pub few : HasFew versions split count
+
+-- A combination by the split that is tried, whichever that is. Where by each split there are too many combinations, none is tried, and
+-- nothing is asked.
+abbrev pub IsAmongTried : List (List ℕ) → List ℕ → Type 0
+IsAmongTried versions bytes = (split : Split) (count : ℕ) → IsTriedBy versions split count → IsCombinationBy split versions bytes
 
 -- A combination that is tried and passes: of a slice's versions a slice with its parity, of an element's an element with its CRC-32, of a
 -- record's a record.

@@ -1,5 +1,5 @@
 //! Laws of the weave, whatever it is made by.
-ghost use Rattle.ffv1_weave.specs.Laws.{SameVersionsWeave, OriginalIsWoven, TriedOriginalIsWoven, RegionsAreCoarsest, CoveredIsCombination, VersionIsCombination};
+ghost use Rattle.ffv1_weave.specs.Laws.{SameVersionsWeave, OriginalIsWoven, AreAmongTried, RegionsAreCoarsest, CoveredIsCombination, VersionIsCombination};
 ghost use Rattle.ffv1_weave.specs.Repairs.{SameVersionsRepair, OriginalIsRepaired};
 ghost use Rattle.ffv1_weave.specs.Votes.{SameVersionsVote, OriginalIsVoted};
 
@@ -9,14 +9,17 @@ pub fn same_versions_weave()
 {}
 
 /// Where the original passes, as a slice with its parity (RFC 9043, section 4.9), an element with its CRC-32 (RFC 8794, section 11.3.1) or a
-/// record with its parity (RFC 9043, section 4.3.2), and is one of the combinations of regions, nothing else is woven, and it is not missing.
+/// record with its parity (RFC 9043, section 4.3.2), and is among the combinations that are tried, nothing else is woven, and it is not
+/// missing.
 pub fn original_is_woven()
     ensures { OriginalIsWoven }
 {}
 
-/// The same where the original is one of the combinations that are tried, of segments or of regions.
-pub fn tried_original_is_woven()
-    ensures { TriedOriginalIsWoven }
+/// Bytes are among the combinations that are tried where they are one by the split that is tried, or one of regions; where the versions cover
+/// them by the split that is tried; and where each byte is intact in some version, and there are at most 4096 combinations by the
+/// finest split.
+pub fn are_among_tried()
+    ensures { AreAmongTried }
 {}
 
 /// A combination of regions is a combination of the segments of each finer split too.
@@ -24,8 +27,7 @@ pub fn regions_are_coarsest()
     ensures { RegionsAreCoarsest }
 {}
 
-/// The original is one of the combinations of regions where each region is intact in some version, and what all versions agree on is
-/// right.
+/// The original is one of the combinations by a split where each part is intact in some version, and what all versions agree on is right.
 pub fn covered_is_combination()
     ensures { CoveredIsCombination }
 {}

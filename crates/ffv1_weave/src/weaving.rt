@@ -64,7 +64,7 @@ fn weave_distinct(
 /// What is tried are the combinations of the segments at distance 0 where these are at most `MOST_COMBINATIONS`, else at distance 2, 8 or
 /// 64, else of the regions. A combination of regions is one of segments at each of these distances too (`regions_are_coarsest`). However
 /// versions are ordered or repeated, what is returned is the same; where the original is one of the combinations that are tried, nothing
-/// else is woven (`tried_original_is_woven`), and where it is not, one of them passes by chance once in 2^32 divided by their number.
+/// else is woven (`original_is_woven`), and where it is not, one of them passes by chance once in 2^32 divided by their number.
 ///
 /// The time goes into the different versions: a repeated one is only found to be so. They are read from the front on once for each
 /// distance that is tried, as far as there are not too many combinations yet. Two versions are compared only next to places at which

@@ -1,4 +1,4 @@
-use Rattle.ffv1_splice.proofs.WovenLaws.{sized_is_original}
+use Rattle.ffv1_splice.proofs.ClaimedPlaces.{sized_is_original}
 use Rattle.ffv1_splice.proofs.laws.sized_is_original.Goals as goal
 
 pub returns : goal.returns

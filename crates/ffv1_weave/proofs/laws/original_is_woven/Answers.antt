@@ -1,4 +1,4 @@
-use Rattle.ffv1_weave.proofs.Coarsest.{original_is_woven}
+use Rattle.ffv1_weave.proofs.AmongTried.{original_is_woven}
 use Rattle.ffv1_weave.proofs.laws.original_is_woven.Goals as goal
 
 pub returns : goal.returns
