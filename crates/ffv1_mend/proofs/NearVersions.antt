@@ -1,5 +1,5 @@
 -- Of versions that are near an original, none that passes is another.
-use Rattle.std.proofs.Common.{◌≡◌, ℕ, ◌*◌, List, length, sym, ap, ◌∙◌, subst, inl, inr}
+use Rattle.std.proofs.Common.{◌≡◌, ℕ, ◌*◌, List, sym, ap, ◌∙◌, subst, inl, inr}
 use Rattle.std.specs.Prelude.{Contains}
 use Rattle.ffv1_bits.specs.Bits.{bits_of}
 use Rattle.ffv1_bits.specs.Parity.{AreBytes, DifferWithin32, remainder_of}
@@ -7,7 +7,8 @@ use Rattle.ffv1_bits.proofs.Burst.{burst, same_bits, same_bytes, length-bits}
 use Rattle.ebml_crc.proofs.Elements.{burst_seen}
 use Rattle.flac_frame.proofs.Checks as flac
 use Rattle.ffv1_slice.specs.Members.{IsOnly, IsOfTwo}
-use Rattle.ffv1_weave.specs.Checks.{PassesBy}
+use Rattle.ffv1_weave.specs.Checks.{PassesBy, CanWeave}
+use Rattle.ffv1_weave.specs.Combinations.{IsAmongTried}
 use Rattle.ffv1_weave.specs.declared.check.Check.{Check}
 use Rattle.ffv1_weave.specs.declared.check.Check.TheVariants as checks
 use Rattle.ffv1_weave.specs.declared.check.Check.TheVariants.{Element}
@@ -15,9 +16,10 @@ use Rattle.ffv1_splice.proofs.NearCopies.{near_copies_splice}
 use Rattle.ffv1_mend.specs.Passing.{IsPassing}
 use Rattle.ffv1_mend.specs.Improved.{improved, fallback}
 use Rattle.ffv1_mend.specs.Mended.{StandsBy}
-use Rattle.ffv1_mend.specs.Laws.{DifferNear, AreNearVersions, NearVersionsMend}
+use Rattle.ffv1_mend.specs.Laws.{IsOriginalBy, DifferNear, AreNearVersions, NearVersionsMend}
 use Rattle.ffv1_mend.specs.declared.state.State.{State}
 use Rattle.ffv1_mend.specs.declared.state.State.TheVariants.{Whole, Disputed}
+use Rattle.ffv1_mend.proofs.Covered.{original_is_mended}
 use Rattle.ffv1_mend.proofs.Vouched.{good_given}
 
 -- damage to a record within 32 bits is seen, as that to a slice is
@@ -38,6 +40,9 @@ module _ (check : Check) (original : List ℕ) (versions : List (List ℕ)) (of 
     | inl same ↦ same
     | inr damaged ↦ sym (near_seen check original version damaged.1.0 of.are_bytes damaged.0 damaged.1.1 of.passes passes)
   ]
+
+  near_original : (tried : List (List ℕ)) → (CanWeave check → IsAmongTried tried original) → IsOriginalBy check original versions tried
+  near_original tried among = record { passes = of.passes; alone = passing_is_original; among = among }
 
   not_two : IsOfTwo (IsPassing check versions) → ⊥
   not_two h =
@@ -67,6 +72,11 @@ near_versions_mend =
           whole_is check original versions of versions from mended.bytes mended.state is.stands state;
       undisputed_by = λ check original versions from mended of is state.
           not_disputed check original versions of versions from mended.bytes mended.state is.stands state;
+      kept = λ original versions from parts mended of among is.
+          original_is_mended.kept original versions from parts mended (near_original Element original versions of (improved versions parts mended.parts)
+          (λ _. among)) is;
+      kept_by = λ check original versions from mended of among is.
+          original_is_mended.kept_by check original versions from mended (near_original check original versions of versions among) is;
       frame = λ original versions mended near below among is good.
           is.bytes ∙ near_copies_splice.woven original versions is.splice near below among is.is_splice (good_given is.splice mended.state is.stands good);
     }

@@ -143,7 +143,10 @@ pub record AreNearVersions (check : Check) (original : List ℕ) (versions : Lis
   pub passes : PassesBy check original
   pub near : (version : List ℕ) → Contains versions version → IsNearVersion check original version
 
--- Then no version that passes differs from the original: what is whole is the original, and nothing is disputed. A frame of FFV1 that is good is the original where each link of each version is near the
+-- Then no version that passes differs from the original: what is whole is the original, and nothing is disputed. Where the original is among the
+-- combinations that are tried, it is kept: nothing else is woven, and it is missing only where there are too many combinations, or another
+-- one passes too. Where it is not among them nothing is claimed of what is woven: a combination can have damage of several versions, which is
+-- longer than the check sees, so it can pass. A frame of FFV1 that is good is the original where each link of each version is near the
 -- original's, and is among the combinations that are tried, and each slice that passes and begins where a link of the original begins is
 -- that link.
 pub record NearVersionsMend : Type 0 where
@@ -157,6 +160,13 @@ pub record NearVersionsMend : Type 0 where
       → AreNearVersions check original versions → IsCheckedMend check versions from mended → mended.state ≡ Whole → mended.bytes ≡ original
   pub undisputed_by : (check : Check) (original : List ℕ) (versions : List (List ℕ)) (from : List ℕ) (mended : MendedValue)
       → AreNearVersions check original versions → IsCheckedMend check versions from mended → mended.state ≡ Disputed → ⊥
+  pub kept : (original : List ℕ) (versions : List (List ℕ)) (from : List ℕ) (parts : List Part) (mended : MendedValue)
+      → AreNearVersions Element original versions → IsAmongTried (improved versions parts mended.parts) original
+      → IsElementMend versions from parts mended
+      → MendKeepsOriginal Element original (improved versions parts mended.parts) mended.bytes mended.state
+  pub kept_by : (check : Check) (original : List ℕ) (versions : List (List ℕ)) (from : List ℕ) (mended : MendedValue)
+      → AreNearVersions check original versions → (CanWeave check → IsAmongTried versions original) → IsCheckedMend check versions from mended
+      → MendKeepsOriginal check original versions mended.bytes mended.state
   pub frame : (original : List ℕ) (versions : List (List ℕ)) (mended : MendedValue) → AreNearCopies original versions
       → AreConsistentFromBelow original versions → ((start end : ℕ) → IsLinkOf original start end → IsAmong original versions start end) → IsFrameMend versions mended
       → is_good mended.state ≡ true → mended.bytes ≡ original
