@@ -24,12 +24,12 @@ use Rattle.ffv1_splice.proofs.WovenLaws.{framed_link, slice_of_weave, woven_is_o
 
 -- ---- the start of a place is claimed, or no start is
 
-claims_start : (copies : List (List ℕ)) (start end : ℕ) (bytes : List ℕ) (standing : Standing) → StandsAs copies start end bytes standing
-    → IsClaimedStart copies end start ⊎ IsOfNone (IsClaimedStart copies end)
+pub claims_start : (copies : List (List ℕ)) (start end : ℕ) (bytes : List ℕ) (standing : Standing) → StandsAs copies start end bytes standing
+    → IsClaimedStart copies end start ⊎ ((start ≡ 0) × IsOfNone (IsClaimedStart copies end))
 claims_start copies start end bytes Settled h =
     inl (record { copy = h.there.copy; there = h.there.there; cut = h.there.cut; content = h.there.content })
 claims_start copies start end bytes (Woven count) (inl h) = inl h.claim.there
-claims_start copies start end bytes (Woven count) (inr (inl h)) = inr h.1.no_claim
+claims_start copies start end bytes (Woven count) (inr (inl h)) = inr (h.0, h.1.no_claim)
 claims_start copies start end bytes (Woven count) (inr (inr h)) = inl h.claim
 claims_start copies start end bytes (Voted count) h = inl (unwoven_weave copies start end h.unwoven).1.claim.there
 claims_start copies start end bytes (Repaired count) h = inl h.missed.claim.there
@@ -132,7 +132,7 @@ module _ (copies : List (List ℕ)) (spliced : SplicedValue) (is : IsSpliceOf co
       elim (claims_start (versions_at copies is.start is.end) place.start place.end
       (slice_range spliced.payload (is.start + place.start) (is.start + place.end)) place.standing stands) [
         | inl claim ↦ ap (λ n. is.start + n) (at.2.others place.start claim) ∙ sym at.1
-        | inr none ↦ absurd (none at.0 at.2.there)
+        | inr none ↦ absurd (none.1 at.0 at.2.there)
       ]
   begins_there place start only (undivided stands ends) =
       let long = hole_length copies spliced is in

@@ -26,6 +26,7 @@ pub mod OriginalLaws
 pub mod WovenLaws
 pub mod ClaimedPlaces
 pub mod TriedLinks
+pub mod SettledInHole
 pub mod RepairedLaws
 pub mod NearDivisions
 pub mod NearCopies

@@ -1,5 +1,5 @@
 -- Laws of the splice.
-use Rattle.std.specs.Prelude.{ℕ, ◌≡◌, ◌↔◌, ◌⊎◌, List, All, Contains, map, slice_range}
+use Rattle.std.specs.Prelude.{ℕ, ◌+◌, ◌≡◌, ◌↔◌, ◌⊎◌, List, ◌∷◌, ◌++◌, All, Contains, map, slice_range}
 use Rattle.ffv1_slice.specs.Chain.{IsEnd, IsLinkOf, link_of}
 use Rattle.ffv1_slice.specs.Walk.{links_of}
 use Rattle.ffv1_slice.specs.Members.{HasSameMembers, IsOnly, IsOfTwo}
@@ -11,7 +11,7 @@ use Rattle.ffv1_weave.specs.Repairs.{IsRepair}
 use Rattle.ffv1_weave.specs.Votes.{IsVote}
 use Rattle.ffv1_splice.specs.Pieces.{AllReach, IsClaimedStart, IsClaimedFrom}
 use Rattle.ffv1_splice.specs.Standings.{versions_at, sized}
-use Rattle.ffv1_splice.specs.Splice.{SplicedValue, IsSpliceOf, IsGivenBack, crossing_places}
+use Rattle.ffv1_splice.specs.Splice.{SplicedValue, IsSpliceOf, IsGivenBack, crossing_places, moved_by}
 use Rattle.ffv1_splice.specs.Originals.{AreCopiesOf, AreConsistentWith, AreConsistentFromBelow, HaveEachLink, IsAmong, IsTriedAt, AreWeavable, AreNearCopies, IsIntactInSome}
 use Rattle.ffv1_splice.specs.declared.place.Standing.TheVariants.{Settled, Woven, Voted, Repaired, Missing}
 use Rattle.ffv1_splice.specs.declared.place.Place.{Place}
@@ -71,6 +71,23 @@ WalkAcrossIsOriginal =
     (original : List ℕ) (copies : List (List ℕ)) (spliced : SplicedValue) → AreCopiesOf original copies → AreConsistentWith original copies
     → AreConsistentFromBelow original copies → ((start end : ℕ) → IsLinkOf original start end → IsClaimedStart copies end start)
     → (is : IsSpliceOf copies spliced) → All (IsLinkIfSettled original spliced) (crossing_places is.crossings)
+
+-- ---- settled in the hole
+
+-- each start that a footer claims there is that of the original's link
+abbrev pub IsClaimedAsIn : List ℕ → List (List ℕ) → (end : ℕ) → Type 0
+IsClaimedAsIn original copies end = (start : ℕ) → IsClaimedStart copies end start → IsLinkOf original start end
+
+-- Where no piece contradicts the original, the hole's top is an end of it. A settled place of the hole is its link, byte for byte, if each place of
+-- the hole above it is settled, or the footers at its end claim no start but that of the original's link. A place whose end is no end of
+-- the original is another slice, which passes its parity: no law says that it is the original's.
+abbrev pub SettledInHoleIsOriginal : Type 0
+SettledInHoleIsOriginal =
+    (original : List ℕ) (copies : List (List ℕ)) (spliced : SplicedValue) (higher : List Place) (place : Place) (lower : List Place)
+    → AreCopiesOf original copies → AreConsistentWith original copies → (is : IsSpliceOf copies spliced)
+    → is.hole.places ≡ higher ++ (place ∷ lower)
+    → All (λ one. (one.standing ≡ Settled) ⊎ IsClaimedAsIn original copies (is.start + one.end)) higher → place.standing ≡ Settled
+    → IsItsLink original spliced (moved_by is.start place)
 
 -- ---- what is woven
 

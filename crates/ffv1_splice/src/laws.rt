@@ -1,6 +1,6 @@
 //! Laws of the splice, whatever it is made by.
 ghost use Rattle.ffv1_splice.specs.Whole.{GivenBackIsWhole};
-ghost use Rattle.ffv1_splice.specs.Laws.{SameCopiesSplice, OriginalIsSpliced, SettledIsOriginal, SettledWalksAreOriginal, WalkAcrossIsOriginal, WovenIsOriginal, ClaimedAloneIsOriginal, SizedIsOriginal, LinksAreTried, RepairedIsOriginal, VotedIsOriginal, GivenBackIsOriginal, NearCopiesSplice};
+ghost use Rattle.ffv1_splice.specs.Laws.{SameCopiesSplice, OriginalIsSpliced, SettledIsOriginal, SettledWalksAreOriginal, WalkAcrossIsOriginal, SettledInHoleIsOriginal, WovenIsOriginal, ClaimedAloneIsOriginal, SizedIsOriginal, LinksAreTried, RepairedIsOriginal, VotedIsOriginal, GivenBackIsOriginal, NearCopiesSplice};
 
 /// However the same copies are ordered or repeated, they have one splice.
 pub fn same_copies_splice()
@@ -30,6 +30,13 @@ pub fn settled_walks_are_original()
 /// slice of the original does, and each that is settled after one is that slice, byte for byte.
 pub fn walk_across_is_original()
     ensures { WalkAcrossIsOriginal }
+{}
+
+/// Where no slice with content that passes its parity and ends at an end of an original's slice is another: a settled place of the hole is the
+/// original's slice, byte for byte, if each place of the hole above it is settled, or the copies' footers at its end claim no start
+/// but that of the original's slice. Of a settled place that ends where none of the original's slices does, nothing is said.
+pub fn settled_in_hole_is_original()
+    ensures { SettledInHoleIsOriginal }
 {}
 
 /// At a place that is a slice of an original, where the original's slice passes its parity and is among the combinations that are tried
