@@ -1,4 +1,6 @@
 //! Laws of the splice, whatever it is made by.
+ghost use Rattle.std.specs.Prelude.{◌≡◌};
+ghost use Rattle.ffv1_splice.specs.declared.crossing.TheConstants.{MOST_CROSSED};
 ghost use Rattle.ffv1_splice.specs.Whole.{GivenBackIsWhole};
 ghost use Rattle.ffv1_splice.specs.Laws.{SameCopiesSplice, OriginalIsSpliced, SettledIsOriginal, SettledWalksAreOriginal, WalkAcrossIsOriginal, SettledInHoleIsOriginal, WovenIsOriginal, ClaimedAloneIsOriginal, SizedIsOriginal, LinksAreTried, RepairedIsOriginal, VotedIsOriginal, GivenBackIsOriginal, NearCopiesSplice};
 
@@ -94,4 +96,9 @@ pub fn near_copies_splice()
 /// parity.
 pub fn given_back_is_whole()
     ensures { GivenBackIsWhole }
+{}
+
+/// At most 64 places over slices that are lost in all copies are crossed.
+pub fn limits_of_the_splice()
+    ensures crossed { MOST_CROSSED ≡ 64 }
 {}

@@ -19,10 +19,11 @@ mod tally;
 mod text;
 
 pub use laws::{
-    claimed_alone_is_original, given_back_is_original, given_back_is_whole, links_are_tried,
-    near_copies_splice, original_is_spliced, repaired_is_original, same_copies_splice,
-    settled_in_hole_is_original, settled_is_original, settled_walks_are_original,
-    sized_is_original, voted_is_original, walk_across_is_original, woven_is_original,
+    claimed_alone_is_original, given_back_is_original, given_back_is_whole, limits_of_the_splice,
+    links_are_tried, near_copies_splice, original_is_spliced, repaired_is_original,
+    same_copies_splice, settled_in_hole_is_original, settled_is_original,
+    settled_walks_are_original, sized_is_original, voted_is_original, walk_across_is_original,
+    woven_is_original,
 };
 pub use place::{Place, Standing};
 pub use splicing::{SpliceFault, Spliced, splice};

@@ -1,4 +1,8 @@
 //! Laws of the weave, whatever it is made by.
+ghost use Rattle.std.specs.Prelude.{◌≡◌, ◌^◌};
+ghost use Rattle.ffv1_weave.specs.declared.regions.TheConstants.{SEPARATION};
+ghost use Rattle.ffv1_weave.specs.declared.repairing.TheConstants.{MOST_REPAIRS};
+ghost use Rattle.ffv1_weave.specs.declared.weaving.TheConstants.{MOST_COMBINATIONS};
 ghost use Rattle.ffv1_weave.specs.Laws.{SameVersionsWeave, OriginalIsWoven, AreAmongTried, RegionsAreCoarsest, CoveredIsCombination, VersionIsCombination};
 ghost use Rattle.ffv1_weave.specs.Repairs.{SameVersionsRepair, OriginalIsRepaired};
 ghost use Rattle.ffv1_weave.specs.Votes.{SameVersionsVote, OriginalIsVoted};
@@ -57,4 +61,11 @@ pub fn same_versions_vote()
 /// nothing else is voted.
 pub fn original_is_voted()
     ensures { OriginalIsVoted }
+{}
+
+/// At most 4096 combinations are tried, and 2^20 repairs; and places where versions differ are in one region if they are at most 64 apart.
+pub fn limits_of_the_weave()
+    ensures combinations { MOST_COMBINATIONS ≡ 4096 }
+    ensures repairs { MOST_REPAIRS ≡ 2 ^ 20 }
+    ensures separation { SEPARATION ≡ 64 }
 {}

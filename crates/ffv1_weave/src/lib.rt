@@ -22,9 +22,9 @@ mod weaving;
 
 pub use check::Check;
 pub use laws::{
-    are_among_tried, covered_is_combination, original_is_repaired, original_is_voted,
-    original_is_woven, regions_are_coarsest, same_versions_repair, same_versions_vote,
-    same_versions_weave, version_is_combination,
+    are_among_tried, covered_is_combination, limits_of_the_weave, original_is_repaired,
+    original_is_voted, original_is_woven, regions_are_coarsest, same_versions_repair,
+    same_versions_vote, same_versions_weave, version_is_combination,
 };
 pub use repairing::{MOST_REPAIRS, repair};
 pub use voting::vote;
