@@ -12,3 +12,5 @@ mod element;
 mod elements;
 #[cfg(test)]
 mod frames;
+#[cfg(test)]
+mod places;

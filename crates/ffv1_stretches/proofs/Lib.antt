@@ -8,6 +8,7 @@ pub mod CellLemmas
 pub mod KnownMarks
 pub mod PassLemmas
 pub mod LineLemmas
+pub mod LineVectors
 pub mod FileLemmas
 pub mod Mending
 pub mod FileLaws

@@ -1,7 +1,9 @@
 //! Passes over copies that are read to the end of their last stretch: what is made and printed.
 use crate::element::changed;
 use crate::pass::{Wanted, files_come_to, three_come_to};
-use ffv1_test_frames::{FRAME, LATER_SILENCE, LEFT_DAMAGED, ONE_TILE, RIGHT_DAMAGED, SILENCE};
+use ffv1_test_frames::{
+    FRAME, LATER_SILENCE, LEFT_DAMAGED, ONE_TILE, RIGHT_DAMAGED, SILENCE, TWO_TILES,
+};
 use std::alloc::Global;
 
 /// What is shown, a list, two copies, whether all is good, and what is made and printed.
@@ -35,7 +37,29 @@ const FOUR_LINES: &str =
     "stretch 1 plain alone -1\nstretch 2 plain agreed 11\nstretch 3 plain alone 1-\n\
 stretch 4 plain alone -1\n";
 
-static ROWS: [Row; 16] = [
+/// The frame with another damaged byte in tile 0.
+const LEFT_HURT: [u8; 22] = [
+    0xFC, 0xF6, 0x80, 0, 0, 3, 0, 0x1C, 0x3E, 0xA0, 0x9B, 0x3F, 0x2B, 0x80, 0, 0, 3, 0, 0x56, 0x0F,
+    0xD7, 0x3B,
+];
+
+/// The record of one tile with a damaged byte.
+const ONE_HURT: [u8; 17] = [
+    0x56, 0x2B, 0x82, 0xBD, 0xC5, 0x3A, 0x74, 0xE9, 0xD3, 0xA7, 0x4E, 0x9D, 0x26, 0x60, 0x98, 0x8D,
+    0xE6,
+];
+
+/// The same with another one.
+const OTHER_HURT: [u8; 17] = [
+    0x56, 0x2B, 0x83, 0xBC, 0xC5, 0x3A, 0x74, 0xE9, 0xD3, 0xA7, 0x4E, 0x9D, 0x26, 0x60, 0x98, 0x8D,
+    0xE6,
+];
+
+/// A slice that is woven, and one that both copies have.
+const WOVEN_LINES: &str =
+    "stretch 1 frame woven 4 00\n  11..22 settled 11\n  0..11 woven 4 00\n  end whole\n";
+
+static ROWS: [Row; 20] = [
     (
         "no stretches make nothing",
         "",
@@ -59,6 +83,14 @@ static ROWS: [Row; 16] = [
         true,
         &FRAME,
         "stretch 1 frame whole 11\n",
+    ),
+    (
+        "a frame is woven where a slice is",
+        "frame 22 1 0 0\n",
+        (&LEFT_DAMAGED, &LEFT_HURT),
+        true,
+        &FRAME,
+        WOVEN_LINES,
     ),
     (
         "a frame that is repaired is reported as missing",
@@ -147,6 +179,30 @@ static ROWS: [Row; 16] = [
         true,
         &ONE_TILE,
         "stretch 1 record whole 10\n",
+    ),
+    (
+        "records that are damaged in different bytes are woven",
+        "record 17 1 0 0\n",
+        (&ONE_HURT, &OTHER_HURT),
+        true,
+        &ONE_TILE,
+        "stretch 1 record woven 4 00\n",
+    ),
+    (
+        "records that pass and differ are disputed",
+        "record 17 2 0 0\n",
+        (&ONE_TILE, &TWO_TILES),
+        false,
+        &TWO_TILES,
+        "stretch 1 record disputed 01\n",
+    ),
+    (
+        "a frame of FLAC that no copy has whole is missing",
+        "flac 12 1 0 0\n",
+        (&DAMAGED_SILENCE, &DAMAGED_SILENCE),
+        false,
+        &DAMAGED_SILENCE,
+        "stretch 1 flac missing 11\n",
     ),
     (
         "records that are damaged alike are missing",
