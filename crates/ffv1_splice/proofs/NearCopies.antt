@@ -1,13 +1,13 @@
 -- The splice of copies that are near an original.
 use Rattle.std.proofs.Common.{◌≡◌, ℕ, List, length, get_or, sym, ◌∙◌}
-use Rattle.std.specs.Prelude.{◌↔◌, All, slice_range}
-use Rattle.std.proofs.lemmas.List.Elements.{All-append, All-weaker}
+use Rattle.std.specs.Prelude.{◌↔◌, All, Contains, slice_range}
+use Rattle.std.proofs.lemmas.List.Elements.{All-append, All-contains, All-weaker}
 use Rattle.ffv1_slice.specs.Chain.{IsLinkOf, link_of}
 use Rattle.ffv1_splice.specs.Pieces.{IsPiece, IsClaimedStart}
 use Rattle.ffv1_splice.specs.Standings.{versions_at}
 use Rattle.ffv1_splice.specs.Splice.{SplicedValue, IsSettledDown, IsSettledUp, IsCrossed, crossing_places, IsSpliceOf}
-use Rattle.ffv1_splice.specs.Originals.{AreConsistentWith, AreConsistentFromBelow, AreNearCopies, IsIntactInSome}
-use Rattle.ffv1_splice.specs.Laws.{IsItsLink, IsLinkIfSettled, IsNearSplice, NearCopiesSplice}
+use Rattle.ffv1_splice.specs.Originals.{AreConsistentWith, AreConsistentFromBelow, IsAmong, AreNearCopies, IsIntactInSome}
+use Rattle.ffv1_splice.specs.Laws.{IsItsLink, IsLinkIfSettled, KeepsLink, IsNearSplice, NearCopiesSplice}
 use Rattle.ffv1_splice.specs.declared.place.Standing.TheVariants.{Settled}
 use Rattle.ffv1_splice.specs.declared.place.Place.{Place}
 use Rattle.ffv1_splice.proofs.DividedLinks.{AreLinkPlaces}
@@ -18,8 +18,8 @@ use Rattle.ffv1_splice.proofs.SplicePlaces.{all_crossings_lower, all_places, cop
 use Rattle.ffv1_splice.proofs.StandingPlaces.{hole_within, hole_bytes}
 use Rattle.ffv1_splice.proofs.OriginalLaws.{AreWalkLinks, AreLegLinks, above_links, below_links, across_links, joined_links, is_original}
 use Rattle.ffv1_splice.proofs.Crossings.{crossed_unsettled, crossed_no_piece}
-use Rattle.ffv1_splice.proofs.WovenLaws.{given_back_is_original}
-use Rattle.ffv1_splice.proofs.NearDivisions.{near_agree, claim_link, intact_piece, piece_intact, are_copies, are_weavable, divided_links, near_divided}
+use Rattle.ffv1_splice.proofs.WovenLaws.{woven_is_original, given_back_is_original}
+use Rattle.ffv1_splice.proofs.NearDivisions.{near_agree, claim_link, intact_piece, piece_intact, are_copies, tried_link, are_weavable, divided_links, near_divided}
 
 module _ (original : List ℕ) (copies : List (List ℕ)) (near : AreNearCopies original copies) (from_below : AreConsistentFromBelow original copies)
     (spliced : SplicedValue) (is : IsSpliceOf copies spliced) where
@@ -110,6 +110,13 @@ module _ (original : List ℕ) (copies : List (List ℕ)) (near : AreNearCopies 
   all_links =
       joined_links original copies spliced is (are_copies original copies near) agree from_below across.links hole_links.each hole_links.whole
 
+  kept : (place : Place) → Contains spliced.places place → IsAmong original copies place.start place.end → KeepsLink original copies spliced place
+  kept place there among =
+      let copy = copy_at_hand copies spliced is in
+      let link = All-contains (λ place. IsLinkOf original place.start place.end) spliced.places place all_links.each there in
+      woven_is_original original copies spliced place is there link (near.undamaged.passes place.start place.end link)
+      (tried_link original copies near copy.0 copy.1 place.start place.end link among)
+
   near_splice : IsNearSplice original copies spliced
   near_splice = record {
     places = record { links = all_links.links; whole = all_links.whole };
@@ -123,6 +130,7 @@ near_copies_splice = record {
   near = λ original copies spliced near below is. near_splice original copies near below spliced is;
   original = λ original copies spliced near intact is. is_original original copies (are_copies original copies near) (near_agree original copies near)
       (λ start end link. intact_piece original copies near start end link (intact start end link)) spliced is;
+  kept = λ original copies spliced place near below is there among. kept original copies near below spliced is place there among;
   woven = λ original copies spliced near below among is given.
       let copy = copy_at_hand copies spliced is in
       (given_back_is_original original copies spliced (are_copies original copies near)

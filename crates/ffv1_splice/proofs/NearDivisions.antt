@@ -10,7 +10,7 @@ use Rattle.ffv1_slice.proofs.NearLaws.{same_size_field, length-range, size_of_ra
 use Rattle.ffv1_splice.specs.Pieces.{HasContent, IsPiece, IsClaimedStart}
 use Rattle.ffv1_splice.specs.Standings.{StandsAs, IsStop}
 use Rattle.ffv1_splice.specs.Splice.{SplicedValue, IsDivisionOf}
-use Rattle.ffv1_splice.specs.Originals.{AreCopiesOf, AreConsistentWith, AreConsistentFromBelow, IsAmong, AreWeavable, IsUndamaged, IsIntact, IsNearCopy, AreNearCopies, IsIntactInSome}
+use Rattle.ffv1_splice.specs.Originals.{AreCopiesOf, AreConsistentWith, AreConsistentFromBelow, IsAmong, IsTriedAt, AreWeavable, IsUndamaged, IsIntact, IsNearCopy, AreNearCopies, IsIntactInSome}
 use Rattle.ffv1_splice.specs.Laws.{IsNearSplice}
 use Rattle.ffv1_splice.specs.declared.place.Standing.{Standing}
 use Rattle.ffv1_splice.specs.declared.place.Standing.TheVariants.{Settled, Woven, Voted, Repaired, Disputed, Missing, Undivided}
@@ -99,6 +99,17 @@ module _ (original : List ℕ) (copies : List (List ℕ)) (near : AreNearCopies 
         content = near.undamaged.content start end link;
       }
 
+  -- so a link is among the combinations that are tried there where it is among those of what the copies have there
+  pub tried_link : (copy : List ℕ) → Contains copies copy → (start end : ℕ) → IsLinkOf original start end → IsAmong original copies start end
+      → IsTriedAt copies start end (slice_range original start end)
+  tried_link copy there start end link among =
+      record {
+        claimed = λ claim. among;
+        unclaimed = λ content no_claim. absurd (no_claim (claim_link copy there start end link));
+        several = λ two are_bytes. absurd (two.differ (claimed_start end start two.one link two.one_there
+            ∙ sym (claimed_start end start two.other link two.other_there)));
+      }
+
   pub are_weavable : (copy : List ℕ) → Contains copies copy → AreConsistentFromBelow original copies
       → ((start end : ℕ) → IsLinkOf original start end → IsAmong original copies start end) → AreWeavable original copies
   are_weavable copy there below among =
@@ -107,12 +118,7 @@ module _ (original : List ℕ) (copies : List (List ℕ)) (near : AreNearCopies 
         below = below;
         claim = claim_link copy there;
         passes = near.undamaged.passes;
-        among = λ start end link. record {
-          claimed = λ claim. among start end link;
-          unclaimed = λ content no_claim. absurd (no_claim (claim_link copy there start end link));
-          several = λ two are_bytes. absurd (two.differ (claimed_start end start two.one link two.one_there
-              ∙ sym (claimed_start end start two.other link two.other_there)));
-        };
+        among = λ start end link. tried_link copy there start end link (among start end link);
       }
 
   -- the copy of a piece has the link intact

@@ -174,14 +174,19 @@ pub record IsNearSplice (original : List ℕ) (copies : List (List ℕ)) (splice
       spliced.places
 
 -- Of near copies no piece contradicts the original from an end; where each link is intact in some copy, the splice is the original.
--- Where none contradicts the original from below either, the places are the original's links; and where each is among the
--- combinations, a frame that is given back is the original.
+-- Where none contradicts the original from below either, the places are the original's links. At each that is among the combinations that are
+-- tried of what the copies have there, what is woven is the original's slice; and where each link is, a frame that is given back is the
+-- original. Of a link that is not among them nothing is claimed: a combination can have damage of several copies, which is longer than
+-- 32 bits, so it can pass its parity.
 pub record NearCopiesSplice : Type 0 where
   pub agree : (original : List ℕ) (copies : List (List ℕ)) → AreNearCopies original copies → AreConsistentWith original copies
   pub near : (original : List ℕ) (copies : List (List ℕ)) (spliced : SplicedValue) → AreNearCopies original copies
       → AreConsistentFromBelow original copies → IsSpliceOf copies spliced → IsNearSplice original copies spliced
   pub original : (original : List ℕ) (copies : List (List ℕ)) (spliced : SplicedValue) → AreNearCopies original copies
       → ((start end : ℕ) → IsLinkOf original start end → IsIntactInSome original copies start end) → IsSpliceOf copies spliced → IsSplicedOriginal original spliced
+  pub kept : (original : List ℕ) (copies : List (List ℕ)) (spliced : SplicedValue) (place : Place) → AreNearCopies original copies
+      → AreConsistentFromBelow original copies → IsSpliceOf copies spliced → Contains spliced.places place
+      → IsAmong original copies place.start place.end → KeepsLink original copies spliced place
   pub woven : (original : List ℕ) (copies : List (List ℕ)) (spliced : SplicedValue) → AreNearCopies original copies
       → AreConsistentFromBelow original copies → ((start end : ℕ) → IsLinkOf original start end → IsAmong original copies start end) → IsSpliceOf copies spliced → IsGivenBack spliced
       → spliced.payload ≡ original

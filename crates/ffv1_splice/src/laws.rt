@@ -87,7 +87,8 @@ pub fn given_back_is_original()
 {}
 
 /// Damage within 32 consecutive bits of each slice of each copy, off its size field, is never taken for the original, whose slices all
-/// have content: the places are the original's slices, settled exactly where a copy has it intact, and then the original's.
+/// have content: the places are the original's slices, settled exactly where a copy has it intact, and then the original's. At a place
+/// whose slice is among the combinations that are tried, what is woven is the original's slice too.
 pub fn near_copies_splice()
     ensures { NearCopiesSplice }
 {}

@@ -5,7 +5,7 @@ use Rattle.std.specs.Prelude.{◌⊎◌, All, Contains, slice_range}
 use Rattle.ffv1_weave.specs.Regions.{HaveLength, DifferAt, IsRegion}
 use Rattle.ffv1_weave.specs.Boundaries.{IsBoundary, IsSegment}
 use Rattle.ffv1_weave.specs.Checks.{PassesBy}
-use Rattle.ffv1_weave.specs.Combinations.{IsCombinationBy, IsCombination, IsTriedBy, IsValid}
+use Rattle.ffv1_weave.specs.Combinations.{IsCombinationBy, IsCombination, IsTriedBy, IsAmongTried, IsValid}
 use Rattle.ffv1_weave.specs.Inner.Parts.{Part, AreChoicesBy, IsPartFrom, AreAllParts, IsFit}
 use Rattle.ffv1_weave.specs.declared.check.Check.{Check}
 use Rattle.ffv1_weave.specs.declared.splits.Split.TheVariants.{Pairs}
@@ -14,6 +14,7 @@ use Rattle.ffv1_weave.proofs.MostSteps.{choices_of_pairs}
 use Rattle.ffv1_weave.proofs.BoundarySteps.{boundary_of}
 use Rattle.ffv1_weave.proofs.Choices.{numbered}
 use Rattle.ffv1_weave.proofs.Tried.{valid_by}
+use Rattle.ffv1_weave.proofs.AmongTried.{are_among_tried}
 
 pub three : List (List ℕ)
 three = (2 ∷ 1 ∷ 1 ∷ []) ∷ (1 ∷ 2 ∷ 1 ∷ []) ∷ (1 ∷ 1 ∷ 2 ∷ []) ∷ []
@@ -192,6 +193,10 @@ unfolding undamaged
 combination_of_segments =
     let all = numbered (Pairs 0) three parts (2 ∷ 1 ∷ 1 ∷ []) long first_there all_parts fit in all.are 0 (omega arith)
 
--- So where they pass they are woven.
+-- So they are among the combinations that are tried, though they are none of regions, ..
+among_tried : IsAmongTried three undamaged
+among_tried = are_among_tried.by_split three (Pairs 0) 8 undamaged tried combination_of_segments
+
+-- .. and where they pass they are woven.
 pub valid_of_segments : (check : Check) → PassesBy check undamaged → IsValid check three undamaged
 valid_of_segments check passes = valid_by three check (Pairs 0) 8 tried undamaged combination_of_segments passes
