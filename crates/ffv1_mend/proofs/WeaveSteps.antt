@@ -49,11 +49,3 @@ not_woven check versions (outcome.Woven bytes count) h apart = absurd (apart byt
 not_woven check versions outcome.Disputed h apart = inl h
 not_woven check versions (outcome.Missing count) h apart = inr (inl (count, h))
 not_woven check versions outcome.TooMany h apart = inr (inr h)
-
--- versions that are as long as another are as long as the first of them
-pub as_first : (versions : List (Bor (List ℕ))) (from : List ℕ) → 0 < length versions → All (λ version. length version.now ≡ length from) versions
-    → All (λ version. length version.now ≡ length (get_or (values_of versions) 0 [])) versions
-as_first versions from some long k d lt =
-    long k d lt
-    ∙ sym (each_value versions (λ version. length version ≡ length from) long (get_or (values_of versions) 0 [])
-    (Contains-get_or (values_of versions) 0 [] (omega (arith, length-values_of versions))))

@@ -43,11 +43,6 @@ Continues copies whole end after bytes =
     → IsSpliceBefore copies whole (after ++ places) front (before ++ bytes)
 
 module _ (copies : List (List ℕ)) where
-  pub continues_start : (whole : ℕ) (payload : List ℕ) → length payload ≤ whole → Continues copies whole whole [] (drop whole payload)
-  continues_start whole payload l places front before h =
-      let none : drop whole payload ≡ [] = drop_all whole payload l in
-      subst (IsSpliceBefore copies whole places front) (sym (ap (λ z. before ++ z) none ∙ append-nil before)) h
-
   pub continues_more : (whole end : ℕ) (after : List Place) (place : Place) (bytes payload : List ℕ) → place.end ≡ end → place.start + length bytes ≡ end
       → end ≤ length payload → StandsAs copies place.start end bytes place.standing → Continues copies whole end after (drop end payload)
       → Continues copies whole place.start (after ++ place ∷ []) (drop place.start (written payload place.start bytes))

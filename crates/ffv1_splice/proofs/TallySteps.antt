@@ -48,9 +48,6 @@ tallies_both P Q R claim two after mine theirs cases both h k =
 -- ---- one more copy
 
 module _ (copies : List (List ℕ)) (copy : List ℕ) (end : ℕ) where
-  more_copies : List (List ℕ)
-  more_copies = copies ++ copy ∷ []
-
   pub last : Contains (copies ++ copy ∷ []) copy
   last = Contains-append_right copies (copy ∷ []) copy (0, omega arith, refl)
 

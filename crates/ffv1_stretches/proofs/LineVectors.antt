@@ -1,5 +1,5 @@
 -- What is printed of stretches of each kind, in each state in which such a stretch can be, and of two stretches of a list.
-use Rattle.std.proofs.Common.{◌≡◌, ℕ, List, [], ◌∷◌, ◌++◌, Option, Some, None, refl}
+use Rattle.std.proofs.Common.{◌≡◌, ℕ, List, [], ◌∷◌, Option, Some, None, refl}
 use Rattle.std.specs.Prelude.{codes}
 use Rattle.std.specs.Fmt.{digits}
 use Rattle.ffv1_splice.specs.Splice.{SplicedValue}
@@ -13,7 +13,7 @@ use Rattle.ffv1_mend.specs.declared.kind.Kind.TheVariants.{Frame, Crc32, Record,
 use Rattle.ffv1_mend.specs.declared.state.State.{State}
 use Rattle.ffv1_mend.specs.declared.state.State.TheVariants.{Whole, Disputed, Woven, Missing, Alone, Agreed, Open}
 use Rattle.ffv1_stretches.specs.Stretches.{StretchValue}
-use Rattle.ffv1_stretches.specs.Lines.{stretch_line, stretch_text, mend_text}
+use Rattle.ffv1_stretches.specs.Lines.{stretch_line, mend_text}
 
 -- two bytes of three copies: the first has them at its start, the second has others a byte later, the third does not have them
 abbrev two_bytes : Kind → StretchValue

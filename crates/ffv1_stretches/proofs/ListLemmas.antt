@@ -37,11 +37,6 @@ pub ends_of-push : (copies : ℕ) (stretches : List StretchValue) (next : Stretc
     → ends_of copies (stretches ++ next ∷ []) ≡ ends_after (ends_of copies stretches) next
 ends_of-push copies stretches next = fold-append ends_after (replicate copies 0) stretches (next ∷ [])
 
--- a part more moves no end
-pub ends_of-with_part : (copies : ℕ) (stretches : List StretchValue) (last : StretchValue) (part : Part)
-    → ends_of copies (stretches ++ with_part last part ∷ []) ≡ ends_of copies (stretches ++ last ∷ [])
-ends_of-with_part copies stretches last part = ends_of-push copies stretches (with_part last part) ∙ sym (ends_of-push copies stretches last)
-
 -- ---- what the last line adds
 
 -- The last of some lines is a stretch or a part.

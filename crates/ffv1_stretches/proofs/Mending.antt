@@ -150,9 +150,6 @@ module _ (copies : ℕ) (stretches front : List StretchValue) (s : StretchValue)
   joined_split : stretches ≡ (front ++ s ∷ []) ++ rest
   joined_split = split ∙ sym (append_assoc front (s ∷ []) rest)
 
-  pushed_order : AreInOrder copies (replicate copies 0) (front ++ s ∷ [])
-  pushed_order = in_order_front copies (replicate copies 0) (front ++ s ∷ []) rest (subst (AreInOrder copies (replicate copies 0)) joined_split order)
-
   -- the ends of a front rise to those of all
   rises_to : (some later : List StretchValue) → AreInOrder copies (replicate copies 0) (some ++ later) → Rise (ends_of copies some) (ends_of copies (some ++ later))
   rises_to some later all =

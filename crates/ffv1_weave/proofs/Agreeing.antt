@@ -35,10 +35,6 @@ module _ (versions : List (List ℕ)) where
     | inr above ↦ agree_past size i long (omega arith)
   ]
 
-  pub agree_with_first : (i : ℕ) → 0 < length versions → AgreeAt versions i → (version : List ℕ) → Contains versions version
-      → get_or version i 0 ≡ get_or (get_or versions 0 []) i 0
-  agree_with_first i some agree version there = agree version (get_or versions 0 []) there (Contains-get_or versions 0 [] some)
-
   -- ---- two versions that differ, if there are any
 
   first_agree : (i n : ℕ) → AgreeSoFar versions n i

@@ -39,14 +39,6 @@ module _ (listed : List (List ℕ)) (one : List ℕ) where
   ]
 
 module _ (start end : ℕ) where
-  pub choices_none : AreChoices [] start end []
-  choices_none =
-      record {
-        each = λ version there. absurd (omega (arith, there.1));
-        only = λ k lt. absurd (omega arith);
-        once = λ j k low lt same. absurd (omega arith);
-      }
-
   pub choices_same : (versions choices : List (List ℕ)) (version : List ℕ) → AreChoices versions start end choices → Contains choices (slice_range version start end)
       → AreChoices (versions ++ version ∷ []) start end choices
   choices_same versions choices version h here =

@@ -285,17 +285,6 @@ module _ (versions : List (List ℕ)) (start end : ℕ) (choices : List (List �
     pub only : (k : ℕ) → k < length most → (j : ℕ) × (j < i) × (get_or most k [] ≡ get_or choices j []) × Have versions start end (get_or choices j []) greatest
     pub once : (j k : ℕ) → j < length most → k < length most → get_or most j [] ≡ get_or most k [] → j ≡ k
 
-  pub most_none : AreMostSoFar 0 [] 0
-  most_none =
-      record {
-        within = omega arith;
-        least = λ k count lt have. absurd (omega arith);
-        reached = inl refl;
-        each = λ k lt have. absurd (omega arith);
-        only = λ k lt. absurd (omega arith);
-        once = λ j k low lt same. absurd (omega arith);
-      }
-
 module _ (versions : List (List ℕ)) (start end : ℕ) (choices : List (List ℕ)) (are : AreChoices versions start end choices) where
   module _ (i : ℕ) (most : List (List ℕ)) (greatest count : ℕ) (lt_i : i < length choices) (have : Have versions start end (get_or choices i []) count)
       (h : AreMostSoFar versions start end choices i most greatest) where

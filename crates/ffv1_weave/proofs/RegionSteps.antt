@@ -61,17 +61,6 @@ module _ (versions : List (List ℕ)) where
         | inr past ↦ (place, omega arith, omega arith, omega arith, differ)
       ])
 
-  -- ---- a region by its gaps
-
-  -- Before it and after it the versions agree at SEPARATION places in a row at least, and within it nowhere at so many.
-  pub record IsRegionByGaps (start end : ℕ) : Type 0 where
-    pub some : start < end
-    pub first : DifferAt versions start
-    pub last : DifferAt versions (end - 1)
-    pub before : (i : ℕ) → i < start → start ≤ i + SEPARATION → AgreeAt versions i
-    pub after : (i : ℕ) → end ≤ i → i < end + SEPARATION → AgreeAt versions i
-    pub within : (i : ℕ) → start ≤ i → i + SEPARATION ≤ end → (j : ℕ) × (i ≤ j) × (j < i + SEPARATION) × DifferAt versions j
-
   -- from a place where they differ on, up to the first one not before i
   walk : (fuel start end i place : ℕ) → i ≤ place + fuel → start ≤ place → place ≤ i → i + SEPARATION ≤ end → IsRegion versions start end
       → DifferAt versions place → (j : ℕ) × (i ≤ j) × (j < i + SEPARATION) × DifferAt versions j
@@ -105,21 +94,6 @@ module _ (versions : List (List ℕ)) where
         let below = spot.2 in
         (spot.0, omega arith, omega arith, omega arith, spot.3)
   ]
-
-  pub region_by_gaps : (start end : ℕ) → IsRegion versions start end → IsRegionByGaps start end
-  region_by_gaps start end h =
-      record { some = h.some; first = h.first; last = h.last; before = h.before; after = h.after; within = within_window start end h }
-
-  pub region_from_gaps : (start end : ℕ) → IsRegionByGaps start end → IsRegion versions start end
-  region_from_gaps start end h =
-      record {
-        some = h.some;
-        first = h.first;
-        last = h.last;
-        before = h.before;
-        after = h.after;
-        within = λ i low high differ. window_within start end h.last h.within i low high;
-      }
 
   -- ---- two regions
 
