@@ -7,7 +7,7 @@ use Rattle.ffv1_weave.specs.Parts.{written}
 use Rattle.ffv1_weave.specs.Regions.{HaveLength, AgreeAt}
 use Rattle.ffv1_slice.specs.Members.{IsOfTwo}
 use Rattle.ffv1_weave.specs.Checks.{CanWeave}
-use Rattle.ffv1_weave.specs.Combinations.{IsCombination, IsValid}
+use Rattle.ffv1_weave.specs.Combinations.{IsCombination, IsAmongTried, HasFewByByte, IsValid}
 use Rattle.ffv1_weave.specs.Weave.{Weave, IsWeaveOf, AreMany}
 use Rattle.ffv1_weave.specs.Weave.Weave.{woven, missing}
 use Rattle.ffv1_weave.specs.declared.check.Check.{Check}
@@ -16,11 +16,12 @@ use Rattle.ffv1_weave.specs.declared.check.Check.TheVariants.{Element}
 use Rattle.ffv1_weave.specs.Laws.{IsCoveredByRegions, HasEachByte}
 use Rattle.ffv1_weave.specs.Laws as weave_laws
 use Rattle.ffv1_weave.proofs.Agreeing.{agree_past}
+use Rattle.ffv1_weave.proofs.FewByByte.{IsPlacewise, few_changed}
 use Rattle.ffv1_weave.proofs.AmongTried.{regions_combine, are_among_tried, original_is_woven}
 use Rattle.ffv1_weave.proofs.Choices.{length-written, written_before, written_inside, written_after, same_range, range_at}
 use Rattle.ffv1_splice.specs.Splice.{SplicedValue}
 use Rattle.ffv1_splice.proofs.WovenLaws.{given_back_is_original}
-use Rattle.ffv1_splice.proofs.Versions.{mapped_there, mapped_of}
+use Rattle.ffv1_weave.proofs.Mapped.{mapped_there, mapped_of}
 use Rattle.ffv1_mend.specs.Improved.{PartValue, IsWithin, IsRight, Patch, patched, given_patches, improved, fallback}
 use Rattle.ffv1_mend.specs.Inner.Improved.{AreFitting}
 use Rattle.ffv1_mend.specs.Mended.{MendedValue, IsNotWoven, StandsBy, FrameStands, IsElementMend, IsMendOf, is_good}
@@ -130,6 +131,13 @@ module _ (original : List ℕ) (versions : List (List ℕ)) (parts : List Part) 
                         ∙ range_at original wide.begin wide.last i (omega arith) (omega arith))
                   ]),
             );
+      }
+
+  pub improved_placewise : IsPlacewise (length original) (λ version. patched version (given_patches parts mends))
+  improved_placewise =
+      record {
+        keeps = λ bytes same. length-patched (length original) (given_patches parts mends) bytes same (given_fit (length original) parts mends fit);
+        at = λ i lt. elim (at i) [ inl stays ↦ inl stays | inr given ↦ inr (get_or original i 0, given) ];
       }
 
   pub improved_each_byte : HasEachByte original versions → HasEachByte original (improved versions parts mends)
@@ -247,10 +255,18 @@ original_is_mended =
             | inr fit ↦ original_among original versions parts mended.parts covered.one_length fit right covered
           ];
       each_byte = λ original versions from parts mended count is within some has right few.
-          let improved_has : HasEachByte original (improved versions parts mended.parts) =
+          let first : Contains versions (get_or versions 0 []) = Contains-get_or versions 0 [] some in
           elim (improved_or_given original versions from parts mended is within some has.one_length) [
-            | inl same ↦ subst (HasEachByte original) (sym same) has
-            | inr fit ↦ improved_each_byte original versions parts mended.parts has.one_length fit right has
-          ] in
-          are_among_tried.each_byte original (improved versions parts mended.parts) count improved_has few;
+            | inl same ↦ subst (λ vs. IsAmongTried vs original) (sym same) (are_among_tried.each_byte original versions count has
+                (elim few [ inl given ↦ given | inr better ↦ subst (λ vs. HasFewByByte vs count) same better ]))
+            | inr fit ↦
+                let improved_few : (more : ℕ) × HasFewByByte (improved versions parts mended.parts) more = elim few [
+                  | inr better ↦ (count, better)
+                  | inl given ↦ few_changed versions (length original) has.one_length (get_or versions 0 []) first
+                      (λ version. patched version (given_patches parts mended.parts))
+                      (improved_placewise original versions parts mended.parts has.one_length fit right) count given
+                ] in
+                are_among_tried.each_byte original (improved versions parts mended.parts) improved_few.0
+                (improved_each_byte original versions parts mended.parts has.one_length fit right has) improved_few.1
+          ];
     }

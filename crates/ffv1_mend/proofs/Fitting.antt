@@ -11,7 +11,8 @@ use Rattle.ffv1_weave.proofs.References.{values_of, nowhere, value_there, each_v
 use Rattle.ffv1_splice.specs.Standings.{versions_at}
 use Rattle.ffv1_splice.specs.Splice.{SplicedValue, IsSpliceOf}
 use Rattle.ffv1_splice.specs.declared.place.Place.{Place}
-use Rattle.ffv1_splice.proofs.Versions.{version_there, mapped_of}
+use Rattle.ffv1_weave.proofs.Mapped.{mapped_of}
+use Rattle.ffv1_splice.proofs.Versions.{version_there}
 use Rattle.ffv1_splice.proofs.SplicePlaces.{places_within}
 use Rattle.ffv1_mend.specs.Improved.{PartValue, Patch, patched, is_given, patches_of, given_by, given_patches, IsWithin, IsPartMend, ArePartMends}
 use Rattle.ffv1_mend.specs.Improved.PartValue.{spliced, whole, disputed, missing}

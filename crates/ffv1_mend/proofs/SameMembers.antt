@@ -11,7 +11,8 @@ use Rattle.ffv1_splice.specs.Standings.{versions_at}
 use Rattle.ffv1_splice.specs.Splice.{SplicedValue, IsSpliceOf}
 use Rattle.ffv1_weave.proofs.WeaveLaws.{weave_as, same_back}
 use Rattle.ffv1_weave.proofs.FoundSteps.{only_as, two_as}
-use Rattle.ffv1_splice.proofs.Versions.{same_versions, same_mapped}
+use Rattle.ffv1_weave.proofs.Mapped.{same_mapped}
+use Rattle.ffv1_splice.proofs.Versions.{same_versions}
 use Rattle.ffv1_splice.proofs.OneSplice.{splice_there}
 use Rattle.ffv1_mend.specs.Passing.{IsPassing}
 use Rattle.ffv1_mend.specs.Improved.{PartValue, IsPartMend, ArePartMends, patched, given_patches, improved, fallback}

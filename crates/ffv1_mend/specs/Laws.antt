@@ -98,11 +98,11 @@ HasOriginal Record original versions parts mended = IsOriginalBy checks.Record o
 HasOriginal Flac original versions parts mended = IsOriginalBy checks.Flac original versions versions
 HasOriginal Plain original versions parts mended = Contains versions original
 
--- Then a stretch that is good or alone is the original, and an element, a record and a frame of FLAC is kept. The original of an element is among
--- the combinations that are tried where the improved versions cover it by the split that is tried. What the parts give, voted and
--- repaired places too, be right: then it is a combination of regions of the improved versions where each region in which the versions as they
--- were given differ is intact in one of these, and where all agree they are right; and it is among those that are tried where each byte is intact
--- in a version as it was given, and there are at most 4096 combinations of the improved versions at distance 0.
+-- Then a stretch that is good or alone is the original, and an element, a record and a frame of FLAC is kept. The original of an element is
+-- among the combinations that are tried where the improved versions cover it by the split that is tried. Where what the parts give is right,
+-- voted and repaired places too: it is a combination of regions of the improved versions, if each region in which the versions as they were
+-- given differ is intact in one of these, and where all agree they are right; and it is among those that are tried, if each byte is intact in a
+-- version as it was given, and at distance 0 there are at most 4096 combinations of the versions as they were given, or of the improved ones.
 pub record OriginalIsMended : Type 0 where
   pub original : (kind : Kind) (original : List ℕ) (versions : List (List ℕ)) (from : List ℕ) (parts : List Part) (mended : MendedValue)
       → HasOriginal kind original versions parts mended → IsMendOf kind versions from parts mended
@@ -120,7 +120,7 @@ pub record OriginalIsMended : Type 0 where
       → All (IsRight original) (given_patches parts mended.parts) → IsCombination (improved versions parts mended.parts) original
   pub each_byte : (original : List ℕ) (versions : List (List ℕ)) (from : List ℕ) (parts : List Part) (mended : MendedValue) (count : ℕ)
       → IsElementMend versions from parts mended → All (IsWithin (length original)) parts → 0 < length versions → HasEachByte original versions
-      → All (IsRight original) (given_patches parts mended.parts) → HasFewByByte (improved versions parts mended.parts) count
+      → All (IsRight original) (given_patches parts mended.parts) → HasFewByByte versions count ⊎ HasFewByByte (improved versions parts mended.parts) count
       → IsAmongTried (improved versions parts mended.parts) original
 
 -- ---- versions that are near an original

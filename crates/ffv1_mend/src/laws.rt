@@ -24,8 +24,8 @@ pub fn good_is_vouched()
 /// Such an element, record or frame of FLAC is never disputed, and of the first two it is missing only where there are too many combinations,
 /// or another one passes too. The original of an element is among those that are tried where the improved versions cover it by the split that is
 /// tried. Where what the parts give is right, it is among them where each region in which the versions differ is intact in one of
-/// them, and where all agree they are right; or where each byte is intact in some version, and there are at most 4096 combinations of the
-/// improved versions at distance 0.
+/// them, and where all agree they are right; or where each byte is intact in some version, and at distance 0 there are at most 4096
+/// combinations of the versions as they were given, or of the improved ones.
 pub fn original_is_mended()
     ensures { OriginalIsMended }
 {}

@@ -20,7 +20,8 @@ use Rattle.ffv1_splice.specs.Pieces.{AllReach, HasContent, IsPiece, IsClaimedSta
 use Rattle.ffv1_splice.specs.Standings.{versions_at, sized, IsWeaveFromFront, IsWeaveOfSeveral, StandsAs, IsStop}
 use Rattle.ffv1_splice.specs.declared.place.Standing.TheVariants.{Woven}
 use Rattle.ffv1_splice.proofs.PlaceSteps.{claim_below, none_not_only}
-use Rattle.ffv1_splice.proofs.Versions.{mapped_there, mapped_of, same_mapped, same_versions, version_there, version_of, version_length, weave_size}
+use Rattle.ffv1_weave.proofs.Mapped.{mapped_there, mapped_of, same_mapped}
+use Rattle.ffv1_splice.proofs.Versions.{same_versions, version_there, version_of, version_length, weave_size}
 use Rattle.ffv1_weave.proofs.Agreeing.{some_differ}
 use Rattle.ffv1_weave.proofs.WiderRegions.{region_of}
 

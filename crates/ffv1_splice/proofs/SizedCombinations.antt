@@ -14,10 +14,12 @@ use Rattle.ffv1_weave.specs.Regions.{HaveLength, AgreeAt}
 use Rattle.ffv1_weave.specs.Combinations.{IsCombination}
 use Rattle.ffv1_weave.specs.Laws.{HasEachByte}
 use Rattle.ffv1_weave.proofs.Agreeing.{agree_past}
+use Rattle.ffv1_weave.proofs.FewByByte.{IsPlacewise}
 use Rattle.ffv1_weave.proofs.Choices.{same_range, range_at}
 use Rattle.ffv1_splice.specs.Pieces.{AllReach}
 use Rattle.ffv1_splice.specs.Standings.{versions_at, sized}
-use Rattle.ffv1_splice.proofs.Versions.{mapped_there, mapped_of, version_there, version_length}
+use Rattle.ffv1_weave.proofs.Mapped.{mapped_there, mapped_of}
+use Rattle.ffv1_splice.proofs.Versions.{version_there, version_length}
 use Rattle.ffv1_splice.proofs.FirstSlices.{length-sized, same_inside, combination_between}
 use Rattle.ffv1_weave.proofs.WiderRegions.{region_around}
 
@@ -81,6 +83,17 @@ sized_in : (bytes : List ℕ) (size : ℕ) → 8 ≤ size → length bytes ≡ s
     → get_or (sized bytes) i 0 ≡ get_or (big_bytes 3 (size - 8)) (i - (size - 8)) 0
 sized_in bytes size long same i =
     subst (λ n. IsInField n i → get_or (sized bytes) i 0 ≡ get_or (big_bytes 3 (n - 8)) (i - (n - 8)) 0) same (sized_in_own bytes (omega arith) i)
+
+-- so the size is put in place by place
+pub sized_placewise : (size : ℕ) → 8 ≤ size → IsPlacewise size sized
+sized_placewise size footer =
+    record {
+      keeps = λ bytes same. length-sized bytes (omega arith) ∙ same;
+      at = λ i lt. elim (field_or_not size i footer) [
+        | inl off ↦ inl (λ bytes same. sized_off bytes (omega arith) i (λ field. off (subst (λ n. IsInField n i) same field)))
+        | inr field ↦ inr (get_or (big_bytes 3 (size - 8)) (i - (size - 8)) 0, λ bytes same. sized_in bytes size footer same i field)
+      ];
+    }
 
 -- ---- a slice whose footer gives its own size
 

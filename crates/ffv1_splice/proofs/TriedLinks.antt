@@ -5,13 +5,14 @@ use Rattle.ffv1_slice.specs.Chain.{FooterGives, IsLinkOf}
 use Rattle.ffv1_slice.proofs.NearLaws.{length-range}
 use Rattle.ffv1_weave.specs.Combinations.{IsCombination}
 use Rattle.ffv1_weave.proofs.AmongTried.{are_among_tried}
+use Rattle.ffv1_weave.proofs.FewByByte.{few_changed}
 use Rattle.ffv1_splice.specs.Pieces.{AllReach, HasContent, IsClaimedStart}
 use Rattle.ffv1_splice.specs.Standings.{versions_at, sized}
 use Rattle.ffv1_splice.specs.Laws.{LinksAreTried}
 use Rattle.ffv1_splice.proofs.DividedLinks.{end_within}
 use Rattle.ffv1_splice.proofs.FirstSlices.{combination_claim}
 use Rattle.ffv1_splice.proofs.Narrowed.{versions_of_versions, claim_out}
-use Rattle.ffv1_splice.proofs.SizedCombinations.{sized_combination, sized_each_byte}
+use Rattle.ffv1_splice.proofs.SizedCombinations.{sized_placewise, sized_combination, sized_each_byte}
 use Rattle.ffv1_splice.proofs.Versions.{version_there, version_length}
 use Rattle.ffv1_splice.proofs.WovenLaws.{framed_link}
 
@@ -53,10 +54,14 @@ links_are_tried = record {
         (sized_combination copies start end copy (slice_range original start end) reach there (below original start end link)
         (framed_link original start end link) is are_bytes);
   };
-  each_byte = λ original copies start end count more reach link small has few sized_few.
-      let among = are_among_tried.each_byte (slice_range original start end) (map sized (versions_at copies start end)) more
-      (sized_each_byte copies start end (slice_range original start end) reach (below original start end link) (framed_link original start end link) small
-      (long original start end link) has) sized_few in
+  each_byte = λ original copies start end count reach link small has few.
+      let lies = below original start end link in
+      let size = long original start end link in
+      let first = has.intact 0 (omega arith) in
+      let sized_few = few_changed (versions_at copies start end) (end - start) (version_length copies start end (omega arith) reach) first.0 first.1 sized
+      (sized_placewise (end - start) (omega arith)) count few in
+      let among = are_among_tried.each_byte (slice_range original start end) (map sized (versions_at copies start end)) sized_few.0
+      (sized_each_byte copies start end (slice_range original start end) reach lies (framed_link original start end link) small size has) sized_few.1 in
       record {
         claimed = λ _. are_among_tried.each_byte (slice_range original start end) (versions_at copies start end) count has few;
         unclaimed = λ _ _. among;

@@ -78,9 +78,9 @@ WalkAcrossIsOriginal =
 abbrev pub IsClaimedAsIn : List ℕ → List (List ℕ) → (end : ℕ) → Type 0
 IsClaimedAsIn original copies end = (start : ℕ) → IsClaimedStart copies end start → IsLinkOf original start end
 
--- Where no piece contradicts the original, the hole's top is an end of it. A settled place of the hole is its link, byte for byte, if each place of
--- the hole above it is settled, or the footers at its end claim no start but that of the original's link. A place whose end is no end of
--- the original is another slice, which passes its parity: no law says that it is the original's.
+-- Where no piece contradicts the original, the hole's top is an end of it. A settled place of the hole is its link, byte for byte, if each
+-- place of the hole above it is settled, or the footers at its end claim no start but that of the original's link. A place whose end is no
+-- end of the original is another slice, which passes its parity: no law says that it is the original's.
 abbrev pub SettledInHoleIsOriginal : Type 0
 SettledInHoleIsOriginal =
     (original : List ℕ) (copies : List (List ℕ)) (spliced : SplicedValue) (higher : List Place) (place : Place) (lower : List Place)
@@ -108,8 +108,8 @@ WovenIsOriginal =
     → IsLinkOf original place.start place.end → PassesParity (slice_range original place.start place.end)
     → IsTriedAt copies place.start place.end (slice_range original place.start place.end) → KeepsLink original copies spliced place
 
--- Of the starts from the hole on, the footers at the end of a place claim that of the original's link alone. Then the place is that link, and so it
--- is there.
+-- Of the starts from the hole on, the footers at the end of a place claim that of the original's link alone. Then the place is that link, and
+-- so it is there.
 abbrev pub ClaimedAloneIsOriginal : Type 0
 ClaimedAloneIsOriginal =
     (original : List ℕ) (copies : List (List ℕ)) (spliced : SplicedValue) (place : Place) (start : ℕ) → (is : IsSpliceOf copies spliced)
@@ -147,16 +147,14 @@ VotedIsOriginal =
     → slice_range spliced.payload place.start place.end ≡ slice_range original place.start place.end
 
 -- When a link's slice is among the combinations that are tried there: where it is a combination of regions of what the copies have there; and
--- where each byte of it is intact in some copy, and at distance 0 there are at most 4096 combinations of what the copies have there, as it
--- is, and with the size of a slice that is as long.
+-- where each byte of it is intact in some copy, and at distance 0 there are at most 4096 combinations of what the copies have there.
 pub record LinksAreTried : Type 0 where
   pub regions : (original : List ℕ) (copies : List (List ℕ)) (copy : List ℕ) (start end : ℕ) → Contains copies copy → AllReach copies end
       → IsLinkOf original start end → IsCombination (versions_at copies start end) (slice_range original start end)
       → IsTriedAt copies start end (slice_range original start end)
-  pub each_byte : (original : List ℕ) (copies : List (List ℕ)) (start end count more : ℕ) → AllReach copies end → IsLinkOf original start end
+  pub each_byte : (original : List ℕ) (copies : List (List ℕ)) (start end count : ℕ) → AllReach copies end → IsLinkOf original start end
       → AreBytes (slice_range original start end) → HasEachByte (slice_range original start end) (versions_at copies start end)
-      → HasFewByByte (versions_at copies start end) count → HasFewByByte (map sized (versions_at copies start end)) more
-      → IsTriedAt copies start end (slice_range original start end)
+      → HasFewByByte (versions_at copies start end) count → IsTriedAt copies start end (slice_range original start end)
 
 -- Where the copies are weavable, a frame that is given back is the original, and its places are the original's links.
 abbrev pub GivenBackIsOriginal : Type 0

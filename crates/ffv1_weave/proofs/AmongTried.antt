@@ -93,7 +93,7 @@ module _ (original : List ℕ) (versions : List (List ℕ)) (has : HasEachByte o
             (λ i low below. let here : found.0 ≡ i = omega arith in subst (λ k. get_or original k 0 ≡ get_or intact.0 k 0) here (sym intact.2))
       ]
 
-  bytes_combine : IsCombinationBy (Pairs 0) versions original
+  pub bytes_combine : IsCombinationBy (Pairs 0) versions original
   bytes_combine = record { same_length = λ version there. sym (has.one_length version there); agrees = right_at; parts = each_segment }
 
   each_byte : (count : ℕ) → HasFewByByte versions count → IsAmongTried versions original

@@ -26,6 +26,8 @@ pub mod VoteLaws
 pub mod VoteSteps
 pub mod Coarsest
 pub mod AmongTried
+pub mod Mapped
+pub mod FewByByte
 pub mod Vectors
 pub mod ThreeVersions
 pub mod MostVectors
