@@ -167,16 +167,6 @@ module _ (size : ℕ) (part : Part) (parts : List Part) (fit : All (IsFit size) 
   pub fits_in : (k : ℕ) → k < length part.choices → part.start + length (choice_of part k) ≤ size
   fits_in k lt = let within = fit_head.within in omega (arith, choice_size size part fit_head k lt)
 
--- the length stays
-pub length-chosen : (parts : List Part) (code : ℕ) (bytes : List ℕ) → All (IsFit (length bytes)) parts → length (chosen parts code bytes) ≡ length bytes
-length-chosen [] code bytes fit = refl
-length-chosen (part ∷ parts) code bytes fit =
-    let digit = digit_below (length bytes) part (fit_head (length bytes) part parts fit) code in
-    let long = length-written bytes part.start (choice_of part (code % length part.choices))
-    (fits_in (length bytes) part parts fit (code % length part.choices) digit) in
-    length-chosen parts (code / length part.choices) (written bytes part.start (choice_of part (code % length part.choices)))
-    (fit_as _ (length bytes) parts long (fit_tail (length bytes) part parts fit)) ∙ long
-
 module _ (split : Split) (versions : List (List ℕ)) where
   -- nothing is written before the place from which the parts are sought
   pub chosen_front : (from : ℕ) (parts : List Part) (code : ℕ) (bytes : List ℕ) → ArePartsFrom split versions from parts → All (IsFit (length bytes)) parts
