@@ -110,12 +110,7 @@ module _ (original : List ℕ) (copies : List (List ℕ)) (agree : AreConsistent
       → StandsAs copies start end bytes standing → IsLinkOf original start end × (bytes ≡ slice_range original start end)
   settled_link start end bytes Settled is_end is h =
       let claim = agree end (record { start = start; bytes = bytes }) is_end h.there in (claim.0, ap (λ (p : LinkValue). p.bytes) claim.1)
-  settled_link start end bytes (Woven count) is_end is h = absurd (cc)
-  settled_link start end bytes (Voted count) is_end is h = absurd (cc)
-  settled_link start end bytes (Repaired count) is_end is h = absurd (cc)
-  settled_link start end bytes Disputed is_end is h = absurd (cc)
-  settled_link start end bytes Missing is_end is h = absurd (cc)
-  settled_link start end bytes Undivided is_end is h = absurd (cc)
+  settled_link start end bytes standing is_end is h = absurd (cc)
 
   -- where a link is a piece, it settles its place
   pub settled_where : (start end : ℕ) (bytes : List ℕ) (standing : Standing) (link : ℕ) → IsEnd original end → IsPiece copies end (link_of original link end)

@@ -98,9 +98,7 @@ stops_no_claim copies end none no_claim unclaimed =
 pub not_woven : (outcome : WeaveResult) → ((bytes : Vec ℕ Global) (count : ℕ) → outcome ≡ outcomes.Woven bytes count → ⊥) → (bytes : List ℕ) (count : ℕ)
     → weave_tally outcome ≡ woven bytes count → ⊥
 not_woven (outcomes.Woven items n) apart bytes count is = apart items n refl
-not_woven outcomes.Disputed apart bytes count is = absurd (cc)
-not_woven (outcomes.Missing n) apart bytes count is = absurd (cc)
-not_woven outcomes.TooMany apart bytes count is = absurd (cc)
+not_woven outcome apart bytes count is = absurd (cc)
 
 -- ---- what is woven, whether its start is claimed or known
 

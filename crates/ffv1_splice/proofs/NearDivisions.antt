@@ -182,12 +182,7 @@ module _ (original : List ℕ) (copies : List (List ℕ)) (near : AreNearCopies 
     intact_where : (start end : ℕ) (bytes : List ℕ) (standing : Standing) → IsLinkOf original start end → StandsAs copies start end bytes standing
         → standing ≡ Settled → IsIntactInSome original copies start end
     intact_where start end bytes Settled link h e = piece_intact start end bytes link h.there
-    intact_where start end bytes (Woven count) link h e = absurd (cc)
-    intact_where start end bytes (Voted count) link h e = absurd (cc)
-    intact_where start end bytes (Repaired count) link h e = absurd (cc)
-    intact_where start end bytes Disputed link h e = absurd (cc)
-    intact_where start end bytes Missing link h e = absurd (cc)
-    intact_where start end bytes Undivided link h e = absurd h
+    intact_where start end bytes standing link h e = absurd (cc)
 
     pub near_divided : IsNearSplice original copies spliced
     near_divided = record {

@@ -213,12 +213,7 @@ module _ (copies : List (List ℕ)) (end : ℕ) where
   one_standing s t a b Missing Disputed h k = absurd (not_disputed_and_missing t s k.0 h.0)
   one_standing s t a b Missing Missing h k = one_gap Missing s t a b h.1 k.1
   one_standing s t a b Undivided y h k = absurd h
-  one_standing s t a b Settled Undivided h k = absurd k
-  one_standing s t a b (Woven m) Undivided h k = absurd k
-  one_standing s t a b (Voted m) Undivided h k = absurd k
-  one_standing s t a b (Repaired m) Undivided h k = absurd k
-  one_standing s t a b Disputed Undivided h k = absurd k
-  one_standing s t a b Missing Undivided h k = absurd k
+  one_standing s t a b x Undivided h k = absurd k
 
   pub stop_not_stands : (start : ℕ) (bytes : List ℕ) (standing : Standing) → IsStop copies end → StandsAs copies start end bytes standing → ⊥
   stop_not_stands start bytes Settled stop h = stop.unsettled (record { start = start; bytes = bytes }) h

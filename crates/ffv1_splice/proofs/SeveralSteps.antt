@@ -228,10 +228,7 @@ module _ (copies : List (List ℕ)) (end : ℕ) where
         not_claim_alone start disputed next.there is (λ bytes count e. absurd (cc)) (λ count e. absurd (cc))
     tried_next (one_woven first bytes n) too_many is h =
         not_claim_alone start too_many next.there is (λ bytes count e. absurd (cc)) (λ count e. absurd (cc))
-    tried_next undecided (woven bytes more) is h = h
-    tried_next undecided (missing more) is h = h
-    tried_next undecided disputed is h = h
-    tried_next undecided too_many is h = h
+    tried_next undecided weave is h = h
 
   -- ---- no more start
 

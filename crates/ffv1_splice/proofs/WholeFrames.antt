@@ -10,7 +10,7 @@ use Rattle.ffv1_splice.specs.Pieces.{AllReach, HasContent, IsPiece}
 use Rattle.ffv1_splice.specs.Standings.{versions_at, StandsAs}
 use Rattle.ffv1_splice.specs.Splice.{SplicedValue, LieFrom, IsSpliceOf, IsSettledOrWoven, IsGivenBack}
 use Rattle.ffv1_splice.specs.declared.place.Standing.{Standing}
-use Rattle.ffv1_splice.specs.declared.place.Standing.TheVariants.{Settled, Woven, Voted, Repaired, Disputed, Missing, Undivided}
+use Rattle.ffv1_splice.specs.declared.place.Standing.TheVariants.{Settled, Woven}
 use Rattle.ffv1_splice.specs.declared.place.Place.{Place}
 use Rattle.ffv1_splice.proofs.Walks.{reach_less}
 use Rattle.ffv1_splice.proofs.Narrowed.{piece_out}
@@ -131,11 +131,7 @@ module _ (copies : List (List ℕ)) (spliced : SplicedValue) (is : IsSpliceOf co
       let content : HasContent 0 end = stands.1.content in
       let first : start ≡ 0 = stands.0 in
       record { content = omega arith; framed = valid.passes.0; passes = valid.passes.1 }
-  cut_slice from to start end bytes (Voted count) within reach stands right = absurd right
-  cut_slice from to start end bytes (Repaired count) within reach stands right = absurd right
-  cut_slice from to start end bytes Disputed within reach stands right = absurd right
-  cut_slice from to start end bytes Missing within reach stands right = absurd right
-  cut_slice from to start end bytes Undivided within reach stands right = absurd right
+  cut_slice from to start end bytes standing within reach stands right = absurd right
 
   abbrev IsSliceThere : Place → Type 0
   IsSliceThere place = IsWholeSlice place.start place.end (slice_range spliced.payload place.start place.end)

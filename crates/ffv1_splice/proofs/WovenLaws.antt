@@ -61,7 +61,6 @@ module _ (copies : List (List ℕ)) (start end : ℕ) (slice : List ℕ) (framed
     (tried : IsTriedAt copies start end slice) where
   -- What is woven is the slice.
   pub woven_slice : (bytes : List ℕ) (standing : Standing) (count : ℕ) → standing ≡ Woven count → StandsAs copies start end bytes standing → bytes ≡ slice
-  woven_slice bytes Settled count is h = absurd (cc)
   woven_slice bytes (Woven n) count is (inl h) =
       slice_of_weave slice framed passes (versions_at copies start end) bytes n (tried.claimed h.claim.there) h.weave'
   woven_slice bytes (Woven n) count is (inr (inr h)) =
@@ -70,11 +69,7 @@ module _ (copies : List (List ℕ)) (start end : ℕ) (slice : List ℕ) (framed
   woven_slice bytes (Woven n) count is (inr (inl h)) =
       let first : IsTriedAt copies 0 end slice = subst (λ s. IsTriedAt copies s end slice) h.0 tried in
       slice_of_weave slice framed passes (map sized (versions_at copies 0 end)) bytes n (first.unclaimed h.1.content (h.1.no_claim 0)) h.1.weave'
-  woven_slice bytes (Voted n) count is h = absurd (cc)
-  woven_slice bytes (Repaired n) count is h = absurd (cc)
-  woven_slice bytes Disputed count is h = absurd (cc)
-  woven_slice bytes Missing count is h = absurd (cc)
-  woven_slice bytes Undivided count is h = absurd (cc)
+  woven_slice bytes standing count is h = absurd (cc)
 
   -- something is woven from the one start that is claimed, if there are not too many combinations
   kept : (weave : Weave) → IsWeaveAt copies start end weave → KeepsOriginal slice weave
@@ -82,13 +77,8 @@ module _ (copies : List (List ℕ)) (start end : ℕ) (slice : List ℕ) (framed
 
   -- it is not repaired, ..
   pub unrepaired_slice : (bytes : List ℕ) (standing : Standing) (count : ℕ) → standing ≡ Repaired count → StandsAs copies start end bytes standing → ⊥
-  unrepaired_slice bytes Settled count is h = absurd (cc)
-  unrepaired_slice bytes (Woven n) count is h = absurd (cc)
-  unrepaired_slice bytes (Voted n) count is h = absurd (cc)
   unrepaired_slice bytes (Repaired n) count is h = kept (weave_missing h.combinations) h.missed
-  unrepaired_slice bytes Disputed count is h = absurd (cc)
-  unrepaired_slice bytes Missing count is h = absurd (cc)
-  unrepaired_slice bytes Undivided count is h = absurd (cc)
+  unrepaired_slice bytes standing count is h = absurd (cc)
 
   -- .. and where nothing is woven there are too many combinations: ..
   unwoven_slice : IsUnwovenAt copies start end → AreMany (versions_at copies start end)
@@ -98,24 +88,14 @@ module _ (copies : List (List ℕ)) (start end : ℕ) (slice : List ℕ) (framed
   -- .. so where it is missing, ..
   pub missing_slice : (bytes : List ℕ) (standing : Standing) → standing ≡ Missing → StandsAs copies start end bytes standing
       → AreMany (versions_at copies start end)
-  missing_slice bytes Settled is h = absurd (cc)
-  missing_slice bytes (Woven n) is h = absurd (cc)
-  missing_slice bytes (Voted n) is h = absurd (cc)
-  missing_slice bytes (Repaired n) is h = absurd (cc)
-  missing_slice bytes Disputed is h = absurd (cc)
   missing_slice bytes Missing is h = unwoven_slice (missing_unwoven copies start end h.0)
-  missing_slice bytes Undivided is h = absurd (cc)
+  missing_slice bytes standing is h = absurd (cc)
 
   -- .. and where it is voted
   pub voted_slice : (bytes : List ℕ) (standing : Standing) (count : ℕ) → standing ≡ Voted count → StandsAs copies start end bytes standing
       → AreMany (versions_at copies start end)
-  voted_slice bytes Settled count is h = absurd (cc)
-  voted_slice bytes (Woven n) count is h = absurd (cc)
   voted_slice bytes (Voted n) count is h = unwoven_slice h.unwoven
-  voted_slice bytes (Repaired n) count is h = absurd (cc)
-  voted_slice bytes Disputed count is h = absurd (cc)
-  voted_slice bytes Missing count is h = absurd (cc)
-  voted_slice bytes Undivided count is h = absurd (cc)
+  voted_slice bytes standing count is h = absurd (cc)
 
 -- ---- what is woven in a splice
 
@@ -225,11 +205,7 @@ module _ (original : List ℕ) (copies : List (List ℕ)) (spliced : SplicedValu
   has_link start end bytes (Woven count) link right h =
       woven_slice copies start end (slice_range original start end) (framed_link original start end link) (weavable.passes start end link)
       (weavable.among start end link) bytes (Woven count) count refl h
-  has_link start end bytes (Voted count) link right h = absurd right
-  has_link start end bytes (Repaired count) link right h = absurd right
-  has_link start end bytes Disputed link right h = absurd right
-  has_link start end bytes Missing link right h = absurd right
-  has_link start end bytes Undivided link right h = absurd right
+  has_link start end bytes standing link right h = absurd right
 
   each_same : All (λ place. slice_range spliced.payload place.start place.end ≡ slice_range original place.start place.end) spliced.places
   each_same k d lt =
@@ -251,11 +227,7 @@ given_link original copies spliced weavable is place there link right Settled st
 given_link original copies spliced weavable is place there link right (Woven count) stands =
     (woven_is_original original copies spliced place is there link (weavable.passes place.start place.end link)
     (weavable.among place.start place.end link)).woven count stands
-given_link original copies spliced weavable is place there link right (Voted count) stands = absurd (subst IsSettledOrWoven stands right)
-given_link original copies spliced weavable is place there link right (Repaired count) stands = absurd (subst IsSettledOrWoven stands right)
-given_link original copies spliced weavable is place there link right Disputed stands = absurd (subst IsSettledOrWoven stands right)
-given_link original copies spliced weavable is place there link right Missing stands = absurd (subst IsSettledOrWoven stands right)
-given_link original copies spliced weavable is place there link right Undivided stands = absurd (subst IsSettledOrWoven stands right)
+given_link original copies spliced weavable is place there link right standing stands = absurd (subst IsSettledOrWoven stands right)
 
 module _ (original : List ℕ) (copies : List (List ℕ)) (spliced : SplicedValue) (of : AreCopiesOf original copies) (weavable : AreWeavable original copies)
     (is : IsSpliceOf copies spliced) (given : IsGivenBack spliced) where
