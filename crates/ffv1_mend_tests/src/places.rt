@@ -1,6 +1,6 @@
 //! Places of a splice, a row for each way in which one comes to stand: of three copies of a recorded frame.
 use ffv1_splice::{Place, Spliced, Standing, splice};
-use ffv1_test_frames::RECORDED;
+use ffv1_test_frames::{BLACK, RECORDED};
 use std::alloc::Global;
 
 /// Bytes of the frame that are changed: the place of each, and the mask of its bits that are turned.
@@ -154,4 +154,47 @@ fn places_stand_so(rt: HostRuntime) {
     for &(shown, copies, standings, payload) in &ROWS {
         assert!(rt; gives(rt.alloc(), copies, standings, payload), "{shown}");
     }
+}
+
+/// A frame of 132 small slices: 65 times one with a wrong bit and a whole one, then one that is lost with its footer, and a whole one.
+fn row_of_slices() -> [u8; 1452] {
+    let mut frame = [0; 1452];
+    for (place, byte) in frame.iter_mut().enumerate() {
+        let damaged = match (place / 11, place % 11) {
+            (slice, 0) if slice % 2 == 0 => 1,
+            (130, 3) => 0x80,
+            _ => 0,
+        };
+        *byte = BLACK.get(place % 11).copied().unwrap_or(0) ^ damaged;
+    }
+    frame
+}
+
+/// How its slices stand, from its end, where 64 that are damaged are crossed: the 65th lies in the hole, under the lost one.
+fn crossed_64() -> [Place; 130] {
+    let mut places = [place(1441, 1452, SETTLED); 130];
+    for (k, stands) in places.iter_mut().enumerate() {
+        let slice = 129_usize.wrapping_sub(k);
+        let start = slice.wrapping_mul(11);
+        let standing = match slice % 2 {
+            0 => Standing::Repaired(88),
+            _ => SETTLED,
+        };
+        match k {
+            0 => {}
+            1 => *stands = place(1408, 1441, Standing::Undivided),
+            _ => *stands = place(start, start.wrapping_add(11), standing),
+        }
+    }
+    places
+}
+
+#[test]
+fn at_most_64_lost_slices_are_crossed(rt: HostRuntime) {
+    let spliced = splice(rt.alloc(), &[&row_of_slices()]);
+    let is_crossed = match &spliced {
+        Ok(spliced) => spliced.places() == crossed_64().as_slice() && spliced.front() == 0,
+        Err(_) => false,
+    };
+    assert!(rt; is_crossed);
 }
