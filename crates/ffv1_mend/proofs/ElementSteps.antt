@@ -5,7 +5,8 @@ use Rattle.ffv1_slice.specs.Members.{IsOnly}
 use Rattle.ffv1_splice.specs.Inner.Tally.{Tallies}
 use Rattle.ffv1_weave.specs.declared.check.Check.{Check}
 use Rattle.ffv1_weave.specs.declared.check.Check.TheVariants.{Element}
-use Rattle.ffv1_weave.proofs.References.{values_of, length-values_of}
+use Rattle.ffv1_weave.specs.References.{values_of}
+use Rattle.ffv1_weave.proofs.References.{length-values_of}
 use Rattle.ffv1_mend.specs.Improved.{PartValue, ArePartMends}
 use Rattle.ffv1_mend.specs.Passing.{IsPassing}
 use Rattle.ffv1_mend.specs.Mended.{ElementStands, IsElementMend}

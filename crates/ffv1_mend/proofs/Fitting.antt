@@ -7,7 +7,8 @@ use Rattle.std.proofs.lemmas.List.Elements.{All-nil, All-cons, All-head, All-tai
 use Rattle.ffv1_slice.proofs.NearLaws.{length-range}
 use Rattle.ffv1_weave.specs.Parts.{written}
 use Rattle.ffv1_weave.proofs.Choices.{length-written}
-use Rattle.ffv1_weave.proofs.References.{values_of, nowhere, value_there, each_value}
+use Rattle.ffv1_weave.specs.References.{values_of}
+use Rattle.ffv1_weave.proofs.References.{nowhere, value_there, each_value}
 use Rattle.ffv1_splice.specs.Standings.{versions_at}
 use Rattle.ffv1_splice.specs.Splice.{SplicedValue, IsSpliceOf}
 use Rattle.ffv1_splice.specs.declared.place.Place.{Place}

@@ -2,7 +2,8 @@
 use Rattle.std.proofs.Common.{◌≡◌, ℕ, ◌<◌, List, Bor, length, get_or}
 use Rattle.std.specs.Prelude.{Contains}
 use Rattle.ffv1_slice.specs.Members.{IsOfTwo}
-use Rattle.ffv1_weave.proofs.References.{values_of, nowhere, value_there}
+use Rattle.ffv1_weave.specs.References.{values_of}
+use Rattle.ffv1_weave.proofs.References.{nowhere, value_there}
 
 pub two_versions : (versions : List (Bor (List ℕ))) (from : List ℕ) → Contains (values_of versions) from → (k : ℕ) → k < length versions
     → ((get_or versions k nowhere).now ≡ from → ⊥) → IsOfTwo (Contains (values_of versions))

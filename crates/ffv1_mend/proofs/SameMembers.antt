@@ -23,7 +23,8 @@ use Rattle.ffv1_mend.specs.declared.part.Sort.{Sort}
 use Rattle.ffv1_mend.specs.declared.part.Sort.TheVariants.{Frame, Flac}
 use Rattle.ffv1_mend.specs.declared.state.State.{State}
 use Rattle.ffv1_mend.specs.declared.state.State.TheVariants.{Whole, Disputed, Woven, Missing, Alone, Agreed, Open}
-use Rattle.ffv1_weave.proofs.References.{values_of, value_there, each_value, length-values_of}
+use Rattle.ffv1_weave.specs.References.{values_of}
+use Rattle.ffv1_weave.proofs.References.{value_there, each_value, length-values_of}
 use Rattle.ffv1_mend.proofs.Members.{members_some}
 
 pub improved_as : (versions others : List (List ℕ)) (parts : List Part) (mends : List PartValue) → HasSameMembers versions others

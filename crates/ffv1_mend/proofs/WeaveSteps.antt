@@ -9,7 +9,8 @@ use Rattle.ffv1_weave.specs.declared.check.Check.TheVariants.{Element}
 use Rattle.ffv1_weave.specs.declared.weaving.WeaveResult.{WeaveResult}
 use Rattle.ffv1_weave.specs.declared.weaving.WeaveResult.TheVariants as outcome
 use Rattle.ffv1_weave.proofs.WeaveLaws.{weave_as, same_back}
-use Rattle.ffv1_weave.proofs.References.{values_of, value_there, each_value, nowhere, length-values_of}
+use Rattle.ffv1_weave.specs.References.{values_of}
+use Rattle.ffv1_weave.proofs.References.{value_there, each_value, nowhere, length-values_of}
 use Rattle.ffv1_weave.proofs.Mapped.{mapped_there, mapped_of}
 use Rattle.ffv1_mend.specs.Improved.{PartValue, patched, given_patches, improved}
 use Rattle.ffv1_mend.specs.Mended.{IsNotWoven}

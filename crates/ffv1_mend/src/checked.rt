@@ -1,5 +1,6 @@
 //! Bytes without parts that have a checksum of their own: Configuration Records, and frames of FLAC.
-ghost use Rattle.std.specs.Prelude.{◌≡◌, ◌<◌, length, map, All, IfOk};
+ghost use Rattle.std.specs.Prelude.{◌≡◌, ◌<◌, length, All, IfOk};
+ghost use Rattle.ffv1_weave.specs.References.{values_of};
 ghost use Rattle.ffv1_weave.specs.Checks.{CanWeave};
 ghost use Rattle.ffv1_weave.specs.declared.check.Check.TheVariants.{Flac};
 ghost use Rattle.ffv1_mend.specs.Content.{content_bytes};
@@ -22,7 +23,7 @@ fn woven_standing<'a>(
     requires weaves { CanWeave check }
     requires some { 0 < length versions.now }
     requires lengths { All (λ version. length version.now ≡ length from.now) versions.now }
-    ensures { IfOk result (λ (state, content). StandsBy check (map (λ version. version.now) versions.now) (map (λ version. version.now) versions.now)
+    ensures { IfOk result (λ (state, content). StandsBy check (values_of versions.now) (values_of versions.now)
         from.now (content_bytes content) state) }
 {
     match passing_of(check, versions) {
@@ -46,7 +47,7 @@ pub(crate) fn mend_woven<'a>(
     requires weaves { CanWeave check }
     requires some { 0 < length versions.now }
     requires lengths { All (λ version. length version.now ≡ length from.now) versions.now }
-    ensures { IfOk result (IsCheckedMend check (map (λ version. version.now) versions.now) from.now) }
+    ensures { IfOk result (IsCheckedMend check (values_of versions.now) from.now) }
 {
     let (state, content) = woven_standing(alloc, check, versions, from)?;
     Ok(Mended::new(state, Some(content), Vec::new(alloc)))
@@ -54,7 +55,7 @@ pub(crate) fn mend_woven<'a>(
 
 /// How the versions of a frame of FLAC stand, and its bytes.
 fn flac_standing<'a>(versions: &[&'a [u8]], from: &'a [u8]) -> (State, Content<'a>)
-    ensures { let (state, content) = result in StandsBy Flac (map (λ version. version.now) versions.now) (map (λ version. version.now) versions.now)
+    ensures { let (state, content) = result in StandsBy Flac (values_of versions.now) (values_of versions.now)
         from.now (content_bytes content) state }
 {
     match passing_of(Check::Flac, versions) {
@@ -66,7 +67,7 @@ fn flac_standing<'a>(versions: &[&'a [u8]], from: &'a [u8]) -> (State, Content<'
 
 /// Mends a frame of FLAC whose versions these are, each once. Its 16 bits are too few for combinations, so nothing is woven.
 pub(crate) fn mend_flac<'a>(alloc: Global, versions: &[&'a [u8]], from: &'a [u8]) -> Mended<'a>
-    ensures { IsCheckedMend Flac (map (λ version. version.now) versions.now) from.now result }
+    ensures { IsCheckedMend Flac (values_of versions.now) from.now result }
 {
     let (state, content) = flac_standing(versions, from);
     Mended::new(state, Some(content), Vec::new(alloc))

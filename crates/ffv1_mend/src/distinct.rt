@@ -1,5 +1,6 @@
 //! Versions, each once.
-ghost use Rattle.std.specs.Prelude.{◌≡◌, ◌↔◌, IsTrue, map, Any, IfOk};
+ghost use Rattle.std.specs.Prelude.{◌≡◌, ◌↔◌, IsTrue, Any, IfOk};
+ghost use Rattle.ffv1_weave.specs.References.{values_of};
 ghost use Rattle.ffv1_mend.specs.Inner.Distinct.{AreDistinctOf};
 
 use std::alloc::{AllocError, Global};
@@ -23,7 +24,7 @@ pub(crate) fn distinct_versions<'a>(
     alloc: Global,
     versions: &[&'a [u8]],
 ) -> Result<Vec<&'a [u8]>, AllocError>
-    ensures { IfOk result (λ found. AreDistinctOf (map (λ version. version.now) versions.now) (map (λ version. version.now) found.items)) }
+    ensures { IfOk result (λ found. AreDistinctOf (values_of versions.now) (values_of found.items)) }
 {
     let mut found = Vec::new(alloc);
     for version in versions {

@@ -1,5 +1,6 @@
 //! Elements with a CRC-32, mended.
 ghost use Rattle.std.specs.Prelude.{◌≡◌, ◌<◌, ◌≢◌, length, map, All, AllPairs, IfOk};
+ghost use Rattle.ffv1_weave.specs.References.{values_of};
 ghost use Rattle.ffv1_splice.specs.Inner.Tally.{Tallies};
 ghost use Rattle.ffv1_weave.specs.Weave.{IsWeaveOf, weave_tally};
 ghost use Rattle.ffv1_weave.specs.declared.check.Check.TheVariants.{Element};
@@ -46,7 +47,7 @@ fn weave_improved(
     requires some { 0 < length versions.now }
     requires lengths { All (λ version. length version.now ≡ size) versions.now }
     requires fit { AreFitting size parts.now (map part_value mends.now) }
-    ensures { IfOk result (λ outcome. IsWeaveOf Element (improved (map (λ version. version.now) versions.now) parts.now (map part_value mends.now)) (weave_tally outcome)) }
+    ensures { IfOk result (λ outcome. IsWeaveOf Element (improved (values_of versions.now) parts.now (map part_value mends.now)) (weave_tally outcome)) }
 {
     let all = improved_versions(alloc, versions, parts, mends)?;
     let lent = lent(alloc, all.as_slice())?;
@@ -65,8 +66,8 @@ fn standing<'a>(
     requires some { 0 < length versions.now }
     requires lengths { All (λ version. length version.now ≡ length from.now) versions.now }
     requires fit { AreFitting (length from.now) parts.now (map part_value mends.now) }
-    requires passing { Tallies (IsPassing Element (map (λ version. version.now) versions.now)) (passing_counted passing) }
-    ensures { IfOk result (λ (state, content). ElementStands (map (λ version. version.now) versions.now) from.now parts.now (map part_value mends.now) (content_bytes content) state) }
+    requires passing { Tallies (IsPassing Element (values_of versions.now)) (passing_counted passing) }
+    ensures { IfOk result (λ (state, content). ElementStands (values_of versions.now) from.now parts.now (map part_value mends.now) (content_bytes content) state) }
 {
     match passing {
         Passing::One(version) => Ok((State::Whole, Content::Version(version))),
@@ -87,10 +88,10 @@ pub(crate) fn mend_element<'a>(
     parts: &[Part],
 ) -> Result<Mended<'a>, AllocError>
     requires some { 0 < length versions.now }
-    requires once { AllPairs (λ one other. one ≢ other) (map (λ version. version.now) versions.now) }
+    requires once { AllPairs (λ one other. one ≢ other) (values_of versions.now) }
     requires lengths { All (λ version. length version.now ≡ length from.now) versions.now }
     requires parts { All (IsWithin (length from.now)) parts.now }
-    ensures { IfOk result (IsElementMend (map (λ version. version.now) versions.now) from.now parts.now) }
+    ensures { IfOk result (IsElementMend (values_of versions.now) from.now parts.now) }
 {
     let passing = passing_of(Check::Element, versions);
     if let Passing::One(version) = passing {

@@ -1,5 +1,6 @@
 //! Frames, mended by their splice.
 ghost use Rattle.std.specs.Prelude.{◌≡◌, ◌<◌, ◌↔◌, IsTrue, IfOk, ◌^◌, ◌-◌, length, min, map};
+ghost use Rattle.ffv1_weave.specs.References.{values_of};
 ghost use Rattle.ffv1_splice.specs.declared.place.Standing.TheVariants.{Settled};
 ghost use Rattle.ffv1_mend.specs.Mended.{FrameStands, IsFrameMend, count_at, product};
 
@@ -46,7 +47,7 @@ pub fn frame_state(spliced: &Spliced) -> State
 /// What becomes of a frame whose versions these are: its splice, and how it stands by that. There is one version at least.
 pub(crate) fn mend_frame<'a>(alloc: Global, versions: &[&[u8]]) -> Result<Mended<'a>, AllocError>
     requires { 0 < length versions.now }
-    ensures { IfOk result (IsFrameMend (map (λ version. version.now) versions.now)) }
+    ensures { IfOk result (IsFrameMend (values_of versions.now)) }
 {
     let spliced = splice_of(alloc, versions)?;
     let state = frame_state(&spliced);

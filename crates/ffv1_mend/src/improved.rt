@@ -1,6 +1,7 @@
 //! Versions with what their parts give.
 ghost use Rattle.std.specs.Prelude.{◌≡◌, ◌+◌, ◌≤◌, ◌↔◌, IsTrue, length, map, All, Any, IfOk};
 ghost use Rattle.ffv1_slice.specs.Members.{HasSameMembers};
+ghost use Rattle.ffv1_weave.specs.References.{values_of};
 ghost use Rattle.ffv1_weave.specs.Parts.{written};
 ghost use Rattle.ffv1_mend.specs.Content.{content_bytes};
 ghost use Rattle.ffv1_mend.specs.Improved.{is_given, part_value, patched, patches_of, given_by, given_patches, whole_by, whole_patches, improved};
@@ -145,7 +146,7 @@ pub(crate) fn improved_versions<'a>(
     mends: &[MendedPart<'_>],
 ) -> Result<Vec<Content<'a>>, AllocError>
     requires { All (λ version. AreFitting (length version.now) parts.now (map part_value mends.now)) versions.now }
-    ensures { IfOk result (λ all. HasSameMembers (improved (map (λ version. version.now) versions.now) parts.now (map part_value mends.now)) (map content_bytes all.items)) }
+    ensures { IfOk result (λ all. HasSameMembers (improved (values_of versions.now) parts.now (map part_value mends.now)) (map content_bytes all.items)) }
 {
     let mut all = Vec::new(alloc);
     for version in versions {
@@ -159,7 +160,7 @@ pub(crate) fn improved_versions<'a>(
 
 /// The bytes that all have, lent.
 pub(crate) fn lent<'b>(alloc: Global, all: &'b [Content<'_>]) -> Result<Vec<&'b [u8]>, AllocError>
-    ensures { IfOk result (λ lent. map (λ bytes. bytes.now) lent.items ≡ map content_bytes all.now) }
+    ensures { IfOk result (λ lent. values_of lent.items ≡ map content_bytes all.now) }
 {
     let mut lent = Vec::new(alloc);
     for content in all {

@@ -1,5 +1,6 @@
 //! Stretches of each kind, mended.
-ghost use Rattle.std.specs.Prelude.{◌≡◌, ◌<◌, length, map, All, Contains, IfOk};
+ghost use Rattle.std.specs.Prelude.{◌≡◌, ◌<◌, length, All, Contains, IfOk};
+ghost use Rattle.ffv1_weave.specs.References.{values_of};
 ghost use Rattle.ffv1_mend.specs.Improved.{IsWithin};
 ghost use Rattle.ffv1_mend.specs.Mended.{IsMendOf};
 
@@ -37,9 +38,9 @@ pub fn mend<'a>(
 ) -> Result<Mended<'a>, AllocError>
     requires some { 0 < length versions.now }
     requires lengths { All (λ version. length version.now ≡ length from.now) versions.now }
-    requires from { Contains (map (λ version. version.now) versions.now) from.now }
+    requires from { Contains (values_of versions.now) from.now }
     requires parts { All (IsWithin (length from.now)) parts.now }
-    ensures { IfOk result (IsMendOf kind (map (λ version. version.now) versions.now) from.now parts.now) }
+    ensures { IfOk result (IsMendOf kind (values_of versions.now) from.now parts.now) }
 {
     match kind {
         Kind::Frame => mend_frame(alloc, versions),

@@ -1,5 +1,6 @@
 //! What becomes of frames, each version judged once.
 ghost use Rattle.std.specs.Prelude.{◌≡◌, ◌<◌, ◌≤◌, [], length, map, All, IfOk, slice_index_or};
+ghost use Rattle.ffv1_weave.specs.References.{values_of};
 ghost use Rattle.ffv1_splice.specs.Standings.{versions_at};
 ghost use Rattle.ffv1_splice.specs.Splice.{IsSpliceOf};
 ghost use Rattle.ffv1_mend.specs.Improved.{IsWithin, IsPartMend, ArePartMends, part_value};
@@ -15,7 +16,7 @@ use std::alloc::{AllocError, Global};
 /// The splice of versions of a frame, each judged once. There is one version at least, and all are as long.
 pub(crate) fn splice_of(alloc: Global, versions: &[&[u8]]) -> Result<Spliced, AllocError>
     requires { 0 < length versions.now }
-    ensures { IfOk result (IsSpliceOf (map (λ version. version.now) versions.now)) }
+    ensures { IfOk result (IsSpliceOf (values_of versions.now)) }
 {
     let distinct = distinct_versions(alloc, versions)?;
     splice(alloc, distinct.as_slice()).map_err(|_| AllocError)
@@ -23,7 +24,7 @@ pub(crate) fn splice_of(alloc: Global, versions: &[&[u8]]) -> Result<Spliced, Al
 
 /// What becomes of a frame of FLAC, by its versions that pass.
 fn judged<'a>(versions: &[&'a [u8]]) -> MendedPart<'a>
-    ensures { IsPartMend Flac (map (λ version. version.now) versions.now) (part_value result) }
+    ensures { IsPartMend Flac (values_of versions.now) (part_value result) }
 {
     match passing_of(Check::Flac, versions) {
         Passing::None => MendedPart::Missing,
@@ -40,7 +41,7 @@ fn versions_at<'a>(
 ) -> Result<Vec<&'a [u8]>, AllocError>
     requires order { part.start ≤ part.end }
     requires within { All (λ version. part.end ≤ length version.now) versions.now }
-    ensures { IfOk result (λ frames. map (λ frame. frame.now) frames.items ≡ versions_at (map (λ version. version.now) versions.now) part.start part.end) }
+    ensures { IfOk result (λ frames. values_of frames.items ≡ versions_at (values_of versions.now) part.start part.end) }
 {
     let mut frames = Vec::new(alloc);
     for version in versions {
@@ -56,7 +57,7 @@ fn mended_frame<'a>(
     versions: &[&'a [u8]],
 ) -> Result<MendedPart<'a>, AllocError>
     requires { 0 < length versions.now }
-    ensures { IfOk result (λ mend. IsPartMend sort (map (λ version. version.now) versions.now) (part_value mend)) }
+    ensures { IfOk result (λ mend. IsPartMend sort (values_of versions.now) (part_value mend)) }
 {
     match sort {
         Sort::Frame => Ok(MendedPart::Spliced(splice_of(alloc, versions)?)),
@@ -76,7 +77,7 @@ fn mended_part<'a>(
     requires some { 0 < length versions.now }
     requires order { part.start ≤ part.end }
     requires within { All (λ version. part.end ≤ length version.now) versions.now }
-    ensures { IfOk result (λ mend. IsPartMend part.sort (versions_at (map (λ version. version.now) versions.now) part.start part.end) (part_value mend)) }
+    ensures { IfOk result (λ mend. IsPartMend part.sort (versions_at (values_of versions.now) part.start part.end) (part_value mend)) }
 {
     let frames = versions_at(alloc, versions, part)?;
     mended_frame(alloc, part.sort, frames.as_slice())
@@ -91,7 +92,7 @@ pub(crate) fn mended_parts<'a>(
     requires some { 0 < length versions.now }
     requires within { All (λ part. part.start ≤ part.end) parts.now }
     requires reach { All (λ version. All (λ part. part.end ≤ length version.now) parts.now) versions.now }
-    ensures { IfOk result (λ mends. ArePartMends (map (λ version. version.now) versions.now) parts.now (map part_value mends.items)) }
+    ensures { IfOk result (λ mends. ArePartMends (values_of versions.now) parts.now (map part_value mends.items)) }
 {
     let mut mends = Vec::new(alloc);
     for part in parts {

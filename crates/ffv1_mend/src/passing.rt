@@ -1,5 +1,6 @@
 //! The versions that pass a check.
-ghost use Rattle.std.specs.Prelude.{◌≡◌, List, map};
+ghost use Rattle.std.specs.Prelude.{◌≡◌, List};
+ghost use Rattle.ffv1_weave.specs.References.{values_of};
 ghost use Rattle.ffv1_splice.specs.Inner.Tally.{Tallies, TalliesMore};
 ghost use Rattle.ffv1_mend.specs.Passing.{IsPassing};
 ghost use Rattle.ffv1_mend.specs.Inner.Passing.{passing_counted};
@@ -32,7 +33,7 @@ impl<'a> Passing<'a> {
 
 /// The versions that pass a check.
 pub(crate) fn passing_of<'a>(check: Check, versions: &[&'a [u8]]) -> Passing<'a>
-    ensures { Tallies (IsPassing check (map (λ version. version.now) versions.now)) (passing_counted result) }
+    ensures { Tallies (IsPassing check (values_of versions.now)) (passing_counted result) }
 {
     let mut passing = Passing::None;
     for version in versions {

@@ -1,5 +1,6 @@
 //! Bytes without a checksum.
-ghost use Rattle.std.specs.Prelude.{◌≡◌, ◌<◌, length, map, Contains};
+ghost use Rattle.std.specs.Prelude.{◌≡◌, ◌<◌, length, Contains};
+ghost use Rattle.ffv1_weave.specs.References.{values_of};
 ghost use Rattle.ffv1_mend.specs.Mended.{PlainStands, IsPlainMend};
 
 use crate::content::Content;
@@ -10,8 +11,8 @@ use std::alloc::Global;
 
 /// How bytes without a checksum stand: `Alone`, `Agreed` or `Open`. `from` is one of the versions.
 fn plain_state(versions: &[&[u8]], from: &[u8]) -> State
-    requires { Contains (map (λ version. version.now) versions.now) from.now }
-    ensures { PlainStands (map (λ version. version.now) versions.now) from.now from.now result }
+    requires { Contains (values_of versions.now) from.now }
+    ensures { PlainStands (values_of versions.now) from.now from.now result }
 {
     if versions.len() == 1 {
         return State::Alone;
@@ -26,8 +27,8 @@ fn plain_state(versions: &[&[u8]], from: &[u8]) -> State
 
 /// What becomes of bytes without a checksum: they are those of `from`, which is one of the versions.
 pub(crate) fn mend_plain<'a>(alloc: Global, versions: &[&'a [u8]], from: &'a [u8]) -> Mended<'a>
-    requires { Contains (map (λ version. version.now) versions.now) from.now }
-    ensures { IsPlainMend (map (λ version. version.now) versions.now) from.now result }
+    requires { Contains (values_of versions.now) from.now }
+    ensures { IsPlainMend (values_of versions.now) from.now result }
 {
     Mended::new(
         plain_state(versions, from),

@@ -6,7 +6,8 @@ use Rattle.std.proofs.lemmas.List.{length-append, length-drop, length-take-le, t
 use Rattle.std.proofs.lemmas.Slice.{take-put_mid, take-put_mid_below, between-put_mid, drop-put_mid}
 use borrow.Rule.Slice.PartMut.{put_mid}
 use Rattle.ffv1_slice.proofs.NearLaws.{length-range}
-use Rattle.ffv1_weave.proofs.References.{values_of, each_value}
+use Rattle.ffv1_weave.specs.References.{values_of}
+use Rattle.ffv1_weave.proofs.References.{each_value}
 use Rattle.ffv1_splice.specs.Standings.{versions_at}
 use Rattle.ffv1_splice.specs.Splice.{SplicedValue, LieFrom, IsWalkDown, IsBound, IsWalkUp, Crossing, IsWalkAcross, crossing_places, IsDivisionOf, IsSpliceOf, hole_places, front_of}
 use Rattle.ffv1_splice.specs.declared.place.Place.{Place}

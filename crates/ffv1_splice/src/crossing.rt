@@ -1,7 +1,8 @@
 //! The walk of a splice up from its start: places are settled, and where that stops, the walk goes on over slices that are lost in all
 //! copies.
-ghost use Rattle.std.specs.Prelude.{◌≡◌, ◌+◌, ◌-◌, ◌++◌, ◌<◌, ◌≤◌, ℕ, List, [], ◌∷◌, length, map, take, All, IfOk, MatchOption};
+ghost use Rattle.std.specs.Prelude.{◌≡◌, ◌+◌, ◌-◌, ◌++◌, ◌<◌, ◌≤◌, ℕ, List, [], ◌∷◌, length, take, All, IfOk, MatchOption};
 ghost use Rattle.ffv1_slice.specs.Chain.{FooterGives};
+ghost use Rattle.ffv1_weave.specs.References.{values_of};
 ghost use Rattle.ffv1_splice.specs.Standings.{versions_at};
 ghost use Rattle.ffv1_splice.specs.Inner.Tally.{Tallies, starts_tally};
 ghost use Rattle.ffv1_splice.specs.Splice.{IsWalkUp, IsWalkAcross, IsCrossed, IsClaimedEnd, IsLostUpTo, Crossing, crossing_places};
@@ -31,8 +32,8 @@ pub(crate) fn walk_up(
     requires long { All (λ copy. length payload.old ≤ length copy.now) copies.now }
     ensures walk { IfOk result (λ walk. (below : List Place) × (crossings : List Crossing) × (floor : ℕ)
         × (walk.0.items ≡ below ++ crossing_places crossings)
-        × IsWalkUp (map (λ copy. copy.now) copies.now) (length payload.old) payload.new 0 below floor
-        × IsWalkAcross (map (λ copy. copy.now) copies.now) (length payload.old) payload.new floor crossings walk.1) }
+        × IsWalkUp (values_of copies.now) (length payload.old) payload.new 0 below floor
+        × IsWalkAcross (values_of copies.now) (length payload.old) payload.new floor crossings walk.1) }
     ensures within { IfOk result (λ walk. walk.1 ≤ length payload.new) }
     ensures long { IfOk result (λ _. length payload.new ≡ length payload.old) }
 {
@@ -60,8 +61,8 @@ fn place_across(
     requires long { All (λ copy. length payload.old ≤ length copy.now) copies.now }
     requires within { start ≤ length payload.old }
     ensures across { IfOk result (λ found. MatchOption found
-        ((end : ℕ) → IsLostUpTo (versions_at (map (λ copy. copy.now) copies.now) start (length payload.old)) (length payload.old - start) end → ⊥)
-        (λ place. (place.start ≡ start) × IsCrossed (map (λ copy. copy.now) copies.now) (length payload.old) payload.new place)) }
+        ((end : ℕ) → IsLostUpTo (versions_at (values_of copies.now) start (length payload.old)) (length payload.old - start) end → ⊥)
+        (λ place. (place.start ≡ start) × IsCrossed (values_of copies.now) (length payload.old) payload.new place)) }
     ensures long { IfOk result (λ _. length payload.new ≡ length payload.old) }
     ensures before { IfOk result (λ _. take start payload.new ≡ take start payload.old) }
 {
@@ -83,8 +84,8 @@ fn place_across(
 /// the one end that is claimed, and none does, so none is looked for.
 fn lost_up_to(copies: &[&[u8]], reach: usize) -> Option<usize>
     requires { All (λ copy. reach ≤ length copy.now) copies.now }
-    ensures { MatchOption result ((end : ℕ) → IsLostUpTo (map (λ copy. copy.now) copies.now) reach end → ⊥)
-        (IsLostUpTo (map (λ copy. copy.now) copies.now) reach) }
+    ensures { MatchOption result ((end : ℕ) → IsLostUpTo (values_of copies.now) reach end → ⊥)
+        (IsLostUpTo (values_of copies.now) reach) }
 {
     let Starts::One(end) = claimed_ends(copies, reach) else {
         return None;
@@ -105,7 +106,7 @@ fn lost_up_to(copies: &[&[u8]], reach: usize) -> Option<usize>
 /// The ends up to a reach at which copies claim that the slice ends with which they begin. Each copy has the reach.
 fn claimed_ends(copies: &[&[u8]], reach: usize) -> Starts
     requires { All (λ copy. reach ≤ length copy.now) copies.now }
-    ensures { Tallies (IsClaimedEnd (map (λ copy. copy.now) copies.now) reach) (starts_tally result) }
+    ensures { Tallies (IsClaimedEnd (values_of copies.now) reach) (starts_tally result) }
 {
     let mut ends = Starts::None;
     for copy in copies {

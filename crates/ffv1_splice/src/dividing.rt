@@ -1,5 +1,6 @@
 //! What stands in the hole of a splice, divided from its end alone.
-ghost use Rattle.std.specs.Prelude.{◌≡◌, ◌<◌, length, map, All, IfOk};
+ghost use Rattle.std.specs.Prelude.{◌≡◌, ◌<◌, length, All, IfOk};
+ghost use Rattle.ffv1_weave.specs.References.{values_of};
 ghost use Rattle.ffv1_splice.specs.Splice.{IsDivisionOf};
 
 use crate::place::Place;
@@ -17,7 +18,7 @@ pub(crate) fn divide(
 ) -> Result<(Vec<Place>, usize), AllocError>
     requires some { 0 < length copies.now }
     requires long { All (λ copy. length copy.now ≡ length payload.old) copies.now }
-    ensures { IfOk result (λ divided. IsDivisionOf (map (λ copy. copy.now) copies.now)
+    ensures { IfOk result (λ divided. IsDivisionOf (values_of copies.now)
         (record { places = divided.0.items; front = divided.1; payload = payload.new })) }
 {
     let mut places = Vec::new(alloc);

@@ -1,6 +1,7 @@
 //! The first slice of a hole, where no footer claims its start: it begins with the hole, so its size is known.
-ghost use Rattle.std.specs.Prelude.{◌≤◌, ◌<◌, length, map, All, IfOk, MatchOption};
+ghost use Rattle.std.specs.Prelude.{◌≤◌, ◌<◌, length, All, IfOk, MatchOption};
 ghost use Rattle.ffv1_slice.specs.Members.{IsOfNone};
+ghost use Rattle.ffv1_weave.specs.References.{values_of};
 ghost use Rattle.ffv1_splice.specs.Pieces.{IsPiece, IsClaimedStart};
 ghost use Rattle.ffv1_splice.specs.Standings.{StandsAs, IsStop};
 ghost use Rattle.ffv1_splice.specs.declared.place.Standing.TheVariants.{Woven};
@@ -21,10 +22,10 @@ pub(crate) fn first_woven(
 ) -> Result<Option<(Vec<u8>, usize)>, AllocError>
     requires some { 0 < length copies.now }
     requires within { All (λ copy. end ≤ length copy.now) copies.now }
-    requires none { IsOfNone (IsPiece (map (λ copy. copy.now) copies.now) end) }
-    requires no_claim { IsOfNone (IsClaimedStart (map (λ copy. copy.now) copies.now) end) }
-    ensures { IfOk result (λ found. MatchOption found (IsStop (map (λ copy. copy.now) copies.now) end)
-        (λ (bytes, count). StandsAs (map (λ copy. copy.now) copies.now) 0 end bytes.items (Woven count))) }
+    requires none { IsOfNone (IsPiece (values_of copies.now) end) }
+    requires no_claim { IsOfNone (IsClaimedStart (values_of copies.now) end) }
+    ensures { IfOk result (λ found. MatchOption found (IsStop (values_of copies.now) end)
+        (λ (bytes, count). StandsAs (values_of copies.now) 0 end bytes.items (Woven count))) }
 {
     if end <= FOOTER_LENGTH || end > SLICE_LIMIT as usize {
         return Ok(None);

@@ -1,7 +1,8 @@
 //! The places of a splice, each found by the pieces that end at its end in all copies, and by the starts that are claimed there, and
 //! written into the payload.
-ghost use Rattle.std.specs.Prelude.{◌≡◌, ◌+◌, ◌≤◌, ◌<◌, ℕ, length, map, All, IfOk, IsTrue, IsFalse};
+ghost use Rattle.std.specs.Prelude.{◌≡◌, ◌+◌, ◌≤◌, ◌<◌, ℕ, length, All, IfOk, IsTrue, IsFalse};
 ghost use Rattle.ffv1_slice.specs.Members.{IsOnly, IsOfTwo, IsOfNone};
+ghost use Rattle.ffv1_weave.specs.References.{values_of};
 ghost use Rattle.ffv1_splice.specs.Pieces.{IsPiece, IsClaimedStart};
 ghost use Rattle.ffv1_weave.specs.Weave.Weave.{missing, too_many};
 ghost use Rattle.ffv1_splice.specs.Standings.{versions_at, IsWeaveAt};
@@ -26,7 +27,7 @@ pub(crate) fn place_before(
     requires some { 0 < length copies.now }
     requires within { All (λ copy. end ≤ length copy.now) copies.now }
     requires room { end ≤ length payload.old }
-    ensures { IfOk result (IsPlacedOrStop (map (λ copy. copy.now) copies.now) end payload.old payload.new) }
+    ensures { IfOk result (IsPlacedOrStop (values_of copies.now) end payload.old payload.new) }
 {
     let (pieces, starts) = tally_at(copies, end);
     match pieces {
@@ -54,9 +55,9 @@ fn disputed_before(
     requires some { 0 < length copies.now }
     requires within { All (λ copy. end ≤ length copy.now) copies.now }
     requires room { end ≤ length payload.old }
-    requires two { IsOfTwo (IsPiece (map (λ copy. copy.now) copies.now) end) }
-    requires claim { Tallies (IsClaimedStart (map (λ copy. copy.now) copies.now) end) (starts_tally starts) }
-    ensures { IsPlacedOrStop (map (λ copy. copy.now) copies.now) end payload.old payload.new result }
+    requires two { IsOfTwo (IsPiece (values_of copies.now) end) }
+    requires claim { Tallies (IsClaimedStart (values_of copies.now) end) (starts_tally starts) }
+    ensures { IsPlacedOrStop (values_of copies.now) end payload.old payload.new result }
 {
     let Starts::One(start) = starts else {
         return None;
@@ -82,9 +83,9 @@ fn woven_before(
     requires some { 0 < length copies.now }
     requires within { All (λ copy. end ≤ length copy.now) copies.now }
     requires room { end ≤ length payload.old }
-    requires none { IsOfNone (IsPiece (map (λ copy. copy.now) copies.now) end) }
-    requires claim { Tallies (IsClaimedStart (map (λ copy. copy.now) copies.now) end) (starts_tally starts) }
-    ensures { IfOk result (IsPlacedOrStop (map (λ copy. copy.now) copies.now) end payload.old payload.new) }
+    requires none { IsOfNone (IsPiece (values_of copies.now) end) }
+    requires claim { Tallies (IsClaimedStart (values_of copies.now) end) (starts_tally starts) }
+    ensures { IfOk result (IsPlacedOrStop (values_of copies.now) end payload.old payload.new) }
 {
     let (start, bytes, count) = match starts {
         Starts::One(start) => {
@@ -125,9 +126,9 @@ pub(crate) fn weave_at(
     requires some { 0 < length copies.now }
     requires within { All (λ copy. end ≤ length copy.now) copies.now }
     requires room { end ≤ length payload.old }
-    requires none { IsOfNone (IsPiece (map (λ copy. copy.now) copies.now) end) }
-    requires claim { IsOnly (IsClaimedStart (map (λ copy. copy.now) copies.now) end) start }
-    ensures { IfOk result (λ standing. IsPlaced (map (λ copy. copy.now) copies.now) end payload.old payload.new
+    requires none { IsOfNone (IsPiece (values_of copies.now) end) }
+    requires claim { IsOnly (IsClaimedStart (values_of copies.now) end) start }
+    ensures { IfOk result (λ standing. IsPlaced (values_of copies.now) end payload.old payload.new
         (record { start = start; end = end; standing = standing })) }
 {
     let versions = versions_at(alloc, copies, start, end)?;
@@ -161,10 +162,10 @@ fn vote_at(
     requires some { 0 < length copies.now }
     requires within { All (λ copy. end ≤ length copy.now) copies.now }
     requires room { end ≤ length payload.old }
-    requires versions { map (λ version. version.now) versions.now ≡ versions_at (map (λ copy. copy.now) copies.now) start end }
-    requires missed { IsTrue all_tried → (count : ℕ) × IsWeaveAt (map (λ copy. copy.now) copies.now) start end (missing count) }
-    requires many { IsFalse all_tried → IsWeaveAt (map (λ copy. copy.now) copies.now) start end too_many }
-    ensures { IfOk result (λ standing. IsPlaced (map (λ copy. copy.now) copies.now) end payload.old payload.new
+    requires versions { values_of versions.now ≡ versions_at (values_of copies.now) start end }
+    requires missed { IsTrue all_tried → (count : ℕ) × IsWeaveAt (values_of copies.now) start end (missing count) }
+    requires many { IsFalse all_tried → IsWeaveAt (values_of copies.now) start end too_many }
+    ensures { IfOk result (λ standing. IsPlaced (values_of copies.now) end payload.old payload.new
         (record { start = start; end = end; standing = standing })) }
 {
     if let Some((voted, count)) = vote(alloc, versions)? {
@@ -190,7 +191,7 @@ pub(crate) fn versions_at<'a>(
 ) -> Result<Vec<&'a [u8]>, AllocError>
     requires within { All (λ copy. end ≤ length copy.now) copies.now }
     requires order { start ≤ end }
-    ensures { IfOk result (λ versions. map (λ version. version.now) versions.items ≡ versions_at (map (λ copy. copy.now) copies.now) start end) }
+    ensures { IfOk result (λ versions. values_of versions.items ≡ versions_at (values_of copies.now) start end) }
 {
     let mut versions = Vec::new(alloc);
     for copy in copies {

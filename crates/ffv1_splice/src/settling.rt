@@ -1,7 +1,8 @@
 //! The settled walks of a splice: down from its end, and up from its start.
-ghost use Rattle.std.specs.Prelude.{◌≡◌, ◌+◌, ◌++◌, ◌<◌, ◌≤◌, List, length, map, take, All, IfOk, MatchOption};
+ghost use Rattle.std.specs.Prelude.{◌≡◌, ◌+◌, ◌++◌, ◌<◌, ◌≤◌, List, length, take, All, IfOk, MatchOption};
 ghost use Rattle.ffv1_slice.specs.Chain.{LinkValue};
 ghost use Rattle.ffv1_slice.specs.Members.{IsOnly};
+ghost use Rattle.ffv1_weave.specs.References.{values_of};
 ghost use Rattle.ffv1_splice.specs.Pieces.{IsPiece, PieceFrom, IsShortest};
 ghost use Rattle.ffv1_splice.specs.Splice.{IsWalkDown, IsBound, IsWalkUp};
 ghost use Rattle.ffv1_splice.specs.declared.place.Place.{Place};
@@ -16,8 +17,8 @@ use std::alloc::{AllocError, Global};
 /// The slice that alone ends at a place: where it begins, and its bytes. Each copy has the place.
 fn only_piece<'a>(copies: &[&'a [u8]], end: usize) -> Option<(usize, &'a [u8])>
     requires { All (λ copy. end ≤ length copy.now) copies.now }
-    ensures { MatchOption result ((piece : LinkValue) → IsOnly (IsPiece (map (λ copy. copy.now) copies.now) end) piece → ⊥)
-        (λ piece. IsOnly (IsPiece (map (λ copy. copy.now) copies.now) end) (record { start = piece.0; bytes = piece.1.now })) }
+    ensures { MatchOption result ((piece : LinkValue) → IsOnly (IsPiece (values_of copies.now) end) piece → ⊥)
+        (λ piece. IsOnly (IsPiece (values_of copies.now) end) (record { start = piece.0; bytes = piece.1.now })) }
 {
     match tally_at(copies, end).0 {
         Pieces::One(start, bytes) => Some((start, bytes)),
@@ -33,7 +34,7 @@ pub(crate) fn settle_down(
     payload: &mut [u8],
 ) -> Result<(Vec<Place>, usize), AllocError>
     requires { All (λ copy. length copy.now ≡ length payload.old) copies.now }
-    ensures walk { IfOk result (λ walk. IsWalkDown (map (λ copy. copy.now) copies.now) payload.new walk.0.items walk.1) }
+    ensures walk { IfOk result (λ walk. IsWalkDown (values_of copies.now) payload.new walk.0.items walk.1) }
     ensures within { IfOk result (λ walk. walk.1 ≤ length payload.new) }
     ensures long { IfOk result (λ _. length payload.new ≡ length payload.old) }
 {
@@ -51,7 +52,7 @@ pub(crate) fn settle_down(
 /// there, and else to the first byte of those that do. Each copy has the end.
 pub(crate) fn bound_below(copies: &[&[u8]], end: usize) -> usize
     requires { All (λ copy. end ≤ length copy.now) copies.now }
-    ensures { IsBound (map (λ copy. copy.now) copies.now) end result }
+    ensures { IsBound (values_of copies.now) end result }
 {
     let mut bound = end;
     for copy in copies {
@@ -68,10 +69,10 @@ pub(crate) fn bound_below(copies: &[&[u8]], end: usize) -> usize
 fn settled_from<'a>(copies: &[&'a [u8]], start: usize, bound: usize) -> Option<&'a [u8]>
     requires { All (λ copy. bound ≤ length copy.now) copies.now }
     ensures { MatchOption result
-        ((piece : PieceFrom) → IsShortest (map (λ copy. copy.now) copies.now) bound start piece
-        → IsOnly (IsPiece (map (λ copy. copy.now) copies.now) piece.end) (record { start = start; bytes = piece.bytes }) → ⊥)
-        (λ bytes. IsShortest (map (λ copy. copy.now) copies.now) bound start (record { end = start + length bytes.now; bytes = bytes.now })
-        × IsOnly (IsPiece (map (λ copy. copy.now) copies.now) (start + length bytes.now)) (record { start = start; bytes = bytes.now })) }
+        ((piece : PieceFrom) → IsShortest (values_of copies.now) bound start piece
+        → IsOnly (IsPiece (values_of copies.now) piece.end) (record { start = start; bytes = piece.bytes }) → ⊥)
+        (λ bytes. IsShortest (values_of copies.now) bound start (record { end = start + length bytes.now; bytes = bytes.now })
+        × IsOnly (IsPiece (values_of copies.now) (start + length bytes.now)) (record { start = start; bytes = bytes.now })) }
 {
     let bytes = first_from(copies, start, bound)?;
     match only_piece(copies, start + bytes.len()) {
@@ -92,7 +93,7 @@ pub(crate) fn settle_up(
     requires long { All (λ copy. length payload.old ≤ length copy.now) copies.now }
     requires within { from ≤ length payload.old }
     ensures walk { IfOk result (λ start. (added : List Place) × (places.new.items ≡ places.old.items ++ added)
-        × IsWalkUp (map (λ copy. copy.now) copies.now) (length payload.old) payload.new from added start) }
+        × IsWalkUp (values_of copies.now) (length payload.old) payload.new from added start) }
     ensures within { IfOk result (λ start. start ≤ length payload.new) }
     ensures long { IfOk result (λ _. length payload.new ≡ length payload.old) }
     ensures before { IfOk result (λ _. take from payload.new ≡ take from payload.old) }

@@ -1,8 +1,9 @@
 //! The slice that ends at a place where the footers claim several starts: it begins at the one from which it can be woven.
-ghost use Rattle.std.specs.Prelude.{◌≡◌, ◌≤◌, ◌<◌, ℕ, List, Contains, length, map, min, All, IfOk, MatchOption};
+ghost use Rattle.std.specs.Prelude.{◌≡◌, ◌≤◌, ◌<◌, ℕ, List, Contains, length, min, All, IfOk, MatchOption};
 ghost use Rattle.ffv1_bits.specs.Parity.{AreBytes};
 ghost use Rattle.ffv1_slice.specs.Chain.{FooterGives};
 ghost use Rattle.ffv1_slice.specs.Members.{IsOfNone, IsOfTwo};
+ghost use Rattle.ffv1_weave.specs.References.{values_of};
 ghost use Rattle.ffv1_weave.specs.Weave.{weave_tally};
 ghost use Rattle.ffv1_weave.specs.Weave.Weave.{woven, missing};
 ghost use Rattle.ffv1_splice.specs.Pieces.{HasContent, IsPiece, IsClaimedStart};
@@ -72,10 +73,10 @@ pub(crate) fn several_woven(
 ) -> Result<Option<(usize, Vec<u8>, usize)>, AllocError>
     requires some { 0 < length copies.now }
     requires within { All (λ copy. end ≤ length copy.now) copies.now }
-    requires none { IsOfNone (IsPiece (map (λ copy. copy.now) copies.now) end) }
-    requires several { IsOfTwo (IsClaimedStart (map (λ copy. copy.now) copies.now) end) }
-    ensures { IfOk result (λ found. MatchOption found (IsStop (map (λ copy. copy.now) copies.now) end)
-        (λ (start, bytes, count). StandsAs (map (λ copy. copy.now) copies.now) start end bytes.items (Woven count))) }
+    requires none { IsOfNone (IsPiece (values_of copies.now) end) }
+    requires several { IsOfTwo (IsClaimedStart (values_of copies.now) end) }
+    ensures { IfOk result (λ found. MatchOption found (IsStop (values_of copies.now) end)
+        (λ (start, bytes, count). StandsAs (values_of copies.now) start end bytes.items (Woven count))) }
 {
     match try_starts(alloc, copies, end)? {
         Tried::Woven(start, bytes, count) => Ok(Some((start, bytes, count))),
@@ -87,8 +88,8 @@ pub(crate) fn several_woven(
 fn try_starts(alloc: Global, copies: &[&[u8]], end: usize) -> Result<Tried, AllocError>
     requires some { 0 < length copies.now }
     requires within { All (λ copy. end ≤ length copy.now) copies.now }
-    ensures tried { IfOk result (λ tried. AreTriedBefore (map (λ copy. copy.now) copies.now) end end (tried_tally tried)) }
-    ensures bytes { IfOk result (λ _. (copy : List ℕ) → Contains (map (λ copy. copy.now) copies.now) copy → AreBytes copy) }
+    ensures tried { IfOk result (λ tried. AreTriedBefore (values_of copies.now) end end (tried_tally tried)) }
+    ensures bytes { IfOk result (λ _. (copy : List ℕ) → Contains (values_of copies.now) copy → AreBytes copy) }
 {
     let mut tried = Tried::Missing(0);
     let mut from = 0;
@@ -103,9 +104,9 @@ fn try_starts(alloc: Global, copies: &[&[u8]], end: usize) -> Result<Tried, Allo
 /// The least start from a place on that is claimed at an end. Each copy has the end.
 fn next_claimed_start(copies: &[&[u8]], end: usize, from: usize) -> Option<usize>
     requires { All (λ copy. end ≤ length copy.now) copies.now }
-    ensures next { MatchOption result ((start : ℕ) → IsClaimedStart (map (λ copy. copy.now) copies.now) end start → start < from)
-        (IsNextClaimedStart (map (λ copy. copy.now) copies.now) end from) }
-    ensures bytes { (copy : List ℕ) → Contains (map (λ copy. copy.now) copies.now) copy → AreBytes copy }
+    ensures next { MatchOption result ((start : ℕ) → IsClaimedStart (values_of copies.now) end start → start < from)
+        (IsNextClaimedStart (values_of copies.now) end from) }
+    ensures bytes { (copy : List ℕ) → Contains (values_of copies.now) copy → AreBytes copy }
 {
     let mut next = None;
     for copy in copies {

@@ -1,7 +1,8 @@
 //! The shortest slice that begins at a place: of those with content that pass their parity, one that ends first.
-ghost use Rattle.std.specs.Prelude.{◌+◌, ◌≤◌, ◌↔◌, [], ◌∷◌, length, map, slice_range, All, IsTrue, MatchOption};
+ghost use Rattle.std.specs.Prelude.{◌+◌, ◌≤◌, ◌↔◌, [], ◌∷◌, length, slice_range, All, IsTrue, MatchOption};
 ghost use Rattle.ffv1_slice.specs.Chain.{FooterGives};
 ghost use Rattle.ffv1_slice.specs.Members.{IsOfNone};
+ghost use Rattle.ffv1_weave.specs.References.{values_of};
 ghost use Rattle.ffv1_splice.specs.Pieces.{IsPieceFrom, IsShortest};
 ghost use Rattle.ffv1_splice.specs.Inner.Claims.{LacksClaims, IsFirstClaim};
 
@@ -16,8 +17,8 @@ use memchr::memchr;
 /// are divided than three times those.
 pub(crate) fn first_from<'a>(copies: &[&'a [u8]], start: usize, bound: usize) -> Option<&'a [u8]>
     requires { All (λ copy. bound ≤ length copy.now) copies.now }
-    ensures { MatchOption result (IsOfNone (IsPieceFrom (map (λ copy. copy.now) copies.now) bound start))
-        (λ bytes. IsShortest (map (λ copy. copy.now) copies.now) bound start (record { end = start + length bytes.now; bytes = bytes.now })) }
+    ensures { MatchOption result (IsOfNone (IsPieceFrom (values_of copies.now) bound start))
+        (λ bytes. IsShortest (values_of copies.now) bound start (record { end = start + length bytes.now; bytes = bytes.now })) }
 {
     let reach = bound.saturating_sub(start);
     let mut distance = FOOTER_LENGTH;
@@ -40,11 +41,11 @@ fn first_between<'a>(
     bound: usize,
 ) -> Option<&'a [u8]>
     requires room { All (λ copy. bound ≤ length copy.now) copies.now }
-    requires none { IsOfNone (IsPieceFrom (map (λ copy. copy.now) copies.now) from start) }
+    requires none { IsOfNone (IsPieceFrom (values_of copies.now) from start) }
     requires content { start + 8 ≤ from }
     requires order { from ≤ bound }
-    ensures { MatchOption result (IsOfNone (IsPieceFrom (map (λ copy. copy.now) copies.now) bound start))
-        (λ bytes. IsShortest (map (λ copy. copy.now) copies.now) bound start (record { end = start + length bytes.now; bytes = bytes.now })) }
+    ensures { MatchOption result (IsOfNone (IsPieceFrom (values_of copies.now) bound start))
+        (λ bytes. IsShortest (values_of copies.now) bound start (record { end = start + length bytes.now; bytes = bytes.now })) }
 {
     let mut first = None;
     let mut within = bound;

@@ -1,5 +1,6 @@
 //! What copies have of a slice whose size field may be damaged in each, woven with the size that the slice has.
 ghost use Rattle.std.specs.Prelude.{◌≡◌, ◌+◌, ◌-◌, ◌≤◌, ◌<◌, ◌^◌, length, map, All, IfOk};
+ghost use Rattle.ffv1_weave.specs.References.{values_of};
 ghost use Rattle.ffv1_splice.specs.Standings.{versions_at, sized};
 ghost use Rattle.ffv1_weave.specs.Weave.{IsWeaveOf, weave_tally};
 ghost use Rattle.ffv1_weave.specs.declared.check.Check.TheVariants.{Slice};
@@ -21,7 +22,7 @@ pub(crate) fn weave_sized(
     requires within { All (λ copy. end ≤ length copy.now) copies.now }
     requires footer { start + 8 ≤ end }
     requires short { end - start - 8 < 2 ^ 24 }
-    ensures { IfOk result (λ outcome. IsWeaveOf Slice (map sized (versions_at (map (λ copy. copy.now) copies.now) start end)) (weave_tally outcome)) }
+    ensures { IfOk result (λ outcome. IsWeaveOf Slice (map sized (versions_at (values_of copies.now) start end)) (weave_tally outcome)) }
 {
     let versions = sized_versions(alloc, copies, start, end)?;
     let lent = lent(alloc, versions.as_slice())?;
@@ -38,7 +39,7 @@ fn sized_versions(
     requires within { All (λ copy. end ≤ length copy.now) copies.now }
     requires footer { start + 8 ≤ end }
     requires short { end - start - 8 < 2 ^ 24 }
-    ensures { IfOk result (λ versions. map (λ version. version.items) versions.items ≡ map sized (versions_at (map (λ copy. copy.now) copies.now) start end)) }
+    ensures { IfOk result (λ versions. map (λ version. version.items) versions.items ≡ map sized (versions_at (values_of copies.now) start end)) }
 {
     let mut versions = Vec::new(alloc);
     for copy in copies {
@@ -61,7 +62,7 @@ fn set_size(bytes: &mut [u8])
 
 /// The bytes that all have, lent.
 fn lent<'a>(alloc: Global, all: &'a [Vec<u8>]) -> Result<Vec<&'a [u8]>, AllocError>
-    ensures { IfOk result (λ lent. map (λ bytes. bytes.now) lent.items ≡ map (λ bytes. bytes.items) all.now) }
+    ensures { IfOk result (λ lent. values_of lent.items ≡ map (λ bytes. bytes.items) all.now) }
 {
     let mut lent = Vec::new(alloc);
     for bytes in all {

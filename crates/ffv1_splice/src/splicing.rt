@@ -1,5 +1,6 @@
 //! The splice of copies of one length: the frame, place by place from its end.
 ghost use Rattle.std.specs.Prelude.{◌≡◌, ◌<◌, ◌≤◌, ◌+◌, ◌^◌, ◌↔◌, ◌++◌, IsTrue, length, map, reverse, All, MatchOption, IfOk, IfErr, OnOk};
+ghost use Rattle.ffv1_weave.specs.References.{values_of};
 ghost use Rattle.ffv1_splice.specs.Splice.{IsSpliceOf, IsSettledOrWoven, IsGivenBack, moved_by, undivided_places};
 ghost use Rattle.ffv1_splice.specs.Faults.{HasOneLength, IsOfOtherLength, IsSpliceFault};
 
@@ -110,8 +111,8 @@ fn stands_whole(place: &Place) -> bool
 /// Returns `OtherLength` exactly if some copy is not as long as the first; the only other refusal is `Memory`.
 pub fn splice(alloc: Global, copies: &[&[u8]]) -> Result<Spliced, SpliceFault>
     requires { 0 < length copies.now }
-    ensures ok { IfOk result (λ spliced. IsSpliceOf (map (λ copy. copy.now) copies.now) spliced) }
-    ensures fault { IfErr result (IsSpliceFault (map (λ copy. copy.now) copies.now)) }
+    ensures ok { IfOk result (λ spliced. IsSpliceOf (values_of copies.now) spliced) }
+    ensures fault { IfErr result (IsSpliceFault (values_of copies.now)) }
 {
     if let Some(index) = other_length(copies) {
         return Err(SpliceFault::OtherLength(index));
@@ -134,7 +135,7 @@ fn fill(
 ) -> Result<(Vec<Place>, usize), AllocError>
     requires some { 0 < length copies.now }
     requires long { All (λ copy. length copy.now ≡ length payload.old) copies.now }
-    ensures { IfOk result (λ filled. IsSpliceOf (map (λ copy. copy.now) copies.now)
+    ensures { IfOk result (λ filled. IsSpliceOf (values_of copies.now)
         (record { places = filled.0.items; front = filled.1; payload = payload.new })) }
 {
     let (above, end) = settle_down(alloc, copies, payload)?;
@@ -195,7 +196,7 @@ fn push_fallen(places: &mut Vec<Place>, rising: &mut [Place]) -> Result<(), Allo
 /// The index of the first copy that is not as long as the first.
 fn other_length(copies: &[&[u8]]) -> Option<usize>
     requires { 0 < length copies.now }
-    ensures { MatchOption result (HasOneLength (map (λ copy. copy.now) copies.now)) (IsOfOtherLength (map (λ copy. copy.now) copies.now)) }
+    ensures { MatchOption result (HasOneLength (values_of copies.now)) (IsOfOtherLength (values_of copies.now)) }
 {
     for (index, copy) in copies.iter().enumerate() {
         if copy.len() != copies[0].len() {

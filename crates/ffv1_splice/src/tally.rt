@@ -1,6 +1,7 @@
 //! The pieces that end at a place, and the starts that copies claim there, each copy looked at once.
-ghost use Rattle.std.specs.Prelude.{◌≡◌, ◌≤◌, ◌<◌, ◌↔◌, ℕ, IsTrue, length, map, All, MatchOption};
+ghost use Rattle.std.specs.Prelude.{◌≡◌, ◌≤◌, ◌<◌, ◌↔◌, ℕ, IsTrue, length, All, MatchOption};
 ghost use Rattle.ffv1_slice.specs.Chain.{FooterGives};
+ghost use Rattle.ffv1_weave.specs.References.{values_of};
 ghost use Rattle.ffv1_splice.specs.Pieces.{HasContent, IsPiece, IsClaimedStart, IsLeast};
 ghost use Rattle.ffv1_splice.specs.Inner.Tally.{Tallies, TalliesMore, TalliesBoth, pieces_tally, starts_tally};
 
@@ -93,8 +94,8 @@ pub(crate) fn claimed_start(copy: &[u8], end: usize) -> Option<usize>
 /// The pieces that end at a place, and the starts that are claimed there. Each copy has the place.
 pub(crate) fn tally_at<'a>(copies: &[&'a [u8]], end: usize) -> (Pieces<'a>, Starts)
     requires { All (λ copy. end ≤ length copy.now) copies.now }
-    ensures pieces { Tallies (IsPiece (map (λ copy. copy.now) copies.now) end) (pieces_tally result.0) }
-    ensures starts { Tallies (IsClaimedStart (map (λ copy. copy.now) copies.now) end) (starts_tally result.1) }
+    ensures pieces { Tallies (IsPiece (values_of copies.now) end) (pieces_tally result.0) }
+    ensures starts { Tallies (IsClaimedStart (values_of copies.now) end) (starts_tally result.1) }
 {
     let mut pieces = Pieces::None;
     let mut starts = Starts::None;
@@ -115,7 +116,7 @@ pub(crate) fn least_at<'a>(copies: &[&'a [u8]], start: usize, end: usize) -> &'a
     requires some { 0 < length copies.now }
     requires within { All (λ copy. end ≤ length copy.now) copies.now }
     requires order { start ≤ end }
-    ensures { IsLeast (map (λ copy. copy.now) copies.now) start end result.now }
+    ensures { IsLeast (values_of copies.now) start end result.now }
 {
     let mut least = &copies[0][start..end];
     for copy in copies {

@@ -1,6 +1,7 @@
 //! What the copies have of a stretch.
 ghost use Rattle.std.specs.Prelude.{◌≡◌, length, map, slice_index_or, IfOk};
 ghost use Rattle.std.specs.List.{AllZip};
+ghost use Rattle.ffv1_weave.specs.References.{values_of};
 ghost use Rattle.ffv1_stretches.specs.Cells.{versions_in};
 ghost use Rattle.ffv1_stretches.specs.Inner.CellSteps.{cell_now, HasVersion, HasRoom, held_cell, held_cells};
 
@@ -43,7 +44,7 @@ pub(crate) fn versions_of<'a>(
     alloc: Global,
     cells: &[Option<&'a [u8]>],
 ) -> Result<Vec<&'a [u8]>, AllocError>
-    ensures { IfOk result (λ versions. map (λ version. version.now) versions.items ≡ versions_in (map cell_now cells.now)) }
+    ensures { IfOk result (λ versions. values_of versions.items ≡ versions_in (map cell_now cells.now)) }
 {
     let mut versions = Vec::new(alloc);
     for cell in cells {

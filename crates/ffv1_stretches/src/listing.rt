@@ -1,5 +1,6 @@
 //! The list of a file's stretches, read from a text (own).
 ghost use Rattle.std.specs.Prelude.{◌≡◌, map, length, replicate, IfOk, IfErr, MatchBool};
+ghost use Rattle.ffv1_weave.specs.References.{values_of};
 ghost use Rattle.ffv1_stretches.specs.Stretches.{AreInOrder};
 ghost use Rattle.ffv1_stretches.specs.Listed.{AreStretches, IsListFault};
 ghost use Rattle.ffv1_stretches.specs.Inner.ListSteps.{AddsPart, AddsNoPart, AddsStretch, AddsNoStretch, IsListedTo, AddsLine};
@@ -35,8 +36,8 @@ impl From<AllocError> for ListFault {
 /// Adds the part that words are to the last stretch. Returns whether they are one that follows those of an element.
 fn add_part(words: &[&[u8]], stretches: &mut Vec<Stretch>) -> Result<bool, AllocError>
     ensures { IfOk result (λ added. MatchBool added
-        (AddsPart (map (λ word. word.now) words.now) stretches.old.items stretches.new.items)
-        (AddsNoPart (map (λ word. word.now) words.now) stretches.old.items)) }
+        (AddsPart (values_of words.now) stretches.old.items stretches.new.items)
+        (AddsNoPart (values_of words.now) stretches.old.items)) }
 {
     let Some(mut last) = stretches.pop() else {
         return Ok(false);
@@ -61,8 +62,8 @@ fn add_stretch(
     stretches: &mut Vec<Stretch>,
 ) -> Result<bool, AllocError>
     ensures { IfOk result (λ added. MatchBool added
-        (AddsStretch (map (λ word. word.now) words.now) stretches.old.items stretches.new.items (map end_of ends.old.items) (map end_of ends.new.items))
-        (AddsNoStretch (map (λ word. word.now) words.now) (map end_of ends.old.items))) }
+        (AddsStretch (values_of words.now) stretches.old.items stretches.new.items (map end_of ends.old.items) (map end_of ends.new.items))
+        (AddsNoStretch (values_of words.now) (map end_of ends.old.items))) }
 {
     let copies = ends.as_slice().len();
     let Some(stretch) = read_stretch(alloc, words, copies)? else {

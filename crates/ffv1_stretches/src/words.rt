@@ -1,6 +1,7 @@
 //! What the words of a line of the list say (own).
-ghost use Rattle.std.specs.Prelude.{◌≡◌, ◌+◌, ◌↔◌, ℕ, List, Option, IsTrue, map, IfOk, MatchOption};
+ghost use Rattle.std.specs.Prelude.{◌≡◌, ◌+◌, ◌↔◌, ℕ, List, Option, IsTrue, IfOk, MatchOption};
 ghost use Rattle.std.specs.List.{AllZip};
+ghost use Rattle.ffv1_weave.specs.References.{values_of};
 ghost use Rattle.ffv1_mend.specs.declared.kind.Kind.{Kind};
 ghost use Rattle.ffv1_mend.specs.declared.part.Part.{Part};
 ghost use Rattle.ffv1_mend.specs.declared.part.Sort.{Sort};
@@ -63,8 +64,8 @@ fn read_place(word: &[u8]) -> Option<Option<u64>>
 /// The places that words give copies.
 fn read_places(alloc: Global, words: &[&[u8]]) -> Result<Option<Vec<Option<u64>>>, AllocError>
     ensures { IfOk result (λ found. MatchOption found
-        ((places : List (Option ℕ)) → AllZip IsPlaceWord (map (λ word. word.now) words.now) places → ⊥)
-        (λ places. AllZip IsPlaceWord (map (λ word. word.now) words.now) places.items)) }
+        ((places : List (Option ℕ)) → AllZip IsPlaceWord (values_of words.now) places → ⊥)
+        (λ places. AllZip IsPlaceWord (values_of words.now) places.items)) }
 {
     let mut places = Vec::with_capacity(alloc, words.len())?;
     for word in words {
@@ -110,8 +111,8 @@ pub(crate) fn read_stretch(
     copies: usize,
 ) -> Result<Option<Stretch>, AllocError>
     ensures { IfOk result (λ found. MatchOption found
-        ((stretch : StretchValue) → AreStretchWords copies (map (λ word. word.now) words.now) stretch → ⊥)
-        (AreStretchWords copies (map (λ word. word.now) words.now))) }
+        ((stretch : StretchValue) → AreStretchWords copies (values_of words.now) stretch → ⊥)
+        (AreStretchWords copies (values_of words.now))) }
 {
     let [kind, size, from, places @ ..] = words else {
         return Ok(None);
@@ -139,7 +140,7 @@ pub(crate) fn read_stretch(
 
 /// Whether words begin with that of a part.
 pub(crate) fn begins_part(words: &[&[u8]]) -> bool
-    ensures { IsTrue result ↔ BeginsPart (map (λ word. word.now) words.now) }
+    ensures { IsTrue result ↔ BeginsPart (values_of words.now) }
 {
     match words {
         [first, ..] => is_same(first, b"part"),
@@ -159,8 +160,8 @@ fn end_of_parts(parts: &[Part]) -> usize
 
 /// What a part is, by the words after its place and its size.
 fn read_sort(words: &[&[u8]]) -> Option<Sort>
-    ensures { MatchOption result ((sort : Sort) → map (λ word. word.now) words.now ≡ sort_words sort → ⊥)
-        (λ sort. map (λ word. word.now) words.now ≡ sort_words sort) }
+    ensures { MatchOption result ((sort : Sort) → values_of words.now ≡ sort_words sort → ⊥)
+        (λ sort. values_of words.now ≡ sort_words sort) }
 {
     match words {
         [] => Some(Sort::Frame),
@@ -171,8 +172,8 @@ fn read_sort(words: &[&[u8]]) -> Option<Sort>
 
 /// The part that words are, where it follows those of a stretch and lies within it.
 pub(crate) fn next_part(words: &[&[u8]], stretch: &Stretch) -> Option<Part>
-    ensures { MatchOption result ((part : Part) → IsPartOf (map (λ word. word.now) words.now) stretch.now part → ⊥)
-        (IsPartOf (map (λ word. word.now) words.now) stretch.now) }
+    ensures { MatchOption result ((part : Part) → IsPartOf (values_of words.now) stretch.now part → ⊥)
+        (IsPartOf (values_of words.now) stretch.now) }
 {
     let [first, start, size, sort @ ..] = words else {
         return None;

@@ -4,7 +4,8 @@ use Rattle.std.specs.Prelude.{All, Contains}
 use Rattle.std.proofs.lemmas.List.Elements.{Contains-get_or}
 use Rattle.ffv1_slice.specs.Members.{HasSameMembers}
 use Rattle.ffv1_weave.specs.Inner.Parts.{AreChoices}
-use Rattle.ffv1_weave.proofs.References.{values_of, nowhere, value_at, value_there, length-values_of, each_value}
+use Rattle.ffv1_weave.specs.References.{values_of}
+use Rattle.ffv1_weave.proofs.References.{nowhere, value_at, value_there, length-values_of, each_value}
 use Rattle.ffv1_weave.proofs.ChoiceSteps.{choices_are_versions, choices_some}
 use Rattle.ffv1_weave.proofs.WeaveLaws.{same_back}
 

@@ -16,7 +16,8 @@ use Rattle.ffv1_weave.specs.declared.check.Check.{Check}
 use Rattle.ffv1_weave.specs.declared.check.Check.TheVariants.{Slice, Element, Record, Flac}
 use Rattle.ffv1_weave.specs.declared.splits.Split.{Split}
 use Rattle.ffv1_weave.proofs.SplitSteps.{part_some}
-use Rattle.ffv1_weave.proofs.References.{values_of, value_at, length-values_of}
+use Rattle.ffv1_weave.specs.References.{values_of}
+use Rattle.ffv1_weave.proofs.References.{value_at, length-values_of}
 use Rattle.ffv1_weave.proofs.Choices.{length-written, written_after, same_range, choice_of, choice_size, digit_below, fit_as, fit_head, fit_tail, fits_in}
 
 -- ---- each check

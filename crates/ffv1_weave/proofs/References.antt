@@ -1,11 +1,9 @@
 -- Values, as the code has them: by references, in a list that is gone over.
 use Rattle.std.proofs.Common.{◌≡◌, ℕ, ◌+◌, ◌<◌, ◌≤◌, List, [], ◌∷◌, ◌++◌, Bor, length, get_or, take, map, sym, ap, ◌∙◌, subst, arith}
 use Rattle.std.specs.Prelude.{All, Contains}
+use Rattle.ffv1_weave.specs.References.{values_of}
 use Rattle.std.proofs.lemmas.List.{take_more, take_all, get_or-map, length-map}
 use Rattle.std.proofs.lemmas.List.Elements.{All-contains, All-map, Contains-get_or}
-
-abbrev pub values_of : {A : Type 0} → List (Bor A) → List A
-values_of references = map (λ reference. reference.now) references
 
 -- a reference where there is none, to no bytes
 abbrev pub nowhere : Bor (List ℕ)

@@ -16,7 +16,8 @@ use Rattle.ffv1_weave.specs.declared.check.Check.{Check}
 use Rattle.ffv1_weave.specs.declared.found.Found.{Found}
 use Rattle.ffv1_weave.specs.declared.found.Found.TheVariants as found
 use Rattle.ffv1_weave.specs.declared.parts.Parts.{Parts}
-use Rattle.ffv1_weave.proofs.References.{nowhere, values_of, value_at, length-values_of, each_value}
+use Rattle.ffv1_weave.specs.References.{values_of}
+use Rattle.ffv1_weave.proofs.References.{nowhere, value_at, length-values_of, each_value}
 use Rattle.ffv1_weave.specs.Inner.Changes.{remainder_in, changes_of, changed}
 use Rattle.ffv1_weave.proofs.Linear.{changed_is}
 use Rattle.ffv1_weave.specs.declared.splits.Split.{Split}

@@ -1,3 +1,4 @@
+pub mod References
 pub mod Checks
 pub mod Regions
 pub mod Boundaries

@@ -1,5 +1,6 @@
 //! What most versions have between two places.
-ghost use Rattle.std.specs.Prelude.{◌≤◌, ℕ, length, map, All, IfOk};
+ghost use Rattle.std.specs.Prelude.{◌≤◌, ℕ, length, All, IfOk};
+ghost use Rattle.ffv1_weave.specs.References.{values_of};
 ghost use Rattle.ffv1_weave.specs.Numbers.{AreNumbered};
 ghost use Rattle.ffv1_weave.specs.Splits.{HasChoice};
 ghost use Rattle.ffv1_weave.specs.Inner.Parts.{AreChoicesBy, AreDistinct};
@@ -18,8 +19,8 @@ pub(crate) fn most_between<'a>(
 ) -> Result<Vec<&'a [u8]>, AllocError>
     requires order { start ≤ end }
     requires within { All (λ version. end ≤ length version.now) versions.now }
-    requires distinct { AreDistinct (map (λ version. version.now) versions.now) }
-    ensures { IfOk result (λ choices. (distance : ℕ) → AreChoicesBy (Most distance) (map (λ version. version.now) versions.now) start end (map (λ choice. choice.now) choices.items)) }
+    requires distinct { AreDistinct (values_of versions.now) }
+    ensures { IfOk result (λ choices. (distance : ℕ) → AreChoicesBy (Most distance) (values_of versions.now) start end (values_of choices.items)) }
 {
     let choices = choices_between(alloc, versions, start, end)?;
     let mut most = Vec::new(alloc);
@@ -41,8 +42,8 @@ pub(crate) fn most_between<'a>(
 fn how_many(versions: &[&[u8]], start: usize, end: usize, choice: &[u8]) -> usize
     requires order { start ≤ end }
     requires within { All (λ version. end ≤ length version.now) versions.now }
-    requires distinct { AreDistinct (map (λ version. version.now) versions.now) }
-    ensures { AreNumbered (HasChoice (map (λ version. version.now) versions.now) start end choice.now) result }
+    requires distinct { AreDistinct (values_of versions.now) }
+    ensures { AreNumbered (HasChoice (values_of versions.now) start end choice.now) result }
 {
     let mut count = 0;
     for version in versions {

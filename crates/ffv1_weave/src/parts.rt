@@ -1,6 +1,7 @@
 //! The parts of versions with what these have there, and the combinations by number.
 ghost use Rattle.std.specs.Prelude.{◌≡◌, ◌≤◌, ◌<◌, ℕ, [], length, map, All, MatchOption, IfSome, IfOk, slice_index_or};
 ghost use Rattle.ffv1_slice.specs.Members.{HasSameMembers};
+ghost use Rattle.ffv1_weave.specs.References.{values_of};
 ghost use Rattle.ffv1_weave.specs.Regions.{AgreeAt};
 ghost use Rattle.ffv1_weave.specs.Combinations.{HasMany};
 ghost use Rattle.ffv1_weave.specs.Weave.{AreMany};
@@ -47,7 +48,7 @@ pub(crate) fn choices_between<'a>(
 ) -> Result<Vec<&'a [u8]>, AllocError>
     requires order { start ≤ end }
     requires within { All (λ version. end ≤ length version.now) versions.now }
-    ensures { IfOk result (λ choices. AreChoices (map (λ version. version.now) versions.now) start end (map (λ choice. choice.now) choices.items)) }
+    ensures { IfOk result (λ choices. AreChoices (values_of versions.now) start end (values_of choices.items)) }
 {
     let mut choices = Vec::new(alloc);
     for version in versions {
@@ -65,12 +66,12 @@ pub(crate) fn distinct_versions<'a>(
     versions: &[&'a [u8]],
 ) -> Result<Vec<&'a [u8]>, AllocError>
     requires some { 0 < length versions.now }
-    requires lengths { All (λ version. length version.now ≡ length (slice_index_or (map (λ version. version.now) versions.now) 0 [])) versions.now }
-    ensures same { IfOk result (λ distinct. HasSameMembers (map (λ version. version.now) versions.now) (map (λ version. version.now) distinct.items)) }
+    requires lengths { All (λ version. length version.now ≡ length (slice_index_or (values_of versions.now) 0 [])) versions.now }
+    ensures same { IfOk result (λ distinct. HasSameMembers (values_of versions.now) (values_of distinct.items)) }
     ensures some { IfOk result (λ distinct. 0 < length distinct.items) }
-    ensures lengths { IfOk result (λ distinct. All (λ version. length version.now ≡ length (slice_index_or (map (λ version. version.now) distinct.items) 0 []))
+    ensures lengths { IfOk result (λ distinct. All (λ version. length version.now ≡ length (slice_index_or (values_of distinct.items) 0 []))
         distinct.items) }
-    ensures distinct { IfOk result (λ distinct. AreDistinct (map (λ version. version.now) distinct.items)) }
+    ensures distinct { IfOk result (λ distinct. AreDistinct (values_of distinct.items)) }
 {
     choices_between(alloc, versions, 0, versions[0].len())
 }
@@ -85,8 +86,8 @@ fn choices_by<'a>(
 ) -> Result<Vec<&'a [u8]>, AllocError>
     requires order { start ≤ end }
     requires within { All (λ version. end ≤ length version.now) versions.now }
-    requires distinct { AreDistinct (map (λ version. version.now) versions.now) }
-    ensures { IfOk result (λ choices. AreChoicesBy split (map (λ version. version.now) versions.now) start end (map (λ choice. choice.now) choices.items)) }
+    requires distinct { AreDistinct (values_of versions.now) }
+    ensures { IfOk result (λ choices. AreChoicesBy split (values_of versions.now) start end (values_of choices.items)) }
 {
     match split {
         Split::Pairs(_) | Split::Regions => choices_between(alloc, versions, start, end),
@@ -99,9 +100,9 @@ fn part_from(split: Split, versions: &[&[u8]], from: usize, size: usize) -> Opti
     requires some { 0 < length versions.now }
     requires lengths { All (λ version. length version.now ≡ size) versions.now }
     requires within { from ≤ size }
-    requires edge { IsEdge split (map (λ version. version.now) versions.now) from }
-    ensures part { MatchOption result ((i : ℕ) → from ≤ i → AgreeAt (map (λ version. version.now) versions.now) i)
-        (λ (start, end). IsPartFrom split (map (λ version. version.now) versions.now) from start end) }
+    requires edge { IsEdge split (values_of versions.now) from }
+    ensures part { MatchOption result ((i : ℕ) → from ≤ i → AgreeAt (values_of versions.now) i)
+        (λ (start, end). IsPartFrom split (values_of versions.now) from start end) }
     ensures within { IfSome result (λ (start, end). end ≤ size) }
 {
     match split {
@@ -122,9 +123,9 @@ pub(crate) fn parts_by<'a>(
 ) -> Result<Option<Parts<'a>>, AllocError>
     requires some { 0 < length versions.now }
     requires lengths { All (λ version. length version.now ≡ size) versions.now }
-    requires distinct { AreDistinct (map (λ version. version.now) versions.now) }
-    ensures { IfOk result (λ found. MatchOption found (HasMany (map (λ version. version.now) versions.now) split)
-        (λ few. AreFewParts split (map (λ version. version.now) versions.now) size few.parts.items few.count)) }
+    requires distinct { AreDistinct (values_of versions.now) }
+    ensures { IfOk result (λ found. MatchOption found (HasMany (values_of versions.now) split)
+        (λ few. AreFewParts split (values_of versions.now) size few.parts.items few.count)) }
 {
     let mut parts = Vec::new(alloc);
     let mut count = 1;
@@ -155,9 +156,9 @@ pub(crate) fn finest_parts<'a>(
 ) -> Result<Option<Parts<'a>>, AllocError>
     requires some { 0 < length versions.now }
     requires lengths { All (λ version. length version.now ≡ size) versions.now }
-    requires distinct { AreDistinct (map (λ version. version.now) versions.now) }
-    ensures { IfOk result (λ found. MatchOption found (AreMany (map (λ version. version.now) versions.now))
-        (λ tried. AreTriedParts (map (λ version. version.now) versions.now) size tried.parts.items tried.count)) }
+    requires distinct { AreDistinct (values_of versions.now) }
+    ensures { IfOk result (λ found. MatchOption found (AreMany (values_of versions.now))
+        (λ tried. AreTriedParts (values_of versions.now) size tried.parts.items tried.count)) }
 {
     for split in SPLITS {
         if let Some(parts) = parts_by(alloc, split, versions, size)? {

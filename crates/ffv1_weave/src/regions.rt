@@ -1,5 +1,6 @@
 //! The regions where versions of a slice differ, found from its front on.
-ghost use Rattle.std.specs.Prelude.{◌≡◌, ◌+◌, ◌-◌, ◌≤◌, ◌<◌, ℕ, length, map, All, IsTrue, MatchBool, MatchOption, IfSome};
+ghost use Rattle.std.specs.Prelude.{◌≡◌, ◌+◌, ◌-◌, ◌≤◌, ◌<◌, ℕ, length, All, IsTrue, MatchBool, MatchOption, IfSome};
+ghost use Rattle.ffv1_weave.specs.References.{values_of};
 ghost use Rattle.ffv1_weave.specs.Regions.{AgreeAt, DifferAt};
 ghost use Rattle.ffv1_weave.specs.Inner.Parts.{IsPartFrom};
 ghost use Rattle.ffv1_weave.specs.declared.splits.Split.TheVariants.{Regions};
@@ -15,7 +16,7 @@ const STEP: usize = 256;
 pub(crate) fn differ_at(versions: &[&[u8]], place: usize) -> bool
     requires some { 0 < length versions.now }
     requires within { All (λ version. place < length version.now) versions.now }
-    ensures { MatchBool result (DifferAt (map (λ version. version.now) versions.now) place) (AgreeAt (map (λ version. version.now) versions.now) place) }
+    ensures { MatchBool result (DifferAt (values_of versions.now) place) (AgreeAt (values_of versions.now) place) }
 {
     for version in versions {
         if version[place] != versions[0][place] {
@@ -30,7 +31,7 @@ fn agree_between(versions: &[&[u8]], start: usize, end: usize) -> bool
     requires some { 0 < length versions.now }
     requires order { start ≤ end }
     requires within { All (λ version. end ≤ length version.now) versions.now }
-    ensures { IsTrue result → (i : ℕ) → start ≤ i → i < end → AgreeAt (map (λ version. version.now) versions.now) i }
+    ensures { IsTrue result → (i : ℕ) → start ≤ i → i < end → AgreeAt (values_of versions.now) i }
 {
     for version in versions {
         if version[start..end] != versions[0][start..end] {
@@ -47,7 +48,7 @@ fn stretch_from(versions: &[&[u8]], from: usize, size: usize) -> usize
     requires within { from ≤ size }
     ensures beyond { from ≤ result }
     ensures within { result ≤ size }
-    ensures until { (i : ℕ) → from ≤ i → i < result → AgreeAt (map (λ version. version.now) versions.now) i }
+    ensures until { (i : ℕ) → from ≤ i → i < result → AgreeAt (values_of versions.now) i }
 {
     let mut place = from;
     while STEP <= size - place && agree_between(versions, place, place + STEP) {
@@ -63,8 +64,8 @@ pub(crate) fn first_from(versions: &[&[u8]], from: usize, size: usize) -> usize
     requires within { from ≤ size }
     ensures beyond { from ≤ result }
     ensures within { result ≤ size }
-    ensures until { (i : ℕ) → from ≤ i → i < result → AgreeAt (map (λ version. version.now) versions.now) i }
-    ensures there { result < size → DifferAt (map (λ version. version.now) versions.now) result }
+    ensures until { (i : ℕ) → from ≤ i → i < result → AgreeAt (values_of versions.now) i }
+    ensures there { result < size → DifferAt (values_of versions.now) result }
 {
     for place in stretch_from(versions, from, size)..size {
         if differ_at(versions, place) {
@@ -79,13 +80,13 @@ fn end_from(versions: &[&[u8]], start: usize, size: usize) -> usize
     requires some { 0 < length versions.now }
     requires lengths { All (λ version. length version.now ≡ size) versions.now }
     requires within { start < size }
-    requires first { DifferAt (map (λ version. version.now) versions.now) start }
+    requires first { DifferAt (values_of versions.now) start }
     ensures within { result ≤ size }
     ensures beyond { start < result }
-    ensures last { DifferAt (map (λ version. version.now) versions.now) (result - 1) }
-    ensures after { (i : ℕ) → result ≤ i → i < result + SEPARATION → AgreeAt (map (λ version. version.now) versions.now) i }
-    ensures followed { (i : ℕ) → start ≤ i → i + 1 < result → DifferAt (map (λ version. version.now) versions.now) i
-        → (j : ℕ) × (i < j) × (j ≤ i + SEPARATION) × (j < result) × DifferAt (map (λ version. version.now) versions.now) j }
+    ensures last { DifferAt (values_of versions.now) (result - 1) }
+    ensures after { (i : ℕ) → result ≤ i → i < result + SEPARATION → AgreeAt (values_of versions.now) i }
+    ensures followed { (i : ℕ) → start ≤ i → i + 1 < result → DifferAt (values_of versions.now) i
+        → (j : ℕ) × (i < j) × (j ≤ i + SEPARATION) × (j < result) × DifferAt (values_of versions.now) j }
 {
     let mut end = start + 1;
     let mut place = end;
@@ -103,9 +104,9 @@ pub(crate) fn region_from(versions: &[&[u8]], from: usize, size: usize) -> Optio
     requires some { 0 < length versions.now }
     requires lengths { All (λ version. length version.now ≡ size) versions.now }
     requires within { from ≤ size }
-    requires gap { (i : ℕ) → 0 < from → from ≤ i → i < from + SEPARATION → AgreeAt (map (λ version. version.now) versions.now) i }
-    ensures region { MatchOption result ((i : ℕ) → from ≤ i → AgreeAt (map (λ version. version.now) versions.now) i)
-        (λ (start, end). IsPartFrom Regions (map (λ version. version.now) versions.now) from start end) }
+    requires gap { (i : ℕ) → 0 < from → from ≤ i → i < from + SEPARATION → AgreeAt (values_of versions.now) i }
+    ensures region { MatchOption result ((i : ℕ) → from ≤ i → AgreeAt (values_of versions.now) i)
+        (λ (start, end). IsPartFrom Regions (values_of versions.now) from start end) }
     ensures within { IfSome result (λ (start, end). end ≤ size) }
 {
     let start = first_from(versions, from, size);

@@ -1,5 +1,6 @@
 //! The repair of versions of one slice in which one bit is wrong in all of them: each combination is tried with each of its bits inverted.
-ghost use Rattle.std.specs.Prelude.{◌≡◌, ◌<◌, ℕ, List, [], length, map, All, IfOk, MatchOption, slice_index_or};
+ghost use Rattle.std.specs.Prelude.{◌≡◌, ◌<◌, ℕ, List, [], length, All, IfOk, MatchOption, slice_index_or};
+ghost use Rattle.ffv1_weave.specs.References.{values_of};
 ghost use Rattle.ffv1_weave.specs.Repairs.{IsRepairOf};
 ghost use Rattle.ffv1_weave.specs.Inner.Parts.{AreDistinct};
 
@@ -27,10 +28,10 @@ pub const MOST_REPAIRS: usize = 1 << 20;
 /// an allocation.
 pub fn repair(alloc: Global, versions: &[&[u8]]) -> Result<Option<(Vec<u8>, usize)>, AllocError>
     requires some { 0 < length versions.now }
-    requires lengths { All (λ version. length version.now ≡ length (slice_index_or (map (λ version. version.now) versions.now) 0 [])) versions.now }
+    requires lengths { All (λ version. length version.now ≡ length (slice_index_or (values_of versions.now) 0 [])) versions.now }
     ensures { IfOk result (λ found. MatchOption found
-        ((bytes : List ℕ) (count : ℕ) → IsRepairOf (map (λ version. version.now) versions.now) bytes count → ⊥)
-        (λ (bytes, count). IsRepairOf (map (λ version. version.now) versions.now) bytes.items count)) }
+        ((bytes : List ℕ) (count : ℕ) → IsRepairOf (values_of versions.now) bytes count → ⊥)
+        (λ (bytes, count). IsRepairOf (values_of versions.now) bytes.items count)) }
 {
     let distinct = distinct_versions(alloc, versions)?;
     repair_distinct(alloc, distinct.as_slice())
@@ -42,11 +43,11 @@ fn repair_distinct(
     versions: &[&[u8]],
 ) -> Result<Option<(Vec<u8>, usize)>, AllocError>
     requires some { 0 < length versions.now }
-    requires lengths { All (λ version. length version.now ≡ length (slice_index_or (map (λ version. version.now) versions.now) 0 [])) versions.now }
-    requires distinct { AreDistinct (map (λ version. version.now) versions.now) }
+    requires lengths { All (λ version. length version.now ≡ length (slice_index_or (values_of versions.now) 0 [])) versions.now }
+    requires distinct { AreDistinct (values_of versions.now) }
     ensures { IfOk result (λ found. MatchOption found
-        ((bytes : List ℕ) (count : ℕ) → IsRepairOf (map (λ version. version.now) versions.now) bytes count → ⊥)
-        (λ (bytes, count). IsRepairOf (map (λ version. version.now) versions.now) bytes.items count)) }
+        ((bytes : List ℕ) (count : ℕ) → IsRepairOf (values_of versions.now) bytes count → ⊥)
+        (λ (bytes, count). IsRepairOf (values_of versions.now) bytes.items count)) }
 {
     let size = versions[0].len();
     let Some(tried) = finest_parts(alloc, versions, size)? else {

@@ -1,5 +1,6 @@
 //! The segments of versions, found from their front on: they lie between the places where streaks of any two versions begin or end.
-ghost use Rattle.std.specs.Prelude.{◌≡◌, ◌≤◌, ◌<◌, ◌↔◌, ℕ, List, Contains, length, map, All, IsTrue, MatchOption, IfSome};
+ghost use Rattle.std.specs.Prelude.{◌≡◌, ◌≤◌, ◌<◌, ◌↔◌, ℕ, List, Contains, length, All, IsTrue, MatchOption, IfSome};
+ghost use Rattle.ffv1_weave.specs.References.{values_of};
 ghost use Rattle.ffv1_weave.specs.Regions.{AgreeAt};
 ghost use Rattle.ffv1_weave.specs.Boundaries.{BeginsStreak, EndsStreak, AreParted, IsBoundary};
 ghost use Rattle.ffv1_weave.specs.Inner.Parts.{IsEdge, IsPartFrom};
@@ -34,7 +35,7 @@ fn is_parted(one: &[u8], others: &[&[u8]], place: usize, distance: usize) -> boo
     requires lengths { All (λ other. length other.now ≡ length one.now) others.now }
     requires within { place < length one.now }
     requires inside { 0 < place }
-    ensures { IsTrue result ↔ ((other : List ℕ) × Contains (map (λ version. version.now) others.now) other × AreParted distance one.now other place) }
+    ensures { IsTrue result ↔ ((other : List ℕ) × Contains (values_of others.now) other × AreParted distance one.now other place) }
 {
     for other in others {
         if begins_streak(one, other, place, distance) || ends_streak(one, other, place, distance) {
@@ -49,7 +50,7 @@ fn is_boundary(versions: &[&[u8]], place: usize, size: usize, distance: usize) -
     requires lengths { All (λ version. length version.now ≡ size) versions.now }
     requires within { place < size }
     requires inside { 0 < place }
-    ensures { IsTrue result ↔ IsBoundary distance (map (λ version. version.now) versions.now) place }
+    ensures { IsTrue result ↔ IsBoundary distance (values_of versions.now) place }
 {
     for one in versions {
         if is_parted(one, versions, place, distance) {
@@ -67,7 +68,7 @@ fn after_place(versions: &[&[u8]], place: usize, size: usize) -> usize
     requires within { place < size }
     ensures beyond { place < result }
     ensures within { result ≤ size }
-    ensures until { (distance i : ℕ) → place < i → i < result → IsBoundary distance (map (λ version. version.now) versions.now) i → ⊥ }
+    ensures until { (distance i : ℕ) → place < i → i < result → IsBoundary distance (values_of versions.now) i → ⊥ }
 {
     if differ_at(versions, place) {
         place + 1
@@ -84,8 +85,8 @@ fn boundary_from(versions: &[&[u8]], from: usize, size: usize, distance: usize) 
     requires inside { 0 < from }
     ensures beyond { from ≤ result }
     ensures within { result ≤ size }
-    ensures until { (i : ℕ) → from ≤ i → i < result → IsBoundary distance (map (λ version. version.now) versions.now) i → ⊥ }
-    ensures there { result < size → IsBoundary distance (map (λ version. version.now) versions.now) result }
+    ensures until { (i : ℕ) → from ≤ i → i < result → IsBoundary distance (values_of versions.now) i → ⊥ }
+    ensures there { result < size → IsBoundary distance (values_of versions.now) result }
 {
     let mut place = from;
     while place < size && !is_boundary(versions, place, size, distance) {
@@ -104,9 +105,9 @@ pub(crate) fn segment_from(
     requires some { 0 < length versions.now }
     requires lengths { All (λ version. length version.now ≡ size) versions.now }
     requires within { from ≤ size }
-    requires edge { IsEdge (Pairs distance) (map (λ version. version.now) versions.now) from }
-    ensures part { MatchOption result ((i : ℕ) → from ≤ i → AgreeAt (map (λ version. version.now) versions.now) i)
-        (λ (start, end). IsPartFrom (Pairs distance) (map (λ version. version.now) versions.now) from start end) }
+    requires edge { IsEdge (Pairs distance) (values_of versions.now) from }
+    ensures part { MatchOption result ((i : ℕ) → from ≤ i → AgreeAt (values_of versions.now) i)
+        (λ (start, end). IsPartFrom (Pairs distance) (values_of versions.now) from start end) }
     ensures within { IfSome result (λ (start, end). end ≤ size) }
 {
     let first = first_from(versions, from, size);

@@ -1,6 +1,7 @@
 //! Combinations that are tried: what is left of each is summed of what each of its choices changes of the first one, and only where that is
 //! 0 are its bytes written and looked at. A part with one choice changes nothing, so no parity is taken of it.
-ghost use Rattle.std.specs.Prelude.{◌≡◌, ◌<◌, ◌++◌, ℕ, List, [], length, map, All, IfOk, slice_index_or};
+ghost use Rattle.std.specs.Prelude.{◌≡◌, ◌<◌, ◌++◌, ℕ, List, [], length, All, IfOk, slice_index_or};
+ghost use Rattle.ffv1_weave.specs.References.{values_of};
 ghost use Rattle.ffv1_weave.specs.Checks.{CanWeave};
 ghost use Rattle.ffv1_weave.specs.Inner.Found.{IsFoundAmong};
 ghost use Rattle.ffv1_weave.specs.Inner.Parts.{AreFewParts, chosen_below};
@@ -22,11 +23,11 @@ pub(crate) fn with_combinations(
 ) -> Result<Found, AllocError>
     requires weaves { CanWeave check }
     requires some { 0 < length versions.now }
-    requires lengths { All (λ version. length version.now ≡ length (slice_index_or (map (λ version. version.now) versions.now) 0 [])) versions.now }
-    requires few { (split : Split) × AreFewParts split (map (λ version. version.now) versions.now)
-        (length (slice_index_or (map (λ version. version.now) versions.now) 0 [])) tried.now.parts.items tried.now.count }
+    requires lengths { All (λ version. length version.now ≡ length (slice_index_or (values_of versions.now) 0 [])) versions.now }
+    requires few { (split : Split) × AreFewParts split (values_of versions.now)
+        (length (slice_index_or (values_of versions.now) 0 [])) tried.now.parts.items tried.now.count }
     ensures { IfOk result (λ more. (others : List (List ℕ)) → IsFoundAmong check others found
-        → IsFoundAmong check (chosen_below tried.now.parts.items (slice_index_or (map (λ version. version.now) versions.now) 0 []) tried.now.count ++ others) more) }
+        → IsFoundAmong check (chosen_below tried.now.parts.items (slice_index_or (values_of versions.now) 0 []) tried.now.count ++ others) more) }
 {
     let mut bytes = Vec::from_slice(alloc, versions[0])?;
     choose(&mut bytes, tried.parts.as_slice(), 0);

@@ -1,5 +1,6 @@
 //! The vote of versions of one slice: what most of them have in each segment.
-ghost use Rattle.std.specs.Prelude.{◌≡◌, ◌<◌, ◌≤◌, ℕ, List, [], length, map, All, IfOk, MatchOption, slice_index_or};
+ghost use Rattle.std.specs.Prelude.{◌≡◌, ◌<◌, ◌≤◌, ℕ, List, [], length, All, IfOk, MatchOption, slice_index_or};
+ghost use Rattle.ffv1_weave.specs.References.{values_of};
 ghost use Rattle.ffv1_weave.specs.Inner.Parts.{AreDistinct};
 ghost use Rattle.ffv1_weave.specs.Votes.{IsVoteOf};
 
@@ -28,10 +29,10 @@ use std::alloc::{AllocError, Global};
 /// one for each byte at most. The only refusal is that of such an allocation.
 pub fn vote(alloc: Global, versions: &[&[u8]]) -> Result<Option<(Vec<u8>, usize)>, AllocError>
     requires some { 0 < length versions.now }
-    requires lengths { All (λ version. length version.now ≡ length (slice_index_or (map (λ version. version.now) versions.now) 0 [])) versions.now }
+    requires lengths { All (λ version. length version.now ≡ length (slice_index_or (values_of versions.now) 0 [])) versions.now }
     ensures { IfOk result (λ found. MatchOption found
-        ((bytes : List ℕ) (count : ℕ) → IsVoteOf (map (λ version. version.now) versions.now) bytes count → ⊥)
-        (λ (bytes, count). IsVoteOf (map (λ version. version.now) versions.now) bytes.items count)) }
+        ((bytes : List ℕ) (count : ℕ) → IsVoteOf (values_of versions.now) bytes count → ⊥)
+        (λ (bytes, count). IsVoteOf (values_of versions.now) bytes.items count)) }
 {
     let distinct = distinct_versions(alloc, versions)?;
     if distinct.len() < 3 {
@@ -43,11 +44,11 @@ pub fn vote(alloc: Global, versions: &[&[u8]]) -> Result<Option<(Vec<u8>, usize)
 /// Takes what most of different versions of one length have, of which there are three at least.
 fn vote_distinct(alloc: Global, versions: &[&[u8]]) -> Result<Option<(Vec<u8>, usize)>, AllocError>
     requires three { 3 ≤ length versions.now }
-    requires lengths { All (λ version. length version.now ≡ length (slice_index_or (map (λ version. version.now) versions.now) 0 [])) versions.now }
-    requires distinct { AreDistinct (map (λ version. version.now) versions.now) }
+    requires lengths { All (λ version. length version.now ≡ length (slice_index_or (values_of versions.now) 0 [])) versions.now }
+    requires distinct { AreDistinct (values_of versions.now) }
     ensures { IfOk result (λ found. MatchOption found
-        ((bytes : List ℕ) (count : ℕ) → IsVoteOf (map (λ version. version.now) versions.now) bytes count → ⊥)
-        (λ (bytes, count). IsVoteOf (map (λ version. version.now) versions.now) bytes.items count)) }
+        ((bytes : List ℕ) (count : ℕ) → IsVoteOf (values_of versions.now) bytes count → ⊥)
+        (λ (bytes, count). IsVoteOf (values_of versions.now) bytes.items count)) }
 {
     let mut found = Found::Nothing;
     let mut count = 0;

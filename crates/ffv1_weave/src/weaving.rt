@@ -1,5 +1,6 @@
 //! The weave of versions of one slice or element: each combination is tried.
-ghost use Rattle.std.specs.Prelude.{◌≡◌, ◌<◌, [], length, map, All, IfOk, slice_index_or};
+ghost use Rattle.std.specs.Prelude.{◌≡◌, ◌<◌, [], length, All, IfOk, slice_index_or};
+ghost use Rattle.ffv1_weave.specs.References.{values_of};
 ghost use Rattle.ffv1_weave.specs.Checks.{CanWeave};
 ghost use Rattle.ffv1_weave.specs.Weave.{IsWeaveOf, weave_tally};
 ghost use Rattle.ffv1_weave.specs.Inner.Parts.{AreDistinct};
@@ -36,9 +37,9 @@ fn weave_distinct(
 ) -> Result<WeaveResult, AllocError>
     requires weaves { CanWeave check }
     requires some { 0 < length versions.now }
-    requires lengths { All (λ version. length version.now ≡ length (slice_index_or (map (λ version. version.now) versions.now) 0 [])) versions.now }
-    requires distinct { AreDistinct (map (λ version. version.now) versions.now) }
-    ensures { IfOk result (λ outcome. IsWeaveOf check (map (λ version. version.now) versions.now) (weave_tally outcome)) }
+    requires lengths { All (λ version. length version.now ≡ length (slice_index_or (values_of versions.now) 0 [])) versions.now }
+    requires distinct { AreDistinct (values_of versions.now) }
+    ensures { IfOk result (λ outcome. IsWeaveOf check (values_of versions.now) (weave_tally outcome)) }
 {
     let Some(tried) = finest_parts(alloc, versions, versions[0].len())? else {
         return Ok(WeaveResult::TooMany);
@@ -75,8 +76,8 @@ fn weave_distinct(
 pub fn weave(alloc: Global, check: Check, versions: &[&[u8]]) -> Result<WeaveResult, AllocError>
     requires weaves { CanWeave check }
     requires some { 0 < length versions.now }
-    requires lengths { All (λ version. length version.now ≡ length (slice_index_or (map (λ version. version.now) versions.now) 0 [])) versions.now }
-    ensures { IfOk result (λ outcome. IsWeaveOf check (map (λ version. version.now) versions.now) (weave_tally outcome)) }
+    requires lengths { All (λ version. length version.now ≡ length (slice_index_or (values_of versions.now) 0 [])) versions.now }
+    ensures { IfOk result (λ outcome. IsWeaveOf check (values_of versions.now) (weave_tally outcome)) }
 {
     let distinct = distinct_versions(alloc, versions)?;
     weave_distinct(alloc, check, distinct.as_slice())

@@ -1,7 +1,8 @@
 use Rattle.std.proofs.Common.{◌≡◌, ℕ, List, [], ◌∷◌, ◌++◌, Bor, take, get_or, arith, ap, sym, ◌∙◌, subst}
 use Rattle.std.specs.Prelude.{◌↔◌, IsTrue, Any}
 use Rattle.std.proofs.lemmas.List.{map_push}
-use Rattle.ffv1_weave.proofs.References.{values_of, next_value, all_values, nowhere}
+use Rattle.ffv1_weave.specs.References.{values_of}
+use Rattle.ffv1_weave.proofs.References.{next_value, all_values, nowhere}
 use Rattle.ffv1_mend.specs.Inner.Distinct.{AreDistinctOf}
 use Rattle.ffv1_mend.proofs.Members.{has_member, lacks_member, distinct_same, distinct_more}
 use Rattle.ffv1_mend.proofs.distinct.distinct_versions.Goals as goal

@@ -1,7 +1,7 @@
 use Rattle.std.proofs.Common.{◌<◌, ℕ, List, length, map, ap, sym, subst, arith, inl, inr}
 use Rattle.std.specs.Prelude.{◌⊎◌}
 use Rattle.ffv1_slice.specs.Members.{IsOnly}
-use Rattle.ffv1_weave.proofs.References.{values_of}
+use Rattle.ffv1_weave.specs.References.{values_of}
 use Rattle.ffv1_mend.specs.Content.{content_bytes}
 use Rattle.ffv1_mend.specs.Passing.{IsPassing}
 use Rattle.ffv1_mend.specs.Improved.{PartValue, part_value}

@@ -3,7 +3,7 @@ use Rattle.std.proofs.lemmas.Result.{IfOk-weaker}
 use Rattle.ffv1_slice.specs.Members.{HasSameMembers}
 use Rattle.ffv1_weave.specs.Weave.{IsWeaveOf, weave_tally}
 use Rattle.ffv1_weave.specs.declared.check.Check.TheVariants.{Element}
-use Rattle.ffv1_weave.proofs.References.{values_of}
+use Rattle.ffv1_weave.specs.References.{values_of}
 use Rattle.ffv1_mend.specs.Content.{content_bytes}
 use Rattle.ffv1_mend.specs.Improved.{part_value, improved}
 use Rattle.ffv1_mend.proofs.WeaveSteps.{some_lent, lent_lengths, weave_lent}

@@ -2,7 +2,8 @@ use Rattle.std.proofs.Common.{◌≡◌, ◌+◌, ℕ, List, [], ◌∷◌, ◌+
 use Rattle.std.specs.Prelude.{◌↔◌, IsTrue, Any, Contains}
 use Rattle.std.proofs.lemmas.List.{map_push}
 use Rattle.ffv1_slice.specs.Members.{HasSameMembers}
-use Rattle.ffv1_weave.proofs.References.{values_of, next_value, all_values, nowhere}
+use Rattle.ffv1_weave.specs.References.{values_of}
+use Rattle.ffv1_weave.proofs.References.{next_value, all_values, nowhere}
 use Rattle.ffv1_mend.specs.Content.{content_bytes}
 use Rattle.ffv1_mend.specs.Improved.{part_value, patched, given_patches, improved}
 use Rattle.ffv1_mend.specs.declared.content.Content.{Content}

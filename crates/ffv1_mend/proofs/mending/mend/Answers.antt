@@ -1,7 +1,7 @@
 use Rattle.std.proofs.Common.{length, subst, sym}
 use Rattle.std.proofs.lemmas.Result.{IfOk-weaker}
 use Rattle.ffv1_slice.specs.Members.{HasSameMembers}
-use Rattle.ffv1_weave.proofs.References.{values_of}
+use Rattle.ffv1_weave.specs.References.{values_of}
 use Rattle.ffv1_weave.specs.declared.check.Check.TheVariants.{Record, Flac}
 use Rattle.ffv1_mend.specs.Mended.{IsCheckedMend, IsElementMend, IsMendOf}
 use Rattle.ffv1_mend.proofs.SameMembers.{some_lent, lengths_lent, element_lent, checked_lent}

@@ -1,6 +1,6 @@
 use Rattle.std.proofs.Common.{subst, sym}
 use Rattle.ffv1_slice.specs.Members.{HasSameMembers}
-use Rattle.ffv1_weave.proofs.References.{values_of}
+use Rattle.ffv1_weave.specs.References.{values_of}
 use Rattle.ffv1_mend.specs.Improved.{IsPartMend, part_value}
 use Rattle.ffv1_mend.specs.declared.part.Sort.TheVariants.{Flac}
 use Rattle.ffv1_mend.proofs.SameMembers.{part_lent}

@@ -1,7 +1,7 @@
 use Rattle.std.proofs.Common.{map, take, sym, subst, ap, ◌∙◌, ◌+◌}
 use Rattle.std.specs.List.{AllZip}
 use Rattle.std.proofs.lemmas.List.{map_push}
-use Rattle.ffv1_weave.proofs.References.{values_of}
+use Rattle.ffv1_weave.specs.References.{values_of}
 use Rattle.ffv1_splice.specs.Standings.{versions_at}
 use Rattle.ffv1_mend.specs.Improved.{PartValue, IsPartMend, part_value}
 use Rattle.ffv1_mend.specs.declared.part.Part.{Part}

@@ -2,7 +2,7 @@ use Rattle.std.proofs.Common.{subst, sym}
 use Rattle.std.proofs.lemmas.Result.{IfOk-weaker}
 use Rattle.ffv1_slice.specs.Members.{HasSameMembers}
 use Rattle.ffv1_splice.specs.Splice.{IsSpliceOf}
-use Rattle.ffv1_weave.proofs.References.{values_of}
+use Rattle.ffv1_weave.specs.References.{values_of}
 use Rattle.ffv1_mend.proofs.SameMembers.{some_lent, splice_lent, kept_ok}
 use Rattle.ffv1_mend.proofs.parts.splice_of.Goals as goal
 

@@ -1,7 +1,8 @@
 use Rattle.std.proofs.Common.{ℕ, List, [], ◌∷◌, ◌++◌, get_or, take, arith, sym, subst}
 use Rattle.ffv1_splice.specs.Inner.Tally.{Tallies}
 use Rattle.ffv1_weave.specs.Checks.{PassesBy}
-use Rattle.ffv1_weave.proofs.References.{values_of, next_value, all_values, nowhere}
+use Rattle.ffv1_weave.specs.References.{values_of}
+use Rattle.ffv1_weave.proofs.References.{next_value, all_values, nowhere}
 use Rattle.ffv1_mend.specs.Passing.{IsPassing}
 use Rattle.ffv1_mend.specs.Inner.Passing.{passing_counted}
 use Rattle.ffv1_mend.proofs.PassingSteps.{one_failed, one_passed}

@@ -1,7 +1,8 @@
 use Rattle.std.proofs.Common.{◌≡◌, ◌≤◌, ℕ, List, Bor, None, length, drop, arith, ap, sym, ◌∙◌, subst}
 use Rattle.std.specs.Prelude.{All}
 use Rattle.ffv1_splice.proofs.Walks.{IsSpliceBefore, division_of}
-use Rattle.ffv1_weave.proofs.References.{values_of, each_value}
+use Rattle.ffv1_weave.specs.References.{values_of}
+use Rattle.ffv1_weave.proofs.References.{each_value}
 use Rattle.ffv1_splice.proofs.PlaceSteps.{least_size}
 use Rattle.ffv1_splice.specs.Inner.Placing.{IsPlaced, IsPlacedOrStop}
 use Rattle.ffv1_weave.specs.Parts.{written}

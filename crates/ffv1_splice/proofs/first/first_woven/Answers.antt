@@ -6,7 +6,7 @@ use Rattle.ffv1_weave.specs.declared.check.Check.TheVariants.{Slice}
 use Rattle.ffv1_weave.specs.declared.weaving.WeaveResult.{WeaveResult}
 use Rattle.ffv1_weave.specs.declared.weaving.WeaveResult.TheVariants as outcomes
 use Rattle.ffv1_weave.proofs.WeaveLaws.{same_versions_weave}
-use Rattle.ffv1_weave.proofs.References.{values_of}
+use Rattle.ffv1_weave.specs.References.{values_of}
 use Rattle.ffv1_splice.specs.Pieces.{HasContent, IsPiece, IsClaimedStart}
 use Rattle.ffv1_splice.specs.Standings.{versions_at, sized, IsWeaveFromFront}
 use Rattle.ffv1_splice.proofs.FirstSlices.{stops_no_claim, not_woven}

@@ -2,7 +2,8 @@ use Rattle.std.proofs.Common.{◌≤◌, length, refl, subst, inl, arith}
 use Rattle.ffv1_slice.specs.Members.{IsOnly}
 use Rattle.ffv1_splice.specs.Pieces.{IsPiece, IsClaimedStart}
 use Rattle.ffv1_splice.specs.Inner.Tally.{Tallies, starts_tally}
-use Rattle.ffv1_weave.proofs.References.{values_of, each_value}
+use Rattle.ffv1_weave.specs.References.{values_of}
+use Rattle.ffv1_weave.proofs.References.{each_value}
 use Rattle.ffv1_splice.proofs.PlaceSteps.{two_not_only, two_not_none, no_claim, least_size, claim_below}
 use Rattle.ffv1_splice.proofs.placing.disputed_before.Goals as goal
 

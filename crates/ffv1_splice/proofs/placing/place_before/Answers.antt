@@ -2,7 +2,8 @@ use Rattle.std.proofs.Common.{◌≤◌, length, subst, refl, arith}
 use Rattle.ffv1_slice.specs.Members.{IsOnly}
 use Rattle.ffv1_splice.specs.Pieces.{IsPiece}
 use Rattle.ffv1_splice.specs.Inner.Tally.{Tallies, pieces_tally}
-use Rattle.ffv1_weave.proofs.References.{values_of, each_value}
+use Rattle.ffv1_weave.specs.References.{values_of}
+use Rattle.ffv1_weave.proofs.References.{each_value}
 use Rattle.ffv1_splice.proofs.PlaceSteps.{piece_size}
 use Rattle.ffv1_splice.proofs.placing.place_before.Goals as goal
 

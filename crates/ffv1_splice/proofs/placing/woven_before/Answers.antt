@@ -2,7 +2,8 @@ use Rattle.std.proofs.Common.{◌≡◌, ◌+◌, ◌≤◌, ◌<◌, ℕ, List,
 use Rattle.std.specs.Prelude.{All, MatchOption}
 use Rattle.std.proofs.lemmas.List.Elements.{Contains-get_or}
 use Rattle.ffv1_weave.specs.Parts.{written}
-use Rattle.ffv1_weave.proofs.References.{values_of, length-values_of, each_value}
+use Rattle.ffv1_weave.specs.References.{values_of}
+use Rattle.ffv1_weave.proofs.References.{length-values_of, each_value}
 use Rattle.ffv1_splice.specs.Standings.{StandsAs, IsStop}
 use Rattle.ffv1_splice.specs.declared.place.Standing.TheVariants.{Woven}
 use Rattle.ffv1_splice.proofs.FirstSlices.{woven_size}

@@ -5,7 +5,8 @@ use Rattle.ffv1_splice.specs.Pieces.{IsPiece}
 use Rattle.ffv1_splice.specs.Splice.{LieFrom, IsSettledDown}
 use Rattle.ffv1_splice.specs.declared.place.Standing.TheVariants.{Settled}
 use Rattle.ffv1_splice.specs.declared.place.Place.{Place}
-use Rattle.ffv1_weave.proofs.References.{values_of, each_value}
+use Rattle.ffv1_weave.specs.References.{values_of}
+use Rattle.ffv1_weave.proofs.References.{each_value}
 use Rattle.ffv1_splice.proofs.PlaceSteps.{piece_size}
 use Rattle.ffv1_splice.proofs.SpliceSteps.{length-written}
 use Rattle.ffv1_splice.proofs.SettlingSteps.{lie_more, down_more}

@@ -6,7 +6,7 @@ use Rattle.ffv1_splice.specs.Pieces.{IsShortest}
 use Rattle.ffv1_splice.specs.Splice.{IsSettledUp}
 use Rattle.ffv1_splice.specs.declared.place.Standing.TheVariants.{Settled}
 use Rattle.ffv1_splice.specs.declared.place.Place.{Place}
-use Rattle.ffv1_weave.proofs.References.{values_of}
+use Rattle.ffv1_weave.specs.References.{values_of}
 use Rattle.ffv1_splice.proofs.SpliceSteps.{length-written}
 use Rattle.ffv1_splice.proofs.SettlingSteps.{take_earlier, before_written, rise_more, up_more}
 use Rattle.ffv1_splice.proofs.settling.settle_up.Goals as goal

@@ -2,7 +2,8 @@ use Rattle.std.proofs.Common.{◌≡◌, ◌++◌, ◌∷◌, [], ℕ, List, Opt
 use Rattle.std.specs.Prelude.{Contains}
 use Rattle.std.proofs.lemmas.List.Elements.{Contains-append_cases}
 use Rattle.ffv1_bits.specs.Parity.{AreBytes}
-use Rattle.ffv1_weave.proofs.References.{values_of, next_value, all_values, nowhere}
+use Rattle.ffv1_weave.specs.References.{values_of}
+use Rattle.ffv1_weave.proofs.References.{next_value, all_values, nowhere}
 use Rattle.ffv1_weave.proofs.ChoiceSteps.{alone}
 use Rattle.ffv1_splice.proofs.SeveralSteps.{IsNext, next_kept, next_more}
 use Rattle.ffv1_splice.proofs.several.next_claimed_start.Goals as goal

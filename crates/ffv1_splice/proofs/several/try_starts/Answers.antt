@@ -1,6 +1,6 @@
 use Rattle.std.proofs.Common.{◌+◌, sym, subst, arith}
 use Rattle.ffv1_weave.specs.Weave.{weave_tally}
-use Rattle.ffv1_weave.proofs.References.{values_of}
+use Rattle.ffv1_weave.specs.References.{values_of}
 use Rattle.ffv1_splice.specs.Pieces.{HasContent}
 use Rattle.ffv1_splice.specs.Inner.Several.{IsNextClaimedStart, AreTriedBefore, tried_tally}
 use Rattle.ffv1_splice.proofs.ShortestSteps.{cut_is_short}

@@ -1,6 +1,6 @@
 use Rattle.std.proofs.Common.{◌+◌, length, arith}
 use Rattle.ffv1_splice.specs.Pieces.{PieceFrom}
-use Rattle.ffv1_weave.proofs.References.{values_of}
+use Rattle.ffv1_weave.specs.References.{values_of}
 use Rattle.ffv1_splice.proofs.ShortestSteps.{none_in_footer, none_lower, shortest_higher}
 use Rattle.ffv1_splice.proofs.shortest.first_from.Goals as goal
 

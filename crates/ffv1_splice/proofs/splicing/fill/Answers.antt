@@ -6,7 +6,8 @@ use Rattle.ffv1_splice.specs.Pieces.{AllReach}
 use Rattle.ffv1_splice.specs.Standings.{versions_at}
 use Rattle.ffv1_splice.specs.Splice.{SplicedValue, IsWalkUp, IsWalkAcross, IsDivisionOf, moved_by, undivided_places}
 use Rattle.ffv1_splice.specs.declared.place.Place.{Place}
-use Rattle.ffv1_weave.proofs.References.{values_of, each_value}
+use Rattle.ffv1_weave.specs.References.{values_of}
+use Rattle.ffv1_weave.proofs.References.{each_value}
 use Rattle.ffv1_splice.proofs.Versions.{version_length, length_of}
 use Rattle.ffv1_splice.proofs.FillSteps.{division_long, front_is, length-below, is_hole, hole_within, filled_splice}
 use Rattle.ffv1_splice.proofs.splicing.fill.Goals as goal

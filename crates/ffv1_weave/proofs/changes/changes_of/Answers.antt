@@ -1,7 +1,7 @@
 use Rattle.std.proofs.Common.{◌≡◌, ◌++◌, ℕ, [], ◌∷◌, length, take, get_or, arith, ap, ◌∙◌}
 use Rattle.ffv1_weave.specs.Inner.Parts.{Part}
 use Rattle.ffv1_weave.specs.Inner.Changes.{change_of, changes_of}
-use Rattle.ffv1_weave.proofs.References.{values_of}
+use Rattle.ffv1_weave.specs.References.{values_of}
 use Rattle.ffv1_weave.proofs.Choices.{choice_size}
 use Rattle.ffv1_weave.proofs.Linear.{choice_there, changes_more}
 use Rattle.ffv1_weave.proofs.References.{nowhere}

@@ -5,7 +5,8 @@ use Rattle.std.proofs.lemmas.Bool.Decides.{Decides-eqb}
 use Rattle.std.proofs.lemmas.Slice.Eq.{slice_eq-Decides}
 use Rattle.ffv1_weave.specs.Numbers.{AreNumbered}
 use Rattle.ffv1_weave.specs.Splits.{HasChoice}
-use Rattle.ffv1_weave.proofs.References.{values_of, value_at, length-values_of, next_value, all_values, nowhere}
+use Rattle.ffv1_weave.specs.References.{values_of}
+use Rattle.ffv1_weave.proofs.References.{value_at, length-values_of, next_value, all_values, nowhere}
 use Rattle.ffv1_weave.proofs.MostSteps.{have_none, have_same, have_more, not_before}
 use Rattle.ffv1_weave.proofs.most.how_many.Goals as goal
 use Rattle.ffv1_weave.proofs.most.how_many.Goals.{then-eq, else-eq}

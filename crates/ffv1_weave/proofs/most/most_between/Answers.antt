@@ -1,7 +1,8 @@
 use Rattle.std.proofs.Common.{◌≡◌, ℕ, ◌+◌, ◌<◌, List, [], ◌∷◌, ◌++◌, Bor, length, get_or, arith, ap, sym, ◌∙◌, subst}
 use Rattle.std.proofs.lemmas.List.{map_push}
 use Rattle.ffv1_weave.specs.Inner.Parts.{AreChoices}
-use Rattle.ffv1_weave.proofs.References.{values_of, value_at, length-values_of, nowhere}
+use Rattle.ffv1_weave.specs.References.{values_of}
+use Rattle.ffv1_weave.proofs.References.{value_at, length-values_of, nowhere}
 use Rattle.ffv1_weave.proofs.MostSteps.{Have, AreMostSoFar, most_fewer, most_more, most_too, most_all}
 use Rattle.ffv1_weave.proofs.most.most_between.Goals as goal
 use Rattle.ffv1_weave.proofs.most.most_between.Goals.{then-count-greatest, else-count-greatest, then-count-greatest-2+in_ok-push, else-count-greatest-2}

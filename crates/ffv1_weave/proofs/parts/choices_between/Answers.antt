@@ -2,7 +2,8 @@ use Rattle.std.proofs.Common.{◌≡◌, ℕ, List, [], ◌∷◌, ◌++◌, Bor
 use Rattle.std.specs.Prelude.{slice_range}
 use Rattle.std.proofs.lemmas.List.{map_push}
 use Rattle.ffv1_weave.specs.Inner.Parts.{AreChoices}
-use Rattle.ffv1_weave.proofs.References.{values_of, next_value, all_values, nowhere}
+use Rattle.ffv1_weave.specs.References.{values_of}
+use Rattle.ffv1_weave.proofs.References.{next_value, all_values, nowhere}
 use Rattle.ffv1_weave.proofs.ChoiceSteps.{IsAsked, choices_have, choices_lack, choices_same, choices_more}
 use Rattle.ffv1_weave.proofs.parts.choices_between.Goals as goal
 use Rattle.ffv1_weave.proofs.parts.choices_between.Goals.{then-not-contains+in_ok-push, else-not-contains}

@@ -1,7 +1,7 @@
 use Rattle.std.proofs.Common.{ℕ, List, subst, sym, inl, inr}
 use Rattle.std.proofs.lemmas.Result.{IfOk-weaker}
 use Rattle.ffv1_weave.specs.Inner.Parts.{AreChoices, AreChoicesBy}
-use Rattle.ffv1_weave.proofs.References.{values_of}
+use Rattle.ffv1_weave.specs.References.{values_of}
 use Rattle.ffv1_weave.proofs.MostSteps.{choices_of_pairs, choices_of_regions}
 use Rattle.ffv1_weave.proofs.parts.choices_by.Goals as goal
 

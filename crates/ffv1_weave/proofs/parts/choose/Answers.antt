@@ -4,7 +4,8 @@ use Rattle.std.proofs.lemmas.List.{drop_more}
 use borrow.Rule.Slice.PartMut.{put_mid}
 use Rattle.ffv1_weave.specs.Inner.Parts.{Part, IsFit, chosen}
 use Rattle.ffv1_weave.specs.Parts.{written}
-use Rattle.ffv1_weave.proofs.References.{values_of, length-values_of}
+use Rattle.ffv1_weave.specs.References.{values_of}
+use Rattle.ffv1_weave.proofs.References.{length-values_of}
 use Rattle.ffv1_weave.proofs.Choices.{length-written, choice_of, choice_size}
 use Rattle.ffv1_weave.proofs.Linear.{choice_there}
 use Rattle.ffv1_weave.proofs.parts.choose.Goals as goal

@@ -3,7 +3,8 @@ use Rattle.std.specs.Prelude.{All}
 use Rattle.std.proofs.lemmas.Result.{IfOk-weaker}
 use Rattle.ffv1_slice.specs.Members.{HasSameMembers}
 use Rattle.ffv1_weave.specs.Inner.Parts.{AreChoices, AreDistinct}
-use Rattle.ffv1_weave.proofs.References.{values_of, nowhere}
+use Rattle.ffv1_weave.specs.References.{values_of}
+use Rattle.ffv1_weave.proofs.References.{nowhere}
 use Rattle.ffv1_weave.proofs.Distinct.{distinct_same, distinct_some, distinct_lengths}
 use Rattle.ffv1_weave.proofs.parts.distinct_versions.Goals as goal
 

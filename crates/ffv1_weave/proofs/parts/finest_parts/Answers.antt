@@ -6,7 +6,8 @@ use Rattle.ffv1_weave.specs.Combinations.{HasMany}
 use Rattle.ffv1_weave.specs.Inner.Parts.{AreFewParts}
 use Rattle.ffv1_weave.specs.declared.splits.Split.{Split}
 use Rattle.ffv1_weave.specs.declared.splits.Split.TheVariants.{Pairs, Regions}
-use Rattle.ffv1_weave.proofs.References.{values_of, length-values_of, each_value}
+use Rattle.ffv1_weave.specs.References.{values_of}
+use Rattle.ffv1_weave.proofs.References.{length-values_of, each_value}
 use Rattle.ffv1_weave.proofs.Finest.{finest, none_few}
 use Rattle.ffv1_weave.proofs.parts.finest_parts.Goals as goal
 

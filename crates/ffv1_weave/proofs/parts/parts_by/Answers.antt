@@ -1,7 +1,8 @@
 use Rattle.std.proofs.Common.{◌≡◌, ℕ, List, Bor, [], ◌∷◌, ◌++◌, ◌*◌, ◌/◌, ◌<◌, ◌≤◌, length, arith, sym, subst}
 use Rattle.ffv1_weave.specs.Inner.Parts.{Part}
 use Rattle.ffv1_weave.specs.declared.weaving.TheConstants.{MOST_COMBINATIONS}
-use Rattle.ffv1_weave.proofs.References.{values_of, length-values_of, each_value}
+use Rattle.ffv1_weave.specs.References.{values_of}
+use Rattle.ffv1_weave.proofs.References.{length-values_of, each_value}
 use Rattle.ffv1_weave.proofs.SplitSteps.{part_some}
 use Rattle.ffv1_weave.proofs.Finest.{ArePartsSoFar, none_so_far, all_so_far, one_more, too_many_more}
 use Rattle.ffv1_weave.proofs.parts.parts_by.Goals as goal

@@ -1,6 +1,7 @@
 use Rattle.std.proofs.Common.{[], arith, ap, below_more}
 use Rattle.std.specs.Prelude.{slice_index}
-use Rattle.ffv1_weave.proofs.References.{values_of, value_at, value_there, length-values_of, nowhere}
+use Rattle.ffv1_weave.specs.References.{values_of}
+use Rattle.ffv1_weave.proofs.References.{value_at, value_there, length-values_of, nowhere}
 use Rattle.ffv1_weave.proofs.Agreeing.{agree_from}
 use Rattle.ffv1_weave.proofs.regions.differ_at.Goals as goal
 

@@ -2,7 +2,8 @@ use Rattle.std.proofs.Common.{◌≡◌, List, ℕ, ◌+◌, arith, sym, subst, 
 use Rattle.std.specs.Prelude.{MatchBool}
 use Rattle.std.proofs.lemmas.Bool.{cases_lt}
 use Rattle.ffv1_weave.specs.Regions.{AgreeAt, DifferAt}
-use Rattle.ffv1_weave.proofs.References.{values_of, each_value}
+use Rattle.ffv1_weave.specs.References.{values_of}
+use Rattle.ffv1_weave.proofs.References.{each_value}
 use Rattle.ffv1_weave.proofs.Agreeing.{agree_past}
 use Rattle.ffv1_weave.proofs.RegionSteps.{IsEndSoFar, end_begins, end_stays, end_moves}
 use Rattle.ffv1_weave.proofs.regions.end_from.Goals as goal

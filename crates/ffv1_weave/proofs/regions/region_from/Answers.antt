@@ -1,6 +1,7 @@
 use Rattle.std.proofs.Common.{◌≡◌, ◌<◌, ℕ, arith, length, inl, inr}
 use Rattle.std.proofs.lemmas.Bool.{cases_lt}
-use Rattle.ffv1_weave.proofs.References.{values_of, each_value}
+use Rattle.ffv1_weave.specs.References.{values_of}
+use Rattle.ffv1_weave.proofs.References.{each_value}
 use Rattle.ffv1_weave.proofs.Agreeing.{agree_on}
 use Rattle.ffv1_weave.proofs.regions.region_from.Goals as goal
 

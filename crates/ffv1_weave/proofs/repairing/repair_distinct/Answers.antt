@@ -3,7 +3,8 @@ use Rattle.ffv1_weave.specs.Inner.Found.{IsFoundAmong}
 use Rattle.ffv1_weave.specs.Inner.Inversions.{inversions}
 use Rattle.ffv1_weave.specs.Inner.Parts.{Part}
 use Rattle.ffv1_weave.specs.declared.check.Check.TheVariants.{Slice}
-use Rattle.ffv1_weave.proofs.References.{values_of, nowhere, value_at}
+use Rattle.ffv1_weave.specs.References.{values_of}
+use Rattle.ffv1_weave.proofs.References.{nowhere, value_at}
 use Rattle.ffv1_weave.proofs.Choices.{IsAlike}
 use Rattle.ffv1_weave.proofs.WeaveSteps.{have_few, some_tried, have_parts, written_over, put_back}
 use Rattle.ffv1_weave.proofs.RepairSteps.{all_inversions, found_next, repairs_within, repairs_beyond, repair_found, repair_missing, repair_disputed, many_unless_some, no_repair_of_many}

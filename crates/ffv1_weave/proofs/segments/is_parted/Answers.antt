@@ -1,7 +1,8 @@
 use Rattle.std.proofs.Common.{[], ◌∙◌, arith, below_more, inl, inr, subst, sym}
 use Rattle.std.proofs.lemmas.List.{get_or_default}
 use Rattle.ffv1_weave.specs.Boundaries.{AreParted}
-use Rattle.ffv1_weave.proofs.References.{values_of, value_at, length-values_of, nowhere}
+use Rattle.ffv1_weave.specs.References.{values_of}
+use Rattle.ffv1_weave.proofs.References.{value_at, length-values_of, nowhere}
 use Rattle.ffv1_weave.proofs.segments.is_parted.Goals as goal
 
 pub loop-other-preserved : goal.loop-other-preserved

@@ -2,7 +2,8 @@ use Rattle.std.proofs.Common.{◌≡◌, ◌<◌, ℕ, List, length, true, false
 use Rattle.std.specs.Prelude.{◌⊎◌}
 use Rattle.std.proofs.lemmas.Bool.{le-ltb, false≢true}
 use Rattle.ffv1_weave.specs.Boundaries.{IsBoundary}
-use Rattle.ffv1_weave.proofs.References.{values_of, length-values_of, each_value}
+use Rattle.ffv1_weave.specs.References.{values_of}
+use Rattle.ffv1_weave.proofs.References.{length-values_of, each_value}
 use Rattle.ffv1_weave.proofs.Agreeing.{agree_on}
 use Rattle.ffv1_weave.proofs.BoundarySteps.{segment_after}
 use Rattle.ffv1_weave.proofs.segments.segment_from.Goals as goal

@@ -4,7 +4,7 @@ use Rattle.std.proofs.lemmas.List.{length-map, get_or-map}
 use Rattle.ffv1_weave.specs.Inner.Found.{IsFoundAmong}
 use Rattle.ffv1_weave.specs.Inner.Parts.{Part, chosen, chosen_below}
 use Rattle.ffv1_weave.specs.Inner.Changes.{remainder_in}
-use Rattle.ffv1_weave.proofs.References.{values_of}
+use Rattle.ffv1_weave.specs.References.{values_of}
 use Rattle.ffv1_weave.proofs.Linear.{changes_some, passes_leaves_none}
 use Rattle.ffv1_weave.proofs.FoundSteps.{found_skipped}
 use Rattle.ffv1_weave.proofs.WeaveSteps.{have_few_parts, first_alike, alike_first, tables_are, tables_fit, left_is, written_over, next_below}

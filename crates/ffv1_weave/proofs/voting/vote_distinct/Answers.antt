@@ -5,7 +5,8 @@ use Rattle.ffv1_weave.specs.Splits.{votes}
 use Rattle.ffv1_weave.specs.declared.check.Check.TheVariants.{Slice}
 use Rattle.ffv1_weave.specs.declared.splits.Split.{Split}
 use Rattle.ffv1_weave.specs.declared.splits.Split.TheVariants.{Pairs, Regions}
-use Rattle.ffv1_weave.proofs.References.{values_of, nowhere, value_at, length-values_of}
+use Rattle.ffv1_weave.specs.References.{values_of}
+use Rattle.ffv1_weave.proofs.References.{nowhere, value_at, length-values_of}
 use Rattle.ffv1_weave.proofs.WeaveSteps.{have_few_parts}
 use Rattle.ffv1_weave.proofs.VoteSteps.{ArePartsBy, AreTriedBefore, none_before, many_more, few_more, three_of_distinct, one_voted, none_voted, two_voted}
 use Rattle.ffv1_weave.proofs.voting.vote_distinct.Goals.{in-Some+in_ok-found, in_default}

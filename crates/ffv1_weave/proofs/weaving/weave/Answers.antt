@@ -1,7 +1,7 @@
 use Rattle.std.proofs.Common.{ℕ, List}
 use Rattle.std.proofs.lemmas.Result.{IfOk-weaker}
 use Rattle.ffv1_weave.specs.Weave.{IsWeaveOf, weave_tally}
-use Rattle.ffv1_weave.proofs.References.{values_of}
+use Rattle.ffv1_weave.specs.References.{values_of}
 use Rattle.ffv1_weave.proofs.Distinct.{lent_same}
 use Rattle.ffv1_weave.proofs.WeaveLaws.{weave_as}
 use Rattle.ffv1_weave.proofs.weaving.weave.Goals as goal
