@@ -1,15 +1,17 @@
 -- What clap finds of the program's commands, by its rows.
-use Rattle.std.proofs.Common.{◌≡◌, ◌∙◌, refl, sym, ap, subst, Option, Some, None, Result, MatchResult, option_map, List, true}
-use Rattle.std.specs.Option.{ok_or}
-use Rattle.clap.specs.Words.{App, Row, Text, HasMatchesOf, first_value, found_of, is_simple, rows_of, raw_values, matched_of, subcommand_of, subcommand_rows_of}
+use Rattle.std.proofs.Common.{◌≡◌, ◌≢◌, Bool, false, ◌∙◌, inl, inr, refl, sym, ap, subst, Option, Some, None, Result, Ok, Err, option_map, List, [], ◌∷◌, true}
+use Rattle.clap.specs.Words.{App, FailsBy, IsAmong, Kinds, Row, Text, HasMatchesOf, fault_of, kind_of, all_of, first_of, first_value, found_of, is_simple, is_simple_and_free, rows_of, raw_values, matched_of, subcommand_of, subcommand_rows_of}
 use Rattle.clap.specs.Matches.{subcommand_name_of}
 use Rattle.clap.specs.declared.parser.matches.ArgMatches.{ArgMatches}
 use Rattle.clap.specs.declared.parser.matches.ArgMatches.TheViews.{out-ArgMatches, out-SubCommand}
+use Rattle.clap.specs.declared.error.Error.{Error}
+use Rattle.clap.specs.declared.error.kind.ErrorKind.{ErrorKind}
+use Rattle.clap.specs.declared.error.kind.ErrorKind.TheVariants.{OutOfMemory}
 use Rattle.std.specs.Box.{box_value}
+use Rattle.clap.specs.contracts.error.kind.ErrorKind.{the_type}
+use denote.Enum.Bare.{sameb}
 use Rattle.clap.proofs.OnLiterals.{clap_on_literals}
 use Rattle.clap.proofs.WalkLemmas.{first_value-rows, raw_values-rows}
-use Rattle.ffv1_commands.specs.Fault.{NamesNoPath}
-use Rattle.ffv1_commands.specs.declared.fault.CliFault.{CliFault}
 use Rattle.ffv1_words.specs.Inner.Arguments.{rows_matched}
 use Rattle.ffv1_words.specs.Arguments.{IsWord, AreValues}
 use Rattle.ffv1_words.specs.Grammar.{program_app}
@@ -21,16 +23,26 @@ pub raw_values-words : (m : ArgMatches) (name : Text) (words : List Text) → op
     → AreValues (rows_matched m) name words
 raw_values-words m name words is = sym (raw_values-rows (found_of m) name) ∙ is
 
--- what is found is as it has to be, or the fault that is returned in place of it names no path
-pub found_or : {T : Type 0} (P : T → Type 0) (found : Option T) (fault : CliFault) (r : Result T CliFault) → r ≡ ok_or found fault
-    → ((value : T) → found ≡ Some value → P value) → NamesNoPath fault → MatchResult r P NamesNoPath
-found_or P None fault r is there none = subst (λ r. MatchResult r P NamesNoPath) (sym is) none
-found_or P (Some value) fault r is there none = subst (λ r. MatchResult r P NamesNoPath) (sym is) (there value refl)
+-- where nothing is found under a name, no word is
+pub first_value-none : (m : ArgMatches) (name : Text) → first_value (found_of m) name ≡ None → (word : Text) → ¬ IsWord (rows_matched m) name word
+first_value-none m name is word there =
+    let none : first_of name (rows_matched m) ≡ None = sym (first_value-rows (found_of m) name) ∙ is in
+    let bad : ⊥ = cc in bad
+
+pub raw_values-none : (m : ArgMatches) (name : Text) → option_map raw_values (matched_of (found_of m) name) ≡ None → (words : List Text)
+    → ¬ AreValues (rows_matched m) name words
+raw_values-none m name is words there =
+    let none : all_of name (rows_matched m) ≡ None = sym (raw_values-rows (found_of m) name) ∙ is in
+    let bad : ⊥ = cc in bad
 
 -- clap's words are exact of these commands
 pub program_is_simple : is_simple program_app ≡ true
 unfolding clap_on_literals
 program_is_simple = refl
+
+pub program_is_free : is_simple_and_free program_app ≡ true
+unfolding clap_on_literals
+program_is_free = refl
 
 module _ {B : Type 0} (f : B → Text) (g : B → List Row) where
   abbrev of_both : B → Text × List Row
@@ -52,3 +64,48 @@ pub met_of : (app : App) (words : List Text) (m : ArgMatches) (name : Text) (row
     → subcommand_of program_app words ≡ Some (name, rows)
 met_of app words m name rows is has named found =
     ap (λ (a : App). subcommand_of a words) (sym is) ∙ sym (has (ap is_simple is ∙ program_is_simple)).1 ∙ met m name rows named found
+
+-- ---- faults
+
+-- where the program's commands take the words, they have no fault
+pub taken_of : (app : App) (words : List Text) (r : Result ArgMatches Error) (m : ArgMatches) → r ≡ Ok m → app ≡ program_app
+    → (is_simple_and_free app ≡ true → FailsBy (fault_of app words) r) → fault_of program_app words ≡ []
+taken_of app words r m ok is fails =
+    let by = subst (FailsBy (fault_of app words)) ok (fails (ap is_simple_and_free is ∙ program_is_free)) in
+    ap (λ (a : App). fault_of a words) (sym is) ∙ by
+
+some_kind : (kinds : Kinds) (k : ErrorKind) → IsAmong k kinds → kinds ≢ []
+some_kind [] k among none = among
+some_kind (first ∷ others) k among none = let bad : ⊥ = cc in bad
+
+-- where they refuse them, and not because memory ran out, they have a fault
+pub refused_of : (app : App) (words : List Text) (r : Result ArgMatches Error) (e : Error) → r ≡ Err e → app ≡ program_app
+    → (is_simple_and_free app ≡ true → FailsBy (fault_of app words) r) → kind_of e ≢ OutOfMemory → fault_of program_app words ≢ []
+refused_of app words r e err is fails other none =
+    let by = subst (FailsBy (fault_of app words)) err (fails (ap is_simple_and_free is ∙ program_is_free)) in
+    elim by [
+      | inl memory ↦ other memory
+      | inr among ↦ some_kind (fault_of app words) (kind_of e) among (ap (λ (a : App). fault_of a words) is ∙ none)
+    ]
+
+-- the kind of an error that was found to be another
+pub other_kind : (r : Result ArgMatches Error) (e d : Error) (k : ErrorKind) (same : Bool) → r ≡ Err e → r ≡ Err d → k ≡ kind_of e
+    → same ≡ sameb the_type k OutOfMemory → same ≡ false → kind_of d ≢ OutOfMemory
+other_kind r e d k same is is_too of tested unlike memory =
+    let one : e ≡ d = cc in
+    let there : k ≡ OutOfMemory = of ∙ ap kind_of one ∙ memory in
+    let bad : false ≡ true = sym unlike ∙ tested ∙ ap (λ (k : ErrorKind). sameb the_type k OutOfMemory) there in
+    let never : ⊥ = cc in never
+
+-- two commands that were met are one
+inside : {A : Type 0} (a b : A) → Some a ≡ Some b → a ≡ b
+inside a b is = cc
+
+-- a command by its name, and what was found under its names
+abbrev pub command_as : Text → List Row → Option (Text × List Row)
+command_as name rows = Some (name, rows)
+
+pub both_same : (name other : Text) (rows others : List Row) → command_as name rows ≡ command_as other others → (name ≡ other) × (rows ≡ others)
+both_same name other rows others is =
+    let one = inside _ _ is in
+    (ap (λ (p : Text × List Row). p.0) one, ap (λ (p : Text × List Row). p.1) one)

@@ -1,2 +1,3 @@
 mod Grammar
+mod Refusals
 mod Vectors

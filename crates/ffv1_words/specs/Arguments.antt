@@ -1,7 +1,9 @@
 -- What a command's words are read from: the values that clap finds under each name, its rows.
-use Rattle.std.specs.Prelude.{ℕ, ◌≡◌, ◌∷◌, List, Some, map, codes}
-use Rattle.std.specs.Str.Parse.{digits_value, without_leading_plus}
-use Rattle.clap.specs.Words.{Row, all_of, first_of, subcommand_of}
+use Rattle.std.specs.Prelude.{ℕ, ◌≡◌, ◌<◌, ◌^◌, [], ◌∷◌, List, Some, map, codes}
+use Rattle.std.specs.Str.Parse.{IsNumeral, digits_value, without_leading_plus}
+use Rattle.clap.specs.Words.{Row, all_of, fault_of, first_of, subcommand_of}
+use Rattle.ffv1_commands.specs.declared.fault.CliFault.{CliFault}
+use Rattle.ffv1_commands.specs.declared.fault.CliFault.TheVariants as faults
 use Rattle.ffv1_words.specs.Grammar.{program_app}
 use Rattle.ffv1_words.specs.declared.words.Recording.{Recording}
 use Rattle.ffv1_words.specs.declared.words.Words.{Words}
@@ -15,10 +17,13 @@ IsWord rows name word = first_of name rows ≡ Some word
 abbrev pub AreValues : List Row → List ℕ → List (List ℕ) → Type 0
 AreValues rows name words = all_of name rows ≡ Some words
 
--- The first value of this name, as a number in decimal digits.
-abbrev pub IsNumberWord : List Row → List ℕ → ℕ → Type 0
-IsNumberWord rows name number =
-    (word : List ℕ) × IsWord rows name word × (number ≡ digits_value 10 (without_leading_plus word))
+-- The first value of this name, as a number under 2^32 in decimal digits, before which a plus may stand.
+pub record IsNumberWord (rows : List Row) (name : List ℕ) (number : ℕ) : Type 0 where
+  pub word : List ℕ
+  pub is_word : IsWord rows name word
+  pub digits : IsNumeral 10 (without_leading_plus word)
+  pub value : number ≡ digits_value 10 (without_leading_plus word)
+  pub fits : number < 2 ^ 32
 
 -- The recording has the values of RECORD, WIDTH and HEIGHT.
 pub record IsRecording (rows : List Row) (recording : Recording) : Type 0 where
@@ -65,7 +70,15 @@ command_name (Decode recording frame out) = codes "decode"
 command_name Help = codes "help"
 command_name Version = codes "version"
 
--- These arguments, the first of which is the program's name, are read by clap as a command with these words.
-abbrev pub AreReadFrom : List (List ℕ) → Words → Type 0
-AreReadFrom arguments words =
-    (rows : List Row) × (subcommand_of program_app arguments ≡ Some (command_name words, rows)) × AreArguments rows words
+-- These arguments, the first of which is the program's name, are read by clap without a fault as a command with these words.
+pub record AreReadFrom (arguments : List (List ℕ)) (words : Words) : Type 0 where
+  pub rows : List Row
+  pub taken : fault_of program_app arguments ≡ []
+  pub command : subcommand_of program_app arguments ≡ Some (command_name words, rows)
+  pub arguments' : AreArguments rows words
+
+-- What is looked for was refused only because nothing is so, or memory ran out.
+abbrev pub RefusesAll : {T : Type 0} → (T → Type 0) → CliFault → Type 0
+RefusesAll {T} IsSo faults.Words = (value : T) → ¬ IsSo value
+RefusesAll IsSo faults.Memory = Unit {0}
+RefusesAll IsSo _ = ⊥

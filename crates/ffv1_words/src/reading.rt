@@ -1,11 +1,11 @@
 //! The words that the program is given (own): the first names a command, then come exactly its own.
-ghost use Rattle.std.specs.Prelude.{◌≡◌, map, option_map, false, IfOk, IfErr, MatchResult, codes, string_bytes};
+ghost use Rattle.std.specs.Prelude.{◌≡◌, ℕ, List, map, option_map, false, IfOk, IfErr, MatchResult, codes, string_bytes};
 ghost use Rattle.ffv1_commands.specs.Fault.{NamesNoPath};
 ghost use Rattle.clap.specs.Words.{app_of, rule_of};
 ghost use Rattle.clap.specs.declared.builder.command.Command.TheViews.{out-Command};
 ghost use Rattle.ffv1_words.specs.Grammar.{word_rule, command_app, with_commands, program_app};
-ghost use Rattle.ffv1_words.specs.Inner.Arguments.{rows_matched, ReadsWords};
-ghost use Rattle.ffv1_words.specs.Arguments.{IsWord, AreValues, IsNumberWord, IsRecording, AreReadFrom};
+ghost use Rattle.ffv1_words.specs.Inner.Arguments.{rows_matched, IsOfHoldings, ReadsWords};
+ghost use Rattle.ffv1_words.specs.Arguments.{IsWord, AreValues, IsNumberWord, IsRecording, AreReadFrom, RefusesAll};
 
 use crate::words::{Recording, Words};
 use clap::error::ErrorKind;
@@ -90,14 +90,16 @@ fn program<'a>(alloc: Global) -> Result<Command<'a>, AllocError>
 
 /// The word of this name.
 fn word<'a>(matches: &ArgMatches<'a>, name: &str) -> Result<&'a str, CliFault>
-    ensures { MatchResult result (λ word. IsWord (rows_matched matches.now) name.now word.now) NamesNoPath }
+    ensures read { MatchResult result (λ word. IsWord (rows_matched matches.now) name.now word.now) (RefusesAll (IsWord (rows_matched matches.now) name.now)) }
+    ensures fault { IfErr result (λ fault. fault ≡ CliFault.Words) }
 {
     matches.get_str(name).ok_or(CliFault::Words)
 }
 
 /// The word of this name, as a number.
 fn number(matches: &ArgMatches, name: &str) -> Result<u32, CliFault>
-    ensures { MatchResult result (IsNumberWord (rows_matched matches.now) name.now) NamesNoPath }
+    ensures read { MatchResult result (IsNumberWord (rows_matched matches.now) name.now) (RefusesAll (IsNumberWord (rows_matched matches.now) name.now)) }
+    ensures fault { IfErr result (λ fault. fault ≡ CliFault.Words) }
 {
     match word(matches, name)?.parse::<u32>() {
         Ok(number) => Ok(number),
@@ -107,21 +109,22 @@ fn number(matches: &ArgMatches, name: &str) -> Result<u32, CliFault>
 
 /// The words of this name.
 fn several<'m, 'a>(matches: &'m ArgMatches<'a>, name: &str) -> Result<&'m [&'a str], CliFault>
-    ensures { MatchResult result (λ words. AreValues (rows_matched matches.now) name.now (map (λ word. word.now) words.now)) NamesNoPath }
+    ensures { MatchResult result (λ words. AreValues (rows_matched matches.now) name.now (map (λ word. word.now) words.now))
+        (RefusesAll (AreValues (rows_matched matches.now) name.now)) }
 {
     matches.get_strs(name).ok_or(CliFault::Words)
 }
 
 /// A list of words in memory of its own.
 fn list<'a>(alloc: Global, words: &[&'a str]) -> Result<Vec<&'a str>, CliFault>
-    ensures { MatchResult result (λ list. list.items ≡ words.now) NamesNoPath }
+    ensures { MatchResult result (λ list. list.items ≡ words.now) (λ fault. fault ≡ CliFault.Memory) }
 {
     Ok(words.to_vec(alloc)?)
 }
 
 /// The words of a recording: RECORD, WIDTH and HEIGHT.
 fn recording_words<'a>(matches: &ArgMatches<'a>) -> Result<Recording<'a>, CliFault>
-    ensures { MatchResult result (IsRecording (rows_matched matches.now)) NamesNoPath }
+    ensures { MatchResult result (IsRecording (rows_matched matches.now)) (RefusesAll (IsRecording (rows_matched matches.now))) }
 {
     Ok(Recording {
         record: word(matches, "RECORD")?,
@@ -132,7 +135,8 @@ fn recording_words<'a>(matches: &ArgMatches<'a>) -> Result<Recording<'a>, CliFau
 
 /// The words COPY.
 fn copies<'a>(alloc: Global, matches: &ArgMatches<'a>) -> Result<Vec<&'a str>, CliFault>
-    ensures { MatchResult result (λ copies. AreValues (rows_matched matches.now) (codes "COPY") (map (λ word. word.now) copies.items)) NamesNoPath }
+    ensures { MatchResult result (λ copies. AreValues (rows_matched matches.now) (codes "COPY") (map (λ word. word.now) copies.items))
+        (RefusesAll (AreValues (rows_matched matches.now) (codes "COPY"))) }
 {
     list(alloc, several(matches, "COPY")?)
 }
@@ -157,6 +161,7 @@ fn hold_words_of<'a>(
     name: &str,
     matches: &ArgMatches<'a>,
 ) -> Result<Words<'a>, CliFault>
+    requires { IsOfHoldings name.now }
     ensures { ReadsWords (rows_matched matches.now) name.now result }
 {
     match name {
@@ -222,11 +227,12 @@ fn words_of<'a>(alloc: Global, name: &str, matches: &ArgMatches<'a>) -> Result<W
 }
 
 /// The command that the program's words name, the first of which is the program's own: they are read as `clap` reads them, by the
-/// commands of `specs/Grammar.antt`. All other words are refused with `Words`, `--help` and `help` with a word after it among them, and
+/// commands of `specs/Grammar.antt`. Only other words are refused with `Words`, `--help` and `help` with a word after it among them, and
 /// a width or height that is no number under 2^32. Returns `Memory` if an allocation fails.
 pub fn read_words<'a>(alloc: Global, words: &'a [String]) -> Result<Words<'a>, CliFault>
     ensures ok { IfOk result (AreReadFrom (map (λ word. string_bytes word) words.now)) }
-    ensures err { IfErr result NamesNoPath }
+    ensures err { IfErr result (RefusesAll (AreReadFrom (map (λ word. string_bytes word) words.now))) }
+    ensures names { IfErr result NamesNoPath }
 {
     let Ok(program) = program(alloc) else {
         return Err(CliFault::Memory);

@@ -10,4 +10,4 @@ returns c =
     let words : List (Bor (List ℕ)) = c.in_ok-several.field-0.now in
     let first : Bor (List ℕ) = get_or words 0 (record { ref_ptr = (0, 0); now = [] }) in
     let parted = first_rest words _ c.in-len1-up.len_at_least ∙ ap (λ others. first ∷ others) (sym c.in_ok-list.ensures) in
-    (refl, (c.in_ok-word.ensures, c.in_ok-several.ensures ∙ ap (λ words. Some (map now words)) parted))
+    (refl, (c.in_ok-word.ensures.read, c.in_ok-several.ensures ∙ ap (λ words. Some (map now words)) parted))
