@@ -6,3 +6,4 @@ pub mod Openings
 pub mod Lists
 pub mod Runs
 pub mod Makes
+pub mod Unread

@@ -1,15 +1,17 @@
 -- What the faults of a list keep.
-use Rattle.std.proofs.Common.{Result, Ok, Err, IfErr}
+use Rattle.std.proofs.Common.{◌≡◌, ◌∙◌, ap, Bool, Result, Ok, Err, IfErr}
+use Rattle.ffv1_devices.specs.Streams.{writer_of}
+use Rattle.ffv1_devices.specs.declared.streams.ThroughWrite.{ThroughWrite}
 use Rattle.ffv1_commands.specs.Lists.{IfOfList}
 use Rattle.ffv1_commands.specs.declared.fault.CliFault.{CliFault}
 use Rattle.ffv1_commands.specs.declared.fault.CliFault.TheVariants as faults
 use Rattle.ffv1_commands.specs.declared.path.CommandPath.{CommandPath}
 
--- the second of two things that are kept
-pub second_kept : {T : Type 0} (path : CommandPath) (P Q : Type 0) (result : Result T CliFault)
-    → IfErr result (λ fault. IfOfList path fault (P × Q)) → IfErr result (λ fault. IfOfList path fault Q)
-second_kept path P Q (Ok value) kept = tt
-second_kept path P Q (Err (faults.Read named)) kept = λ same. (kept same).1
-second_kept path P Q (Err (faults.Ranges number)) kept = kept.1
-second_kept path P Q (Err (faults.List number)) kept = kept.1
-second_kept path P Q (Err fault) kept = tt
+-- the second of two things that are kept, through its writer
+pub second_through : {W : Type 0} (path : CommandPath) (P : Type 0) (result : Result Bool CliFault) (old new : ThroughWrite W) (w : W) → writer_of old ≡ w
+    → IfErr result (λ fault. IfOfList path fault (P × (new ≡ old))) → IfErr result (λ fault. IfOfList path fault (writer_of new ≡ w))
+second_through path P (Ok value) old new w is kept = tt
+second_through path P (Err (faults.Read named)) old new w is kept = λ same. ap writer_of (kept same).1 ∙ is
+second_through path P (Err (faults.Ranges number)) old new w is kept = ap writer_of kept.1 ∙ is
+second_through path P (Err (faults.List number)) old new w is kept = ap writer_of kept.1 ∙ is
+second_through path P (Err fault) old new w is kept = tt

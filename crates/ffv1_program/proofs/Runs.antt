@@ -37,6 +37,10 @@ pub nothing_said : {T E : Type 0} (result : Result T E) → IfOk result (λ _. U
 nothing_said (Ok value) = tt
 nothing_said (Err fault) = tt
 
+pub no_more_said : {T E : Type 0} (result : Result T E) → IfErr result (λ _. Unit {0})
+no_more_said (Ok value) = tt
+no_more_said (Err fault) = tt
+
 -- what holds anyhow, beside what a fault left
 pub beside : {T : Type 0} (result : Result T CliFault) (P : Type 0) (Q : CliFault → Type 0) → P → IfErr result Q → IfErr result (λ fault. Q fault × P)
 beside (Ok value) P Q holds left = tt

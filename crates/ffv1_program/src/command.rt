@@ -3,6 +3,7 @@ ghost use Rattle.std.specs.Prelude.{◌≡◌, Ok, Err, IfOk, IfErr, IsErrOf, Ma
 ghost use Rattle.ffv1_commands.specs.Fault.{NamesPath};
 ghost use Rattle.ffv1_words.specs.WordPaths.{IsPathOf};
 ghost use Rattle.ffv1_program.specs.Merging.{FailsToOpen};
+ghost use Rattle.ffv1_program.specs.Unread.{IsUnreadOf};
 ghost use Rattle.ffv1_program.specs.Running.{out_word, IfNoneMade, IfAlwaysMade, IsRefused, DoesCommand, StopsCommand, KeepsAtFault};
 
 use crate::files::{FileSystem, MakeFile};
@@ -77,6 +78,7 @@ pub fn run<'a, F: FileSystem<'a>, O: MakeFile, W: Write>(
     ensures none_made { IfNoneMade words.now (made.new ≡ made.old) }
     ensures always_made { IfOk result (λ _. IfAlwaysMade words.now (O.is_made made.new)) }
     ensures names { IfErr result (NamesPath (IsPathOf words.now)) }
+    ensures unread { IfErr result (IsUnreadOf (F.is_device_at files.now) F.Device.log (F.is_buffered_at files.now) F.Buffered.log words.now) }
 {
     match words {
         Words::Chain { frame } => all_done(chain_file(alloc, files, frame, output)),

@@ -1,8 +1,12 @@
 //! The files of a runtime (own), of which no contract can say the bytes.
 
 use crate::files::{FileSystem, MakeFile, ReadFile};
+use ffv1_commands::CliFault;
+use ffv1_devices::FromRead;
 use ffv1_files::{InputFile, Opener, OutputFile, PathToRead};
+use std::alloc::Global;
 use std::io;
+use std::io::BufReader;
 use std::rt::Files;
 
 /// The files that a runtime opens.
@@ -35,17 +39,43 @@ impl<'a, R: Files> ReadFile for InputFile<'a, R> {
 }
 
 impl<'a, R: Files> FileSystem<'a> for Disk<'a, R> {
-    ghost use Rattle.std.specs.Prelude.{◌≡◌, None};
+    ghost use Rattle.std.specs.Prelude.{◌≡◌, None, ⊤};
+    ghost use Rattle.ffv1_devices.specs.Streams.{reader_of};
     ghost use Rattle.ffv1_files.specs.Files.{IsUnopenedAt};
 
     type Input = InputFile<'a, R>;
+
+    type Device = FromRead<InputFile<'a, R>>;
+
+    type Buffered = FromRead<BufReader<InputFile<'a, R>>>;
 
     ghost bytes_at = { λ _ _. None };
 
     ghost is_input_at = { λ _ path input. IsUnopenedAt input path };
 
+    ghost is_device_at = { λ _ path device. IsUnopenedAt (reader_of device) path };
+
+    // no clause of std says which reader a buffer has
+    ghost is_buffered_at = { λ _ _ _. ⊤ };
+
     fn input(&self, path: &'a str) -> InputFile<'a, R> {
         InputFile::new(self.rt, path)
+    }
+
+    fn device(&self, path: &'a str) -> FromRead<InputFile<'a, R>> {
+        FromRead::new(InputFile::new(self.rt, path))
+    }
+
+    fn buffered(
+        &self,
+        alloc: Global,
+        path: &'a str,
+    ) -> Result<FromRead<BufReader<InputFile<'a, R>>>, CliFault> {
+        match BufReader::new(alloc, InputFile::new(self.rt, path)) {
+            Ok(reader) => Ok(FromRead::new(reader)),
+            // It fails only if the buffer can't be allocated.
+            Err(_) => Err(CliFault::Memory),
+        }
     }
 }
 

@@ -3,6 +3,8 @@ ghost use Rattle.std.specs.Prelude.{◌≡◌, ◌⊎◌, ℕ, List, Option, Ok,
 ghost use Rattle.ffv1_program.specs.Splicing.{IsUnmade};
 
 use ffv1_commands::{CliFault, CommandPath};
+use ffv1_devices::Source;
+use std::alloc::Global;
 use std::io;
 use std::io::{Read, Write};
 
@@ -24,16 +26,39 @@ pub trait ReadFile: Read {
 pub trait FileSystem<'a> {
     type Input: ReadFile + Drop;
 
+    /// A file that is read as a source, which counts how its tries went.
+    type Device: Source + Drop;
+
+    /// The same through a buffer.
+    type Buffered: Source + Drop;
+
     // the bytes of the file of each path, if they are known
     ghost bytes_at: { Self → List ℕ → Option (List ℕ) };
 
     // this is the input of that path, of which nothing is read yet
     ghost is_input_at: { Self → List ℕ → Self.Input → Type 0 };
 
+    // so is this source, and this one with a buffer
+    ghost is_device_at: { Self → List ℕ → Self.Device → Type 0 };
+
+    ghost is_buffered_at: { Self → List ℕ → Self.Buffered → Type 0 };
+
     /// The file of this path, not opened yet.
     fn input(&self, path: &'a str) -> Self::Input
         ensures at { is_input_at self.now path.now result }
         ensures bytes { Self.Input.remaining result ≡ bytes_at self.now path.now };
+
+    /// The file of this path as a source, not opened yet.
+    fn device(&self, path: &'a str) -> Self::Device
+        ensures at { is_device_at self.now path.now result }
+        ensures bytes { (Self.Device.log result).remaining ≡ bytes_at self.now path.now };
+
+    /// The same through a buffer of 8 KiB: short fields then take no call of the system each. Returns `Memory` if the buffer can't be
+    /// allocated.
+    fn buffered(&self, alloc: Global, path: &'a str) -> Result<Self::Buffered, CliFault>
+        ensures at { IfOk result (is_buffered_at self.now path.now) }
+        ensures bytes { IfOk result (λ device. (Self.Buffered.log device).remaining ≡ bytes_at self.now path.now) }
+        ensures refused { IfErr result (λ fault. fault ≡ CliFault.Memory) };
 }
 
 /// A file that is made at its first write.

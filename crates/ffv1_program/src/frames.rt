@@ -9,17 +9,19 @@ ghost use Rattle.ffv1_commands.specs.ScanText.{ScansFile, ScanStops};
 ghost use Rattle.ffv1_commands.specs.ShowText.{PrintsSetup, ShowStops};
 ghost use Rattle.ffv1_commands.specs.SpliceText.{SplicesCopies};
 ghost use Rattle.ffv1_program.specs.Splicing.{StopsSplicing};
+ghost use Rattle.ffv1_program.specs.Unread.{IfUnread, IsUnreadAt, IsUnscanned};
 
 use crate::files::{FileSystem, MakeFile, make_after};
 use crate::inputs::inputs_of;
-use ffv1_commands::{CliFault, CommandPath, run_chain, run_scan, run_show, run_splice};
+use ffv1_commands::{CliFault, CommandPath, chain_of, run_splice, scan_of, show_of};
+use ffv1_devices::ThroughWrite;
 use ffv1_words::Recording;
 use std::alloc::Global;
 use std::io::Write;
 
 /// Prints the chain of the frame of this path.
 ///
-/// It stops where `run_chain` does. After a fault that is not `Write` nothing was printed.
+/// It stops where `chain_of` does. After a fault that is not `Write` nothing was printed.
 pub fn chain_file<'a, F: FileSystem<'a>, W: Write>(
     alloc: Global,
     files: &F,
@@ -31,13 +33,18 @@ pub fn chain_file<'a, F: FileSystem<'a>, W: Write>(
     ensures err { IfErr result (ChainStops (F.bytes_at files.now frame.now) (W.contents output.old) (W.contents output.new)) }
     ensures untouched { IfErr result (λ fault. UnlessWriting fault (output.new ≡ output.old)) }
     ensures names { IfErr result (NamesPath IsChainPath) }
+    ensures unread { IfErr result (IfUnread (λ _. IsUnreadAt (F.is_device_at files.now) F.Device.log frame.now)) }
 {
-    run_chain(alloc, &mut files.input(frame), output)
+    chain_of(
+        alloc,
+        &mut files.device(frame),
+        &mut ThroughWrite::new(output),
+    )
 }
 
 /// Scans the ranges of a file, by the list of another.
 ///
-/// It stops where `run_scan` does. After a fault of the list nothing was printed.
+/// It stops where `scan_of` does. After a fault of the list nothing was printed.
 pub fn scan_files<'a, F: FileSystem<'a>, W: Write>(
     alloc: Global,
     files: &F,
@@ -51,18 +58,19 @@ pub fn scan_files<'a, F: FileSystem<'a>, W: Write>(
         (W.contents output.old) (W.contents output.new)) }
     ensures untouched { IfErr result (λ fault. IfOfList CommandPath.Ranges fault (output.new ≡ output.old)) }
     ensures names { IfErr result (NamesPath IsScanPath) }
+    ensures unread { IfErr result (IfUnread (IsUnscanned (F.is_device_at files.now) F.Device.log ranges.now file.now)) }
 {
-    run_scan(
+    scan_of(
         alloc,
-        &mut files.input(ranges),
-        &mut files.input(file),
-        output,
+        &mut files.device(ranges),
+        &mut files.device(file),
+        &mut ThroughWrite::new(output),
     )
 }
 
 /// Prints the setup of this record.
 ///
-/// It stops where `run_show` does. After a fault that is not `Write` nothing was printed.
+/// It stops where `show_of` does. After a fault that is not `Write` nothing was printed.
 pub fn show_record<'a, F: FileSystem<'a>, W: Write>(
     alloc: Global,
     files: &F,
@@ -75,13 +83,14 @@ pub fn show_record<'a, F: FileSystem<'a>, W: Write>(
         (W.contents output.old) (W.contents output.new)) }
     ensures untouched { IfErr result (λ fault. UnlessWriting fault (output.new ≡ output.old)) }
     ensures names { IfErr result (NamesPath IsShowPath) }
+    ensures unread { IfErr result (IfUnread (λ _. IsUnreadAt (F.is_device_at files.now) F.Device.log recording.now.record.now)) }
 {
-    run_show(
+    show_of(
         alloc,
-        &mut files.input(recording.record),
+        &mut files.device(recording.record),
         recording.width,
         recording.height,
-        output,
+        &mut ThroughWrite::new(output),
     )
 }
 

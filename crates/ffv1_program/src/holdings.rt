@@ -9,12 +9,12 @@ ghost use Rattle.ffv1_commands.specs.MergeText.{MergesFiles};
 ghost use Rattle.ffv1_commands.specs.ReportedText.{ReportsFile, ReportStops};
 ghost use Rattle.ffv1_commands.specs.RestoreText.{RestoresFile, RestoreStops};
 ghost use Rattle.ffv1_program.specs.Merging.{IsEither, FailsToOpen, IfNotBegun, StopsMerging};
+ghost use Rattle.ffv1_program.specs.Unread.{IfUnread, IsUnheldAt};
 
 use crate::files::{FileSystem, ReadFile};
 use crate::inputs::inputs_of;
-use ffv1_commands::{
-    CliFault, CommandPath, run_join, run_merge, run_report, run_restore, run_take,
-};
+use ffv1_commands::{CliFault, CommandPath, report_of, restore_of, run_join, run_merge, run_take};
+use ffv1_devices::ThroughWrite;
 use ffv1_words::Recording;
 use std::alloc::Global;
 use std::io::Write;
@@ -119,7 +119,7 @@ pub fn merge_files<'a, F: FileSystem<'a>, O: Write>(
 
 /// Prints the report of the holding file of this path.
 ///
-/// It stops where `run_report` does. After a fault that is not `Write` nothing was printed.
+/// It stops where `report_of` does, and with `Memory` if a buffer can't be allocated. After a fault that is not `Write` nothing was printed.
 pub fn report_file<'a, F: FileSystem<'a>, W: Write>(
     alloc: Global,
     files: &F,
@@ -130,13 +130,15 @@ pub fn report_file<'a, F: FileSystem<'a>, W: Write>(
     ensures err { IfErr result (ReportStops (F.bytes_at files.now file.now) (W.contents output.old) (W.contents output.new)) }
     ensures untouched { IfErr result (λ fault. UnlessWriting fault (output.new ≡ output.old)) }
     ensures names { IfErr result (NamesPath IsReportPath) }
+    ensures unread { IfErr result (IfUnread (λ _. IsUnheldAt (F.is_buffered_at files.now) F.Buffered.log file.now)) }
 {
-    run_report(alloc, &mut files.input(file), output)
+    let mut file = files.buffered(alloc, file)?;
+    report_of(alloc, &mut file, &mut ThroughWrite::new(output))
 }
 
 /// Restores the frame of the holding file of this path into the file that is made.
 ///
-/// It stops where `run_restore` does. After a fault that is not `Write` nothing was written or printed.
+/// It stops where `restore_of` does, and with `Memory` if a buffer can't be allocated. After a fault that is not `Write` nothing was written or printed.
 pub fn restore_file<'a, F: FileSystem<'a>, O: Write, W: Write>(
     alloc: Global,
     files: &F,
@@ -150,6 +152,13 @@ pub fn restore_file<'a, F: FileSystem<'a>, O: Write, W: Write>(
         (O.contents made.old) (O.contents made.new) (W.contents output.old) (W.contents output.new)) }
     ensures untouched { IfErr result (λ fault. UnlessWriting fault ((made.new ≡ made.old) × (output.new ≡ output.old))) }
     ensures names { IfErr result (NamesPath IsHoldPath) }
+    ensures unread { IfErr result (IfUnread (λ _. IsUnheldAt (F.is_buffered_at files.now) F.Buffered.log file.now)) }
 {
-    run_restore(alloc, &mut files.input(file), made, output)
+    let mut file = files.buffered(alloc, file)?;
+    restore_of(
+        alloc,
+        &mut file,
+        &mut ThroughWrite::new(made),
+        &mut ThroughWrite::new(output),
+    )
 }

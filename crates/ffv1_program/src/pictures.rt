@@ -5,16 +5,18 @@ ghost use Rattle.ffv1_commands.specs.Paths.{IsHoldPath, IsDecodePath};
 ghost use Rattle.ffv1_commands.specs.Devices.{UnlessWriting};
 ghost use Rattle.ffv1_commands.specs.PictureText.{ShowsFile, PictureStops};
 ghost use Rattle.ffv1_commands.specs.DecodeText.{DecodesFile, DecodeStops};
+ghost use Rattle.ffv1_program.specs.Unread.{IfUnread, IsUndecoded, IsUnheldAt};
 
 use crate::files::FileSystem;
-use ffv1_commands::{CliFault, run_decode, run_picture};
+use ffv1_commands::{CliFault, decode_of, picture_of};
+use ffv1_devices::ThroughWrite;
 use ffv1_words::Recording;
 use std::alloc::Global;
 use std::io::Write;
 
 /// Writes what can be shown of the holding file of this path to the file that is made.
 ///
-/// It stops where `run_picture` does. After a fault that is not `Write` nothing was written or printed.
+/// It stops where `picture_of` does, and with `Memory` if a buffer can't be allocated. After a fault that is not `Write` nothing was written or printed.
 pub fn picture_file<'a, F: FileSystem<'a>, O: Write, W: Write>(
     alloc: Global,
     files: &F,
@@ -28,13 +30,20 @@ pub fn picture_file<'a, F: FileSystem<'a>, O: Write, W: Write>(
         (O.contents made.old) (O.contents made.new) (W.contents output.old) (W.contents output.new)) }
     ensures untouched { IfErr result (λ fault. UnlessWriting fault ((made.new ≡ made.old) × (output.new ≡ output.old))) }
     ensures names { IfErr result (NamesPath IsHoldPath) }
+    ensures unread { IfErr result (IfUnread (λ _. IsUnheldAt (F.is_buffered_at files.now) F.Buffered.log file.now)) }
 {
-    run_picture(alloc, &mut files.input(file), made, output)
+    let mut file = files.buffered(alloc, file)?;
+    picture_of(
+        alloc,
+        &mut file,
+        &mut ThroughWrite::new(made),
+        &mut ThroughWrite::new(output),
+    )
 }
 
 /// Decodes the frame of these paths into the file that is made.
 ///
-/// It stops where `run_decode` does. After a fault that is not `Write` nothing was written or printed.
+/// It stops where `decode_of` does. After a fault that is not `Write` nothing was written or printed.
 pub fn decode_files<'a, F: FileSystem<'a>, O: Write, W: Write>(
     alloc: Global,
     files: &F,
@@ -49,14 +58,15 @@ pub fn decode_files<'a, F: FileSystem<'a>, O: Write, W: Write>(
         (F.bytes_at files.now frame.now) (O.contents made.old) (O.contents made.new) (W.contents output.old) (W.contents output.new)) }
     ensures untouched { IfErr result (λ fault. UnlessWriting fault ((made.new ≡ made.old) × (output.new ≡ output.old))) }
     ensures names { IfErr result (NamesPath IsDecodePath) }
+    ensures unread { IfErr result (IfUnread (IsUndecoded (F.is_device_at files.now) F.Device.log recording.now.record.now frame.now)) }
 {
-    run_decode(
+    decode_of(
         alloc,
-        &mut files.input(recording.record),
+        &mut files.device(recording.record),
         recording.width,
         recording.height,
-        &mut files.input(frame),
-        made,
-        output,
+        &mut files.device(frame),
+        &mut ThroughWrite::new(made),
+        &mut ThroughWrite::new(output),
     )
 }

@@ -1,10 +1,13 @@
 //! Files that note in which order they are opened and made. The path of each is a digit: that of 0 is not there, and can't be made.
 ghost use Rattle.std.specs.Prelude.{◌≡◌, ◌⊎◌, IfErr, codes};
 
+use ffv1_commands::CliFault;
+use ffv1_devices::FromRead;
 use ffv1_program::{FileSystem, MakeFile, ReadFile};
+use std::alloc::Global;
 use std::cell::Cell;
 use std::io;
-use std::io::{ErrorKind, Read, Write};
+use std::io::{BufReader, ErrorKind, Read, Write};
 
 /// The paths of the files that were opened and made, in their order: the digits of a number.
 #[derive(Drop)]
@@ -88,14 +91,23 @@ impl ReadFile for FakeInput<'_> {
 }
 
 impl<'a> FileSystem<'a> for Fakes<'a> {
-    ghost use Rattle.std.specs.Prelude.{◌≡◌, Some, codes, if◌then◌else◌};
+    ghost use Rattle.std.specs.Prelude.{◌≡◌, Some, ⊤, codes, if◌then◌else◌};
     ghost use Rattle.std.specs.Str.{bytes_eq};
+    ghost use Rattle.ffv1_devices.specs.Streams.{reader_of};
 
     type Input = FakeInput<'a>;
+
+    type Device = FromRead<FakeInput<'a>>;
+
+    type Buffered = FromRead<BufReader<FakeInput<'a>>>;
 
     ghost bytes_at = { λ files path. Some (if bytes_eq path (codes "1") then files.first.now else files.others.now) };
 
     ghost is_input_at = { λ _ path input. input.path.now ≡ path };
+
+    ghost is_device_at = { λ _ path device. (reader_of device).path.now ≡ path };
+
+    ghost is_buffered_at = { λ _ _ _. ⊤ };
 
     fn input(&self, path: &'a str) -> FakeInput<'a> {
         FakeInput {
@@ -103,6 +115,21 @@ impl<'a> FileSystem<'a> for Fakes<'a> {
             path,
             left: if path == "1" { self.first } else { self.others },
             is_open: false,
+        }
+    }
+
+    fn device(&self, path: &'a str) -> FromRead<FakeInput<'a>> {
+        FromRead::new(self.input(path))
+    }
+
+    fn buffered(
+        &self,
+        alloc: Global,
+        path: &'a str,
+    ) -> Result<FromRead<BufReader<FakeInput<'a>>>, CliFault> {
+        match BufReader::new(alloc, self.input(path)) {
+            Ok(reader) => Ok(FromRead::new(reader)),
+            Err(_) => Err(CliFault::Memory),
         }
     }
 }

@@ -1,5 +1,5 @@
 use Rattle.std.proofs.Common.{◌≡◌, refl, rules}
-use Rattle.ffv1_program.proofs.Runs.{all_ok, all_err, all_err_of, all_ok_beside, nothing_said, beside, kept_beside, printed_ok, printed_err, printed_fault}
+use Rattle.ffv1_program.proofs.Runs.{all_ok, all_err, all_err_of, all_ok_beside, nothing_said, no_more_said, beside, kept_beside, printed_ok, printed_err, printed_fault}
 use Rattle.ffv1_program.proofs.command.run.Goals as goal
 
 pub returns-in-Chain : goal.returns-in-Chain
@@ -12,6 +12,7 @@ returns-in-Chain g c =
       none_made = rw c.in-Chain.is refl;
       always_made = rw c.in-Chain.is (nothing_said c.all_done.result);
       names = rw c.in-Chain.is (all_err c.chain_file.result c.all_done.result _ c.all_done.ensures c.chain_file.ensures.names);
+      unread = rw c.in-Chain.is (all_err c.chain_file.result c.all_done.result _ c.all_done.ensures c.chain_file.ensures.unread);
     }
 
 pub returns-in-Scan : goal.returns-in-Scan
@@ -24,6 +25,7 @@ returns-in-Scan g c =
       none_made = rw c.in-Scan.is refl;
       always_made = rw c.in-Scan.is (nothing_said c.scan_files.result);
       names = rw c.in-Scan.is (c.scan_files.ensures.names);
+      unread = rw c.in-Scan.is (c.scan_files.ensures.unread);
     }
 
 pub returns-in-Show : goal.returns-in-Show
@@ -36,6 +38,7 @@ returns-in-Show g c =
       none_made = rw c.in-Show.is refl;
       always_made = rw c.in-Show.is (nothing_said c.all_done-in-Show.result);
       names = rw c.in-Show.is (all_err c.show_record.result c.all_done-in-Show.result _ c.all_done-in-Show.ensures c.show_record.ensures.names);
+      unread = rw c.in-Show.is (all_err c.show_record.result c.all_done-in-Show.result _ c.all_done-in-Show.ensures c.show_record.ensures.unread);
     }
 
 pub returns-in-Take : goal.returns-in-Take
@@ -48,6 +51,7 @@ returns-in-Take g c =
       none_made = rw c.in-Take.is tt;
       always_made = rw c.in-Take.is (nothing_said c.all_done-in-Take.result);
       names = search rules;
+      unread = rw c.in-Take.is (no_more_said c.all_done-in-Take.result);
     }
 
 pub returns-in-Join : goal.returns-in-Join
@@ -60,6 +64,7 @@ returns-in-Join g c =
       none_made = rw c.in-Join.is tt;
       always_made = rw c.in-Join.is (nothing_said c.all_done-in-Join.result);
       names = search rules;
+      unread = rw c.in-Join.is (no_more_said c.all_done-in-Join.result);
     }
 
 pub returns-in-Merge : goal.returns-in-Merge
@@ -72,6 +77,7 @@ returns-in-Merge g c =
       none_made = rw c.in-Merge.is tt;
       always_made = rw c.in-Merge.is (nothing_said c.all_done-in-Merge.result);
       names = rw c.in-Merge.is (all_err c.merge_files.result c.all_done-in-Merge.result _ c.all_done-in-Merge.ensures c.merge_files.ensures.names);
+      unread = rw c.in-Merge.is (no_more_said c.all_done-in-Merge.result);
     }
 
 pub returns-in-Report : goal.returns-in-Report
@@ -84,6 +90,7 @@ returns-in-Report g c =
       none_made = rw c.in-Report.is refl;
       always_made = rw c.in-Report.is (nothing_said c.all_done-in-Report.result);
       names = rw c.in-Report.is (all_err c.report_file.result c.all_done-in-Report.result _ c.all_done-in-Report.ensures c.report_file.ensures.names);
+      unread = rw c.in-Report.is (all_err c.report_file.result c.all_done-in-Report.result _ c.all_done-in-Report.ensures c.report_file.ensures.unread);
     }
 
 pub returns-in-Restore : goal.returns-in-Restore
@@ -96,6 +103,7 @@ returns-in-Restore g c =
       none_made = rw c.in-Restore.is tt;
       always_made = rw c.in-Restore.is (nothing_said c.all_done-in-Restore.result);
       names = rw c.in-Restore.is (all_err c.restore_file.result c.all_done-in-Restore.result _ c.all_done-in-Restore.ensures c.restore_file.ensures.names);
+      unread = rw c.in-Restore.is (all_err c.restore_file.result c.all_done-in-Restore.result _ c.all_done-in-Restore.ensures c.restore_file.ensures.unread);
     }
 
 pub returns-in-Picture : goal.returns-in-Picture
@@ -108,6 +116,7 @@ returns-in-Picture g c =
       none_made = rw c.in-Picture.is tt;
       always_made = rw c.in-Picture.is (nothing_said c.picture_file.result);
       names = rw c.in-Picture.is (c.picture_file.ensures.names);
+      unread = rw c.in-Picture.is (c.picture_file.ensures.unread);
     }
 
 pub returns-in-Splice : goal.returns-in-Splice
@@ -120,6 +129,7 @@ returns-in-Splice g c =
       none_made = rw c.in-Splice.is tt;
       always_made = rw c.in-Splice.is (c.splice_files.ensures.is_made);
       names = search rules;
+      unread = rw c.in-Splice.is (no_more_said c.splice_files.result);
     }
 
 pub returns-in-Mend : goal.returns-in-Mend
@@ -132,6 +142,7 @@ returns-in-Mend g c =
       none_made = rw c.in-Mend.is tt;
       always_made = rw c.in-Mend.is (c.mend_files.ensures.is_made);
       names = search rules;
+      unread = rw c.in-Mend.is (no_more_said c.mend_files.result);
     }
 
 pub returns-in-Decode : goal.returns-in-Decode
@@ -144,6 +155,7 @@ returns-in-Decode g c =
       none_made = rw c.in-Decode.is tt;
       always_made = rw c.in-Decode.is (nothing_said c.all_done-in-Decode.result);
       names = rw c.in-Decode.is (all_err c.decode_files.result c.all_done-in-Decode.result _ c.all_done-in-Decode.ensures c.decode_files.ensures.names);
+      unread = rw c.in-Decode.is (all_err c.decode_files.result c.all_done-in-Decode.result _ c.all_done-in-Decode.ensures c.decode_files.ensures.unread);
     }
 
 pub returns-in-Help : goal.returns-in-Help
@@ -157,6 +169,7 @@ returns-in-Help g c =
       none_made = rw c.in-Help.is refl;
       always_made = rw c.in-Help.is (nothing_said c.all_printed.result);
       names = rw c.in-Help.is (printed_fault _ _ _ is refl);
+      unread = rw c.in-Help.is (no_more_said c.all_printed.result);
     }
 
 pub returns-in-Version : goal.returns-in-Version
@@ -170,4 +183,5 @@ returns-in-Version g c =
       none_made = rw c.in-Version.is refl;
       always_made = rw c.in-Version.is (nothing_said c.all_printed-in-Version.result);
       names = rw c.in-Version.is (printed_fault _ _ _ is refl);
+      unread = rw c.in-Version.is (no_more_said c.all_printed-in-Version.result);
     }

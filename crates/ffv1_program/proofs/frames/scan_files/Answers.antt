@@ -1,12 +1,19 @@
-use Rattle.ffv1_program.proofs.Lists.{second_kept}
+use Rattle.std.proofs.Common.{rules}
+use Rattle.ffv1_commands.proofs.ScanCommandSteps.{scan_of_bytes}
 use Rattle.ffv1_commands.specs.declared.path.CommandPath.TheVariants.{Ranges}
+use Rattle.ffv1_program.proofs.Lists.{second_through}
+use Rattle.ffv1_program.proofs.Unread.{scan_unread}
 use Rattle.ffv1_program.proofs.frames.scan_files.Goals as goal
 
 pub returns : goal.returns
 returns g c =
+    let bytes = scan_of_bytes _ _ _ _ _ _ c.scan_of.result c.scan_of.ensures.scans in
+    let kept = second_through Ranges _ c.scan_of.result _ _ _ c.new.ensures.writer c.scan_of.ensures.in_turn in
     record {
-      ok = rw (c.input.ensures.bytes, c.input-2.ensures.bytes) at c.run_scan.ensures.ok;
-      err = rw (c.input.ensures.bytes, c.input-2.ensures.bytes) at c.run_scan.ensures.err;
-      untouched = second_kept Ranges _ _ c.run_scan.result c.run_scan.ensures.in_turn;
-      names = c.run_scan.ensures.names;
+      ok = search (rules, rw (c.device.ensures.bytes, c.device-2.ensures.bytes) at bytes.ok);
+      err = search (rules, rw (c.device.ensures.bytes, c.device-2.ensures.bytes) at bytes.err);
+      untouched = search (rules, kept);
+      names = c.scan_of.ensures.names;
+      unread = scan_unread (g.F.FileSystem.is_device_at c.args.files.now) g.F.Device.Source.log _ _ c.device.result c.scan_of.new.ranges c.device-2.result
+          c.scan_of.new.file c.device.ensures.at c.device-2.ensures.at _ _ c.scan_of.result c.scan_of.ensures.scans;
     }

@@ -1,10 +1,19 @@
+use Rattle.std.proofs.Common.{rules}
+use Rattle.ffv1_commands.proofs.DecodeSteps.{decode_of_bytes}
+use Rattle.ffv1_commands.proofs.Wrapped.{both_through}
+use Rattle.ffv1_program.proofs.Unread.{decode_unread}
 use Rattle.ffv1_program.proofs.pictures.decode_files.Goals as goal
 
 pub returns : goal.returns
 returns g c =
+    let r = c.decode_of.result in
+    let bytes = decode_of_bytes _ _ _ _ _ _ _ _ _ _ r c.decode_of.ensures.reported in
+    let kept = both_through r _ _ _ _ _ _ c.new.ensures.writer c.new-2.ensures.writer c.decode_of.ensures.untouched in
     record {
-      ok = rw (c.input.ensures.bytes, c.input-2.ensures.bytes) at c.run_decode.ensures.ok;
-      err = rw (c.input.ensures.bytes, c.input-2.ensures.bytes) at c.run_decode.ensures.err;
-      untouched = c.run_decode.ensures.untouched;
-      names = c.run_decode.ensures.names;
+      ok = search (rules, rw (c.device.ensures.bytes, c.device-2.ensures.bytes) at bytes.ok);
+      err = search (rules, rw (c.device.ensures.bytes, c.device-2.ensures.bytes) at bytes.err);
+      untouched = search (rules, kept);
+      names = bytes.names;
+      unread = decode_unread (g.F.FileSystem.is_device_at c.args.files.now) g.F.Device.Source.log _ _ c.device.result c.decode_of.new.configuration c.device-2.result
+          c.decode_of.new.input c.device.ensures.at c.device-2.ensures.at _ _ _ _ _ _ r c.decode_of.ensures.reported;
     }
