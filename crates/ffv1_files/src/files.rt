@@ -6,7 +6,7 @@ ghost use Rattle.ffv1_files.specs.Once.{OpensOnce, ReadsOnce, WritesOnce};
 ghost use Rattle.ffv1_files.specs.Files.{IsUnopenedAt, IsUnmadeAt};
 
 use crate::once::{Once, Opener};
-use crate::paths::{FilesByPath, PathToMake, PathToRead};
+use crate::paths::{FilesByPath, PathToOpen, Way};
 use std::io;
 use std::io::{Read, Write};
 
@@ -41,16 +41,20 @@ impl<O: Opener> Read for Input<O> {
 }
 
 /// A file at a path, which is read. No clause says which file it is and which bytes it has, since the contracts of std do not.
-pub type InputFile<'a, R> = Input<PathToRead<'a, R>>;
+pub type InputFile<'a, R> = Input<PathToOpen<'a, R>>;
 
-impl<'a, R: FilesByPath> Input<PathToRead<'a, R>> {
+impl<'a, R: FilesByPath> Input<PathToOpen<'a, R>> {
     /// The file at this path, not opened yet: that comes with its first read, whose error it then is.
     pub fn new(rt: &'a R, path: &'a str) -> InputFile<'a, R>
         ensures path { IsUnopenedAt result path.now }
-        ensures unopened { result.file ≡ Once.Unopened (record { rt = rt.entry; path = path.entry }) }
+        ensures unopened { result.file ≡ Once.Unopened (record { rt = rt.entry; way = Way.ToRead; path = path.entry }) }
     {
         Input {
-            file: Once::Unopened(PathToRead { rt, path }),
+            file: Once::Unopened(PathToOpen {
+                rt,
+                way: Way::ToRead,
+                path,
+            }),
         }
     }
 }
@@ -95,16 +99,20 @@ impl<O: Opener> Write for Output<O> {
 
 /// A file at a path, which is made. One that is there is emptied. No clause says which file it is and which bytes reach it, since the
 /// contracts of std do not.
-pub type OutputFile<'a, R> = Output<PathToMake<'a, R>>;
+pub type OutputFile<'a, R> = Output<PathToOpen<'a, R>>;
 
-impl<'a, R: FilesByPath> Output<PathToMake<'a, R>> {
+impl<'a, R: FilesByPath> Output<PathToOpen<'a, R>> {
     /// The file at this path, not made yet: that comes with its first write, whose error it then is, or with `make`.
     pub fn new(rt: &'a R, path: &'a str) -> OutputFile<'a, R>
         ensures path { IsUnmadeAt result path.now }
-        ensures unmade { result.file ≡ Once.Unopened (record { rt = rt.entry; path = path.entry }) }
+        ensures unmade { result.file ≡ Once.Unopened (record { rt = rt.entry; way = Way.ToMake; path = path.entry }) }
     {
         Output {
-            file: Once::Unopened(PathToMake { rt, path }),
+            file: Once::Unopened(PathToOpen {
+                rt,
+                way: Way::ToMake,
+                path,
+            }),
         }
     }
 }

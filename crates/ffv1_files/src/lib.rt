@@ -9,4 +9,4 @@ mod tests;
 
 pub use files::{InputFile, OutputFile};
 pub use once::Opener;
-pub use paths::PathToRead;
+pub use paths::{PathToOpen, Way};

@@ -3,7 +3,7 @@
 use crate::files::{FileSystem, MakeFile, ReadFile};
 use ffv1_commands::CliFault;
 use ffv1_devices::FromRead;
-use ffv1_files::{InputFile, Opener, OutputFile, PathToRead};
+use ffv1_files::{InputFile, Opener, OutputFile, PathToOpen};
 use std::alloc::Global;
 use std::io;
 use std::io::BufReader;
@@ -31,7 +31,7 @@ impl<'a, R: Files> ReadFile for InputFile<'a, R> {
     ghost is_opened = { λ file. IsFileOpened file };
 
     // its opening came to some error, and left it as it was
-    ghost cannot_open = { λ file. (error : Error) × OpensOnce ⟦<PathToRead<'a, R> as Opener>⟧.opens file.file (Err error) file.file };
+    ghost cannot_open = { λ file. (error : Error) × OpensOnce ⟦<PathToOpen<'a, R> as Opener>⟧.opens file.file (Err error) file.file };
 
     fn open(&mut self) -> io::Result<()> {
         InputFile::open(self)
@@ -39,7 +39,8 @@ impl<'a, R: Files> ReadFile for InputFile<'a, R> {
 }
 
 impl<'a, R: Files> FileSystem<'a> for Disk<'a, R> {
-    ghost use Rattle.std.specs.Prelude.{◌≡◌, None, ⊤};
+    ghost use Rattle.std.specs.Prelude.{◌≡◌, None};
+    ghost use Rattle.std.specs.Io.Buffered.{reader_inner};
     ghost use Rattle.ffv1_devices.specs.Streams.{reader_of};
     ghost use Rattle.ffv1_files.specs.Files.{IsUnopenedAt};
 
@@ -55,8 +56,7 @@ impl<'a, R: Files> FileSystem<'a> for Disk<'a, R> {
 
     ghost is_device_at = { λ _ path device. IsUnopenedAt (reader_of device) path };
 
-    // no clause of std says which reader a buffer has
-    ghost is_buffered_at = { λ _ _ _. ⊤ };
+    ghost is_buffered_at = { λ _ path device. IsUnopenedAt (reader_inner (reader_of device)) path };
 
     fn input(&self, path: &'a str) -> InputFile<'a, R> {
         InputFile::new(self.rt, path)
