@@ -91,8 +91,9 @@ impl ReadFile for FakeInput<'_> {
 }
 
 impl<'a> FileSystem<'a> for Fakes<'a> {
-    ghost use Rattle.std.specs.Prelude.{◌≡◌, Some, ⊤, codes, if◌then◌else◌};
+    ghost use Rattle.std.specs.Prelude.{◌≡◌, Some, codes, if◌then◌else◌};
     ghost use Rattle.std.specs.Str.{bytes_eq};
+    ghost use Rattle.std.specs.Io.Buffered.{reader_inner};
     ghost use Rattle.ffv1_devices.specs.Streams.{reader_of};
 
     type Input = FakeInput<'a>;
@@ -107,7 +108,7 @@ impl<'a> FileSystem<'a> for Fakes<'a> {
 
     ghost is_device_at = { λ _ path device. (reader_of device).path.now ≡ path };
 
-    ghost is_buffered_at = { λ _ _ _. ⊤ };
+    ghost is_buffered_at = { λ _ path device. (reader_inner (reader_of device)).path.now ≡ path };
 
     fn input(&self, path: &'a str) -> FakeInput<'a> {
         FakeInput {
