@@ -1,4 +1,4 @@
--- What stands behind a fault that says that a file was not read: a source of that file that was given up, or gave too many bytes. A
+-- What a fault that says that a file was not read rests on: a source of that file that was given up, or gave too many bytes. A
 -- file system has its own sources, and no other can be named.
 use Rattle.std.specs.Prelude.{ℕ, ◌≡◌, List, Err}
 use Rattle.ffv1_devices.specs.Logs.{ReadLog}
