@@ -22,7 +22,7 @@ use std::io::Write;
 /// Prints the chain of the frame of this path.
 ///
 /// It stops where `chain_of` does. After a fault that is not `Write` nothing was printed.
-pub fn chain_file<'a, F: FileSystem<'a>, W: Write>(
+pub(crate) fn chain_file<'a, F: FileSystem<'a>, W: Write>(
     alloc: Global,
     files: &F,
     frame: &'a str,
@@ -45,7 +45,7 @@ pub fn chain_file<'a, F: FileSystem<'a>, W: Write>(
 /// Scans the ranges of a file, by the list of another.
 ///
 /// It stops where `scan_of` does. After a fault of the list nothing was printed.
-pub fn scan_files<'a, F: FileSystem<'a>, W: Write>(
+pub(crate) fn scan_files<'a, F: FileSystem<'a>, W: Write>(
     alloc: Global,
     files: &F,
     ranges: &'a str,
@@ -71,7 +71,7 @@ pub fn scan_files<'a, F: FileSystem<'a>, W: Write>(
 /// Prints the setup of this record.
 ///
 /// It stops where `show_of` does. After a fault that is not `Write` nothing was printed.
-pub fn show_record<'a, F: FileSystem<'a>, W: Write>(
+pub(crate) fn show_record<'a, F: FileSystem<'a>, W: Write>(
     alloc: Global,
     files: &F,
     recording: &Recording<'a>,
@@ -99,7 +99,7 @@ pub fn show_record<'a, F: FileSystem<'a>, W: Write>(
 ///
 /// It stops where `run_splice` does; with `Words` where there is no copy; and with `Write` where the file can't be made. After a fault
 /// that is not `Write` nothing was written or printed.
-pub fn splice_files<'a, F: FileSystem<'a>, O: MakeFile, W: Write>(
+pub(crate) fn splice_files<'a, F: FileSystem<'a>, O: MakeFile, W: Write>(
     alloc: Global,
     files: &F,
     copies: &[&'a str],

@@ -23,7 +23,7 @@ use std::io::Write;
 ///
 /// It stops where `run_take` does, and with `Memory` if memory for the copies can't be allocated. After a fault that is not `Write` nothing
 /// was written or printed.
-pub fn take_files<'a, F: FileSystem<'a>, O: Write, W: Write>(
+pub(crate) fn take_files<'a, F: FileSystem<'a>, O: Write, W: Write>(
     alloc: Global,
     files: &F,
     recording: &Recording<'a>,
@@ -56,7 +56,7 @@ pub fn take_files<'a, F: FileSystem<'a>, O: Write, W: Write>(
 ///
 /// It stops where `run_join` does, and with `Memory` if memory for the files can't be allocated. After a fault that is not `Write` nothing
 /// was written or printed.
-pub fn join_files<'a, F: FileSystem<'a>, O: Write, W: Write>(
+pub(crate) fn join_files<'a, F: FileSystem<'a>, O: Write, W: Write>(
     alloc: Global,
     files: &F,
     first: &'a str,
@@ -86,7 +86,7 @@ pub fn join_files<'a, F: FileSystem<'a>, O: Write, W: Write>(
 ///
 /// It stops where `run_merge` does; with `Write` where `out` is one of their words; and with `Read` of the first file that can't be
 /// opened. Then the file that is made is not touched, and neither is it where the heads of both are of another record or size.
-pub fn merge_files<'a, F: FileSystem<'a>, O: Write>(
+pub(crate) fn merge_files<'a, F: FileSystem<'a>, O: Write>(
     alloc: Global,
     files: &F,
     left: &'a str,
@@ -120,7 +120,7 @@ pub fn merge_files<'a, F: FileSystem<'a>, O: Write>(
 /// Prints the report of the holding file of this path.
 ///
 /// It stops where `report_of` does, and with `Memory` if a buffer can't be allocated. After a fault that is not `Write` nothing was printed.
-pub fn report_file<'a, F: FileSystem<'a>, W: Write>(
+pub(crate) fn report_file<'a, F: FileSystem<'a>, W: Write>(
     alloc: Global,
     files: &F,
     file: &'a str,
@@ -139,7 +139,7 @@ pub fn report_file<'a, F: FileSystem<'a>, W: Write>(
 /// Restores the frame of the holding file of this path into the file that is made.
 ///
 /// It stops where `restore_of` does, and with `Memory` if a buffer can't be allocated. After a fault that is not `Write` nothing was written or printed.
-pub fn restore_file<'a, F: FileSystem<'a>, O: Write, W: Write>(
+pub(crate) fn restore_file<'a, F: FileSystem<'a>, O: Write, W: Write>(
     alloc: Global,
     files: &F,
     file: &'a str,

@@ -15,8 +15,4 @@ mod stretches;
 pub use command::{out_word, run};
 pub use disk::Disk;
 pub use files::{FileSystem, MakeFile, ReadFile};
-pub use frames::{chain_file, scan_files, show_record, splice_files};
-pub use holdings::{join_files, merge_files, report_file, restore_file, take_files};
-pub use pictures::{decode_files, picture_file};
 pub use reporting::{OUT_OF_MEMORY, command_line, early_line, end_status};
-pub use stretches::mend_files;

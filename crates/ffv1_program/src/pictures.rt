@@ -17,7 +17,7 @@ use std::io::Write;
 /// Writes what can be shown of the holding file of this path to the file that is made.
 ///
 /// It stops where `picture_of` does, and with `Memory` if a buffer can't be allocated. After a fault that is not `Write` nothing was written or printed.
-pub fn picture_file<'a, F: FileSystem<'a>, O: Write, W: Write>(
+pub(crate) fn picture_file<'a, F: FileSystem<'a>, O: Write, W: Write>(
     alloc: Global,
     files: &F,
     file: &'a str,
@@ -44,7 +44,7 @@ pub fn picture_file<'a, F: FileSystem<'a>, O: Write, W: Write>(
 /// Decodes the frame of these paths into the file that is made.
 ///
 /// It stops where `decode_of` does. After a fault that is not `Write` nothing was written or printed.
-pub fn decode_files<'a, F: FileSystem<'a>, O: Write, W: Write>(
+pub(crate) fn decode_files<'a, F: FileSystem<'a>, O: Write, W: Write>(
     alloc: Global,
     files: &F,
     recording: &Recording<'a>,

@@ -25,7 +25,7 @@ fn is_among(word: &str, words: &[&str]) -> bool
 ///
 /// It stops where `run_mend` does; with `Write` where `out` is the word of an input, or the file can't be made; and with `Memory` if
 /// memory for the copies can't be allocated. After a fault of the list, or where `out` is an input, nothing was written or printed.
-pub fn mend_files<'a, F: FileSystem<'a>, O: MakeFile, W: Write>(
+pub(crate) fn mend_files<'a, F: FileSystem<'a>, O: MakeFile, W: Write>(
     alloc: Global,
     files: &F,
     list: &'a str,
