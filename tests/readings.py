@@ -35,7 +35,7 @@ def with_parity(content):
 
 
 # FORMAT: Footers
-def sliced(content, status):
+def sliced(content, status=0):
     """A slice of this content, whose footer fits it."""
     return with_parity(content + (len(content) & 0xFFFFFF).to_bytes(3, "big") + bytes([status]))
 
