@@ -17,7 +17,7 @@ $(PROGRAM): crates.txt $(shell find crates -path '*/out' -prune -o -type f -prin
 	cd crates/ffv1restore && rt run -- chain data/f22.bin > /dev/null
 
 # What the gate needs is looked for, and installed where that may be done. Then come the gate, the cases of the program that it has built,
-# files that fail, growths that are refused, and rotten files.
+# files that fail, growths that are refused, and damaged files.
 test:
 	tests/needs
 	rm -f $(PROGRAM) $(CALLS)
@@ -40,13 +40,13 @@ cases:
 	tests/run $(PROGRAM)
 
 # Small recordings, cut and zeroed at every place, and Matroska files at every sixteenth.
-ROTTEN := gray-48x32-4-slices gray-64x64-1x1-tiles-one-run-flat gray-64x7-3x2-tiles-six-runs-alternating \
+SMALL := gray-48x32-4-slices gray-64x64-1x1-tiles-one-run-flat gray-64x7-3x2-tiles-six-runs-alternating \
 	gray-7x2-3x2-tiles-two-runs-rising yuv410p-64x64-2x2-tiles-one-run-alternating yuv420p-64x64-1x1-tiles-two-runs-flat \
 	yuv420p-7x64-3x2-tiles-one-run-alternating yuv420p-7x7-1x1-tiles-six-runs-rising yuv422p-64x7-1x1-tiles-one-run-alternating
 rot:
-	tests/fuzz $(PROGRAM) 0 --bursts 200 --every $(ROTTEN) --files matroska-flac matroska-pcm
+	tests/fuzz $(PROGRAM) 0 --bursts 200 --every $(SMALL) --files matroska-flac matroska-pcm
 
-# Rotten files for so many SECONDS, by so many WORKERS at a time, and then damage within 32 bits: other ones for each SEED.
+# Damaged files for so many SECONDS, by so many WORKERS at a time, and then damage within 32 bits: other ones for each SEED.
 SECONDS ?= 60
 WORKERS ?= 1
 SEED ?= 0

@@ -139,11 +139,11 @@ class Recording:
         self.commands.append(Command(["scan", "list-of-ranges", "recording"], printed, None, status, refused))
 
     def add_mend(self):
-        """Two copies of a file of a few stretches, each hurt in another place of each stretch that has a checksum."""
+        """Two copies of a file of a few stretches, each damaged in another place of each stretch that has a checksum."""
         element, size = readings.element_of(self.frame + bytes(100)), len(self.frame)
         for name, place in ("file-a", 20), ("file-b", size // 2):
-            hurt = makings.inverted(self.frame, place), makings.inverted(element, 6 + place)
-            self.inputs[name] = b"head" + b"".join(hurt) + b"tail"
+            damaged = makings.inverted(self.frame, place), makings.inverted(element, 6 + place)
+            self.inputs[name] = b"head" + b"".join(damaged) + b"tail"
         lines = ["plain 4 1 0 0", f"frame {size} 1 4 4", f"crc32 {len(element)} 1 {4 + size} {4 + size}", f"part 6 {size}"]
         lines.append(f"plain 4 2 {4 + size + len(element)} {4 + size + len(element)}")
         self.inputs["list"] = "".join(f"{line}\n" for line in lines).encode()
