@@ -31,7 +31,7 @@ test:
 	tests/memory $(CALLS) $(PROGRAM)
 	$(MAKE) rot
 
-# The unit tests in Python: of mend-reel, and of the table of definitions in docs/MAP.md.
+# The unit tests in Python: of mend-reel, and of the scripts of tests/.
 units:
 	PYTHONPATH=tools PYTHONDONTWRITEBYTECODE=1 python3 -m unittest discover -s tests/units -t tests
 
