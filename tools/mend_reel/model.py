@@ -10,7 +10,8 @@ import dataclasses
 import enum
 import os
 import stat
-import typing
+from collections.abc import Callable, Iterator, Mapping, Sequence
+from typing import Any
 
 
 MATROSKA = "matroska"
@@ -21,7 +22,7 @@ class Fault(Exception):
 
 
 @contextlib.contextmanager
-def or_fault(what: str) -> typing.Iterator[None]:
+def or_fault(what: str) -> Iterator[None]:
     """Makes a fault of what the system refuses, in a line that begins with what could not be done."""
     try:
         yield
@@ -85,9 +86,9 @@ class What:
     """What the bytes of a stretch are, of which track if of one, and from when to when they play if that is known."""
 
     content: Content
-    track: typing.Optional[int] = None
-    start: typing.Optional[float] = None
-    end: typing.Optional[float] = None
+    track: int | None = None
+    start: float | None = None
+    end: float | None = None
 
 
 @dataclasses.dataclass(frozen=True)
@@ -103,7 +104,7 @@ class Track:
     width: int = 0
     height: int = 0
     record: bytes = b""
-    step: typing.Optional[float] = None
+    step: float | None = None
     byte_rate: float = 0.0
     is_encoded: bool = False
     is_flac: bool = False
@@ -129,12 +130,12 @@ class Claims:
     """What a file claims of itself beside its frames: how long it plays, and by track how many frames it has, at what times its index
     says that some lie, and when it ends. Nothing where it does not say."""
 
-    duration: typing.Optional[float] = None
-    counts: typing.Mapping[int, int] = dataclasses.field(default_factory=dict)
-    index: typing.Mapping[int, typing.Sequence[float]] = dataclasses.field(default_factory=dict)
-    ends: typing.Mapping[int, float] = dataclasses.field(default_factory=dict)
+    duration: float | None = None
+    counts: Mapping[int, int] = dataclasses.field(default_factory=dict)
+    index: Mapping[int, Sequence[float]] = dataclasses.field(default_factory=dict)
+    ends: Mapping[int, float] = dataclasses.field(default_factory=dict)
 
-    def of_tracks(self, numbers: typing.Mapping[int, int]) -> Claims:
+    def of_tracks(self, numbers: Mapping[int, int]) -> Claims:
         """What another file claims of OUT: how long it plays, and how many frames those of its tracks have that have numbers in OUT. Its
         times may begin elsewhere."""
         return Claims(self.duration, {numbers[track]: count for track, count in self.counts.items() if track in numbers})
@@ -167,7 +168,7 @@ class Stretch:
     start: int
     size: int
     what: What
-    places: tuple[typing.Optional[int], ...] = ()
+    places: tuple[int | None, ...] = ()
     parts: tuple[Frame, ...] = ()
     sound: tuple[tuple[int, int], ...] = ()
     vouched: frozenset[int] = frozenset()
@@ -204,7 +205,7 @@ class Layout:
     claims: Claims = Claims()
     gaps: list[tuple[int, int]] = dataclasses.field(default_factory=list)
     rises: bool = False
-    end: typing.Optional[int] = None
+    end: int | None = None
     bare: list[tuple[int, int]] = dataclasses.field(default_factory=list)
 
     def contents(self) -> collections.Counter[Content]:
@@ -227,9 +228,9 @@ class Copy:
     file: int
     size: int
     form: str = ""
-    unread: typing.Sequence[tuple[int, int]] = ()
-    watch: typing.Callable[[int], None] = unwatched
-    container: typing.Any = dataclasses.field(default=None, repr=False, compare=False)
+    unread: Sequence[tuple[int, int]] = ()
+    watch: Callable[[int], None] = unwatched
+    container: Any = dataclasses.field(default=None, repr=False, compare=False)
 
     def read(self, place: int, size: int) -> bytes:
         """Bytes of the file; fewer where it ends."""
@@ -274,7 +275,7 @@ class Outcome:
     state: State
     count: int
     marks: str
-    slices: typing.Mapping[int, tuple[SliceReport, ...]] = dataclasses.field(default_factory=dict)
+    slices: Mapping[int, tuple[SliceReport, ...]] = dataclasses.field(default_factory=dict)
 
     def is_undamaged(self) -> bool:
         """Whether each copy that has the stretch has what OUT has, and nothing is open."""

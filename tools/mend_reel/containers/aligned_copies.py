@@ -2,7 +2,7 @@
 from __future__ import annotations
 
 import os
-import typing
+from collections.abc import Iterable, Sequence
 
 from ..model import Copy
 from . import ebml
@@ -29,8 +29,7 @@ class Steps:
 class AlignedCopies:
     """The copies of one file, read in windows. `numbers` are those that count."""
 
-    def __init__(self, copies: typing.Sequence[Copy], numbers: typing.Optional[typing.Iterable[int]] = None,
-                 steps: typing.Optional[Steps] = None) -> None:
+    def __init__(self, copies: Sequence[Copy], numbers: Iterable[int] | None = None, steps: Steps | None = None) -> None:
         self.copies = copies
         self.numbers = tuple(range(len(copies)) if numbers is None else numbers)
         self.end = max((copies[number].size for number in self.numbers), default=0)
@@ -39,7 +38,7 @@ class AlignedCopies:
         self.steps = steps or Steps(self.end)
         self._windows: list[tuple[int, bytes]] = [(0, b"")] * len(copies)
 
-    def reaching(self, place: int) -> typing.Sequence[int]:
+    def reaching(self, place: int) -> Sequence[int]:
         """Returns the copies that have a byte at a place."""
         return self.numbers if place < self._least else [number for number in self.numbers if place < self.copies[number].size]
 

@@ -3,7 +3,8 @@ from __future__ import annotations
 
 import collections
 import re
-import typing
+from collections.abc import Callable, Iterable, Iterator, Sequence
+from typing import NamedTuple
 
 from ..model import Content, Frame, Track
 from . import ebml, elements, slice_footers
@@ -23,7 +24,7 @@ SHORT_HEAD = 12
 SIZE = rb"(?:[\x80-\xfe]|[\x40-\x7f].|[\x20-\x3f].{2}|[\x10-\x1f].{3}|[\x08-\x0f].{4}|[\x04-\x07].{5}|[\x02\x03].{6}|\x01.{7})"
 
 
-class Item(typing.NamedTuple):
+class Item(NamedTuple):
     """A run of bytes of a cluster: what it is, of which track and when, if it is of a block, and the copies that its container vouches
     for there. `frame` is set where it is a frame of an FFV1 track, `is_gap` where no copy divides it, `lasts` where its length of
     time is given, `is_flac` where it is a frame of FLAC."""
@@ -31,16 +32,16 @@ class Item(typing.NamedTuple):
     start: int
     end: int
     content: Content
-    track: typing.Optional[int] = None
-    time: typing.Optional[float] = None
+    track: int | None = None
+    time: float | None = None
     vouched: Numbers = NONE
-    frame: typing.Optional[Frame] = None
+    frame: Frame | None = None
     is_gap: bool = False
     lasts: float = 0.0
     is_flac: bool = False
 
 
-class BlockHead(typing.NamedTuple):
+class BlockHead(NamedTuple):
     """The head of a block: its track, its time after the cluster's, its flags, and where its payload starts."""
 
     track: int
@@ -49,7 +50,7 @@ class BlockHead(typing.NamedTuple):
     payload: int
 
 
-def read_block_head(data: bytes, place: int) -> typing.Optional[BlockHead]:
+def read_block_head(data: bytes, place: int) -> BlockHead | None:
     """Returns the head that some bytes begin with, which lie at a place of the file."""
     track, at = ebml.read_size(data, 0) or (None, 0)
     if track is None or len(data) < at + 3:
@@ -57,14 +58,14 @@ def read_block_head(data: bytes, place: int) -> typing.Optional[BlockHead]:
     return BlockHead(track, int.from_bytes(data[at : at + 2], "big", signed=True), data[at + 2], place + at + 3)
 
 
-def block_signs(tracks: typing.Iterable[int]) -> typing.Callable[[bytes], typing.Iterable[int]]:
+def block_signs(tracks: Iterable[int]) -> Callable[[bytes], Iterable[int]]:
     """Returns what finds the offsets in some bytes at which a block of one of some tracks seems to begin."""
     numbers = b"|".join(re.escape(bytes([0x80 | number])) for number in tracks if number < 127) or rb"[\x81-\xfe]"
     pattern = re.compile(rb"(?=(?:\xa3|\xa0" + SIZE + rb"\xa1)" + SIZE + rb"(?:" + numbers + rb")..[\x00-\xff])", re.DOTALL)
     return lambda piece: (match.start() for match in pattern.finditer(piece))
 
 
-def framing(child: elements.Child, track: typing.Optional[int] = None, time: typing.Optional[float] = None) -> typing.Iterator[Item]:
+def framing(child: elements.Child, track: int | None = None, time: float | None = None) -> Iterator[Item]:
     """Yields the items of an element's head: its ID and its size apart where different copies are right about them."""
     if child.identified == child.sized:
         yield Item(child.place, child.content, Content.FRAMING, track, time, child.vouched)
@@ -105,7 +106,7 @@ class Clusters:
                 self.aligned = whole
         return items or self.items(division.careful())
 
-    def _agreed(self, content: int, end: int) -> typing.Optional[list[Item]]:
+    def _agreed(self, content: int, end: int) -> list[Item] | None:
         """Returns the items of a cluster of SimpleBlocks whose heads all copies have alike, in one pass, as nearly all clusters are."""
         items: list[Item] = []
         last, expected = dict(self._last), dict(self._expected)
@@ -136,24 +137,24 @@ class Clusters:
         self._last, self._expected = last, expected
         return items
 
-    def payloads(self, content: int, end: int) -> typing.Iterator[tuple[int, int, int]]:
+    def payloads(self, content: int, end: int) -> Iterator[tuple[int, int, int]]:
         """Yields the track, the start and the end of each payload in a cluster."""
         for child in elements.divide(self.aligned, content, end, self.schema, self.budget):
             head = self._head(child, None) if child.identity == SIMPLE_BLOCK else None
             if head:
                 yield head.track, head.payload, child.end
 
-    def _is_frame(self, aligned: AlignedCopies, child: elements.Child) -> typing.Optional[bool]:
+    def _is_frame(self, aligned: AlignedCopies, child: elements.Child) -> bool | None:
         """Reports whether footers lead through the payload of a block of an FFV1 track in some copy."""
         copies = [aligned.copies[number] for number in aligned.numbers if child.identity == SIMPLE_BLOCK]
         heads = [(copy, head) for copy in copies for head in [read_block_head(copy.read(child.content, LONGEST_BLOCK_HEAD), child.content)]
                  if head and head.track in self.tracks and self.tracks[head.track].is_ffv1]
         return any(slice_footers.is_frame(copy, head.payload, child.end) for copy, head in heads) if heads else None
 
-    def items(self, children: typing.Sequence[elements.Child]) -> list[Item]:
+    def items(self, children: Sequence[elements.Child]) -> list[Item]:
         """Returns the items of some children of a cluster."""
         items: list[Item] = []
-        start: typing.Optional[int] = None
+        start: int | None = None
         for child in children:
             if child.identity == TIMESTAMP:
                 start = self._start(child)
@@ -179,7 +180,7 @@ class Clusters:
     def _seconds(self, time: int) -> float:
         return time * self.scale / NANOSECONDS
 
-    def _start(self, child: elements.Child) -> typing.Optional[int]:
+    def _start(self, child: elements.Child) -> int | None:
         """Returns a cluster's time: that of most copies, or the one next to what is expected."""
         frames = [self._expected[number] for number, track in self.tracks.items() if track.is_ffv1 and number in self._expected]
         expected = min(frames or self._expected.values(), default=0.0)
@@ -187,7 +188,7 @@ class Clusters:
                  for is_doubtful, version in self._versions(child.content, min(child.end - child.content, 8))]
         return min(times, key=lambda each: (each[0], abs(self._seconds(each[1]) - expected)), default=(True, None))[1]
 
-    def _heads(self, place: int, size: int, end: int, start: typing.Optional[int]) -> list[BlockHead]:
+    def _heads(self, place: int, size: int, end: int, start: int | None) -> list[BlockHead]:
         """Returns the heads that the copies have of a block which ends at a place, the likeliest first: that of a known track, which is of
         FFV1 if footers lead through its payload, without lacing, that most copies have, of a time next to what is expected."""
         heads = [(is_doubtful, head) for is_doubtful, version in self._versions(place, size)
@@ -207,7 +208,7 @@ class Clusters:
     def _has_footers(self, payload: int, end: int) -> bool:
         return any(slice_footers.is_frame(self.aligned.copies[number], payload, end) for number in self.aligned.numbers)
 
-    def _head(self, child: elements.Child, start: typing.Optional[int]) -> typing.Optional[BlockHead]:
+    def _head(self, child: elements.Child, start: int | None) -> BlockHead | None:
         """Returns the likeliest head of a block."""
         size = child.end - child.content
         for most in (SHORT_BLOCK_HEAD, LONGEST_BLOCK_HEAD):
@@ -225,7 +226,7 @@ class Clusters:
         number = head.track if head.track in numbers else min(numbers, key=lambda each: self._expected.get(each, 0.0))
         return head._replace(track=number, flags=head.flags & ~LACING)
 
-    def _time(self, head: BlockHead, start: typing.Optional[int]) -> float:
+    def _time(self, head: BlockHead, start: int | None) -> float:
         """Returns the time of a block, and keeps when the next one of its track is expected: after the time from a frame to the next, or
         as long after this one as this came after the one before. Where the cluster's time is lost, the block comes when it is expected."""
         time = self._expected.get(head.track, 0.0) if start is None else self._seconds(start + head.time)
@@ -233,7 +234,7 @@ class Clusters:
         self._last[head.track], self._expected[head.track] = time, round(time + step, DIGITS)
         return time
 
-    def _block(self, child: elements.Child, start: typing.Optional[int], key: typing.Optional[bool] = None) -> typing.Iterator[Item]:
+    def _block(self, child: elements.Child, start: int | None, key: bool | None = None) -> Iterator[Item]:
         """Yields the items of a block: its head and its payload, in one if copies agree on the head and it is no FFV1. A Block in a group
         has no flag of its own that it is a keyframe."""
         head = self._head(child, start)
@@ -250,7 +251,7 @@ class Clusters:
         if head.payload < child.end:
             yield self._payload(head, child.end, track, time, bool(head.flags & KEY) if key is None else key)
 
-    def _undivided(self, child: elements.Child, start: typing.Optional[int]) -> typing.Iterator[Item]:
+    def _undivided(self, child: elements.Child, start: int | None) -> Iterator[Item]:
         """Yields the items of bytes that no copy divides, or of an element of an unknown ID. Where footers lead from their end to where a
         block's payload would begin, they are a frame but for the block's head."""
         first, last = child.place + 2 + BLOCK_FIELDS, child.place + 9 + BLOCK_FIELDS
@@ -269,14 +270,14 @@ class Clusters:
         yield self._payload(head, child.end, track, time, True)
 
     @staticmethod
-    def _payload(head: BlockHead, end: int, track: typing.Optional[Track], time: float, key: bool) -> Item:
+    def _payload(head: BlockHead, end: int, track: Track | None, time: float, key: bool) -> Item:
         content = track.content if track else Content.UNKNOWN
         if track and track.is_ffv1 and not head.flags & LACING:
             frame = Frame(head.track, time, head.payload, end - head.payload, key)
             return Item(head.payload, end, Content.FRAME, head.track, time, frame=frame)
         return Item(head.payload, end, content, head.track, time, is_flac=bool(track and track.is_flac and not head.flags & LACING))
 
-    def _group(self, child: elements.Child, start: typing.Optional[int]) -> typing.Iterator[Item]:
+    def _group(self, child: elements.Child, start: int | None) -> Iterator[Item]:
         """Yields the items of a BlockGroup."""
         yield from framing(child)
         children = elements.divide(self.aligned, child.content, child.end, elements.Schema(IN_GROUP, longest=NUMBERS), self.budget)

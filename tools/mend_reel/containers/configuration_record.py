@@ -1,7 +1,7 @@
 """The coder of a recording, as its Configuration Record says (RFC 9043, section 4.2.3)."""
 from __future__ import annotations
 
-import typing
+from collections.abc import Iterable
 
 from ..model import Track
 
@@ -50,7 +50,7 @@ class RangeDecoder:
             self.range, self.low = self.range * 256, self.low * 256 + next(self.bytes, 0)
         return bit
 
-    def number(self) -> typing.Optional[int]:
+    def number(self) -> int | None:
         """An unsigned number (section 3.8.1.2), or None where it has more bits than any has."""
         if self.bit(0):
             return 0
@@ -65,7 +65,7 @@ class RangeDecoder:
         return value
 
 
-def coder_of(record: bytes) -> typing.Optional[int]:
+def coder_of(record: bytes) -> int | None:
     """The number of the coder, the third in a record: 0 is Golomb-Rice, and others are range coders. None where no record can be read."""
     if len(record) < 6 or record[0] == 0xFF:
         return None
@@ -78,7 +78,7 @@ def has_range_coder(record: bytes) -> bool:
     return coder_of(record) not in (None, GOLOMB_RICE)
 
 
-def places(data: bytes, start: int, tracks: typing.Iterable[Track]) -> list[tuple[int, int]]:
+def places(data: bytes, start: int, tracks: Iterable[Track]) -> list[tuple[int, int]]:
     """From where to where the records of FFV1 tracks lie in some bytes, which begin at a place."""
     records = {track.record for track in tracks if track.is_ffv1 and len(track.record) >= FEWEST_BYTES and track.record in data}
     return sorted((start + data.find(record), start + data.find(record) + len(record)) for record in records)

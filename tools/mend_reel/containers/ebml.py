@@ -2,7 +2,8 @@
 from __future__ import annotations
 
 import struct
-import typing
+from collections.abc import Iterator, Sequence
+from typing import NamedTuple
 import zlib
 
 from ..model import Copy, Stretch
@@ -16,17 +17,17 @@ LENGTHS = [9 - first.bit_length() for first in range(256)]
 MASKS = [(1 << 7 * length) - 1 for length in range(9)]
 
 
-class Head(typing.NamedTuple):
+class Head(NamedTuple):
     """An element's head: its ID with the marker bit, where its size begins, and where its content starts and ends. The end is None where
     the size is unknown."""
 
     identity: int
     sized: int
     content: int
-    end: typing.Optional[int]
+    end: int | None
 
 
-def read_identity(data: bytes, at: int) -> typing.Optional[tuple[int, int]]:
+def read_identity(data: bytes, at: int) -> tuple[int, int] | None:
     """Returns an element's ID and its length in bytes, or None where there is none. IDs whose data bits are all equal are reserved."""
     length = LENGTHS[data[at]] if at < len(data) else 9
     if length > 4 or at + length > len(data):
@@ -35,7 +36,7 @@ def read_identity(data: bytes, at: int) -> typing.Optional[tuple[int, int]]:
     return None if identity & MASKS[length] in (0, MASKS[length]) else (identity, length)
 
 
-def read_size(data: bytes, at: int) -> typing.Optional[tuple[typing.Optional[int], int]]:
+def read_size(data: bytes, at: int) -> tuple[int | None, int] | None:
     """Returns a variable-size number and its length in bytes, or None where there is none. The number is None if it is the unknown size."""
     length = LENGTHS[data[at]] if at < len(data) else 9
     if length > 8 or at + length > len(data):
@@ -44,7 +45,7 @@ def read_size(data: bytes, at: int) -> typing.Optional[tuple[typing.Optional[int
     return None if size == MASKS[length] else size, length
 
 
-def read_head(data: bytes, at: int, place: int) -> typing.Optional[Head]:
+def read_head(data: bytes, at: int, place: int) -> Head | None:
     """Returns the head at an offset of some bytes, which lies at a place of the file, or None where there is none."""
     length = LENGTHS[data[at]] if at < len(data) else 9
     sized = at + length
@@ -77,13 +78,13 @@ def passes(copy: Copy, content: int, end: int) -> bool:
     return sum_ == int.from_bytes(head[2:], "little")
 
 
-def passes_in(stretch: Stretch, copies: typing.Sequence[Copy], number: int) -> bool:
+def passes_in(stretch: Stretch, copies: Sequence[Copy], number: int) -> bool:
     """Reports whether a copy has an element's content, and it passes there."""
     place = stretch.places[number]
     return place is not None and passes(copies[number], place, place + stretch.size)
 
 
-def heads(data: bytes) -> typing.Iterator[Head]:
+def heads(data: bytes) -> Iterator[Head]:
     """Yields the heads of the children in a master's content, up to the first that does not lie within it."""
     at = 0
     while at < len(data):
@@ -94,7 +95,7 @@ def heads(data: bytes) -> typing.Iterator[Head]:
         at = head.end
 
 
-def children(data: bytes) -> typing.Iterator[tuple[int, bytes]]:
+def children(data: bytes) -> Iterator[tuple[int, bytes]]:
     """Yields the ID and the content of each such child."""
     return ((head.identity, data[head.content : head.end]) for head in heads(data))
 

@@ -9,7 +9,8 @@ from __future__ import annotations
 import bisect
 import dataclasses
 import heapq
-import typing
+from collections.abc import Callable, Iterable, Iterator, Mapping, Sequence
+from typing import NamedTuple
 
 from . import ebml
 from .aligned_copies import NONE, AlignedCopies, Budget, Numbers
@@ -22,7 +23,7 @@ UNDIVIDED = 0
 Cost = tuple[int, int, int]
 
 
-class Child(typing.NamedTuple):
+class Child(NamedTuple):
     """A child, or bytes that no copy can divide. An opened element ends where its content starts. `identified` and `sized` are the copies
     whose ID and size are the child's, where its end is no mere guess. One without a head is known by its children alone."""
 
@@ -40,7 +41,7 @@ class Child(typing.NamedTuple):
         return self.identified & self.sized
 
 
-def decided(child: Child, rivals: typing.Sequence[Child]) -> Child:
+def decided(child: Child, rivals: Sequence[Child]) -> Child:
     """Returns a child, for whose ID and size no copy vouches where what else may stand there speaks as well for others."""
     is_named = all(rival.identity == child.identity for rival in rivals)
     is_sized = all(rival.end == child.end and rival.content == child.content for rival in rivals)
@@ -60,10 +61,10 @@ class Schema:
     opened: Numbers = NONE
     live: Numbers = NONE
     inner: Numbers = NONE
-    signs: typing.Callable[[bytes], typing.Iterable[int]] = lambda piece: ()
+    signs: Callable[[bytes], Iterable[int]] = lambda piece: ()
     reach: int = 4
-    longest: typing.Mapping[int, int] = dataclasses.field(default_factory=dict)
-    confirms: typing.Callable[[AlignedCopies, Child], typing.Optional[bool]] = lambda aligned, child: None
+    longest: Mapping[int, int] = dataclasses.field(default_factory=dict)
+    confirms: Callable[[AlignedCopies, Child], bool | None] = lambda aligned, child: None
 
 
 class Walk:
@@ -80,7 +81,7 @@ class Walk:
 
     # ---- where all copies agree
 
-    def quick(self) -> typing.Optional[list[Child]]:
+    def quick(self) -> list[Child] | None:
         """Returns the children if all copies have the same known heads up to the master's end, and None if not."""
         children, place, live = [], self.start, False
         while place < self.end:
@@ -91,7 +92,7 @@ class Walk:
             place, live = child.end, self._stays_live(child, live)
         return children
 
-    def _agreed(self, place: int, live: bool) -> typing.Optional[Child]:
+    def _agreed(self, place: int, live: bool) -> Child | None:
         """Returns the child at a place of which all copies that reach there have the same known head."""
         numbers = self.aligned.reaching(place)
         first = self.aligned.peek(numbers[0], place, ebml.LONGEST_HEAD) if numbers else b""
@@ -113,7 +114,7 @@ class Walk:
         """Reports whether what follows a child may belong to an element of unknown size."""
         return child.end == child.content if child.identity in self.schema.live else live
 
-    def _child(self, place: int, head: ebml.Head, identified: Numbers, sized: Numbers) -> typing.Optional[Child]:
+    def _child(self, place: int, head: ebml.Head, identified: Numbers, sized: Numbers) -> Child | None:
         """Returns the child that a head begins, or None where its size can't be."""
         identity, _, content, end = head
         if identity in self.schema.opened or end is None and identity in self.schema.live:
@@ -137,7 +138,7 @@ class Walk:
                 identities.setdefault(identity, set()).add(number)
         found = []
         for (value, length), identified in sorted(identities.items()):
-            sizes: dict[tuple[typing.Optional[int], int], set[int]] = {}
+            sizes: dict[tuple[int | None, int], set[int]] = {}
             for number, each in data.items():
                 size = ebml.read_size(each, length)
                 if size:
@@ -166,7 +167,7 @@ class Walk:
     def _passes(self, child: Child) -> bool:
         return child.end > child.content and not child.is_cut and bool(self.budget.passing(self.aligned, child.content, child.end))
 
-    def _confirms(self, child: Child) -> typing.Optional[bool]:
+    def _confirms(self, child: Child) -> bool | None:
         return self.schema.confirms(self.aligned, child) if child.content < child.end and not child.is_cut else None
 
     def _hides(self, child: Child) -> bool:
@@ -204,7 +205,7 @@ class Walk:
     def careful(self) -> list[Child]:
         """Returns the children on the path with the fewest doubtful bytes. A place's way past bytes that no copy divides is looked for
         only once no cheaper path is left."""
-        best: dict[int, tuple[Cost, typing.Optional[Child], bool]] = {self.start: ((0, 0, 0), None, False)}
+        best: dict[int, tuple[Cost, Child | None, bool]] = {self.start: ((0, 0, 0), None, False)}
         heap: list[tuple[Cost, int, bool]] = [((0, 0, 0), self.start, False)]
         done: set[int] = set()
         while heap:
@@ -231,11 +232,11 @@ class Walk:
                     heapq.heappush(heap, (total, child.end, False))
         return self._path(best, self.end)
 
-    def _up_to(self, place: int, best: typing.Mapping[int, tuple[Cost, typing.Optional[Child], bool]]) -> list[Child]:
+    def _up_to(self, place: int, best: Mapping[int, tuple[Cost, Child | None, bool]]) -> list[Child]:
         """Returns the children up to a place, and what comes after it as bytes that are not divided."""
         return [*self._path(best, place), Child(UNDIVIDED, place, place, self.end)]
 
-    def _path(self, best: typing.Mapping[int, tuple[Cost, typing.Optional[Child], bool]], end: int) -> list[Child]:
+    def _path(self, best: Mapping[int, tuple[Cost, Child | None, bool]], end: int) -> list[Child]:
         children: list[Child] = []
         child = best[end][1]
         while child is not None:
@@ -256,7 +257,7 @@ class Walk:
         self._searched.insert(at, (place, found))
         return found
 
-    def _signs(self, place: int, stop: int) -> typing.Iterator[int]:
+    def _signs(self, place: int, stop: int) -> Iterator[int]:
         """Yields the places in a range at which an element seems to begin in some copy."""
         while place < stop and self.aligned.steps.left > 0:
             size, signs = min(PIECE, stop - place), set()

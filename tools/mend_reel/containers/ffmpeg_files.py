@@ -4,7 +4,7 @@ from __future__ import annotations
 import bisect
 import collections
 import dataclasses
-import typing
+from collections.abc import Container, Iterable, Iterator, Sequence
 
 from ..judging.frame_checks import Judge, Judged
 from ..model import Claims, Content, Copy, Frame, Kind, Layout, Stretch, Track, What
@@ -30,7 +30,7 @@ def frames(copy: Copy) -> list[Frame]:
     return layout([copy]).frames
 
 
-def layout(copies: typing.Sequence[Copy], judge: typing.Optional[Judge] = None, records: bool = True) -> Layout:
+def layout(copies: Sequence[Copy], judge: Judge | None = None, records: bool = True) -> Layout:
     """What lies where in a file, over all its copies: a packet that the container of one hides is that which another shows. Where packets
     overlap, `judge` says which is a frame."""
     containers = [contain(copy) for copy in copies]
@@ -49,7 +49,7 @@ def layout(copies: typing.Sequence[Copy], judge: typing.Optional[Judge] = None, 
     return Layout(size, tracks, found, stretches, common_claims(containers, base), end=end)
 
 
-def find_records(copy: Copy, tracks: typing.Sequence[Track], frames: typing.Sequence[Frame]) -> list[tuple[int, int]]:
+def find_records(copy: Copy, tracks: Sequence[Track], frames: Sequence[Frame]) -> list[tuple[int, int]]:
     """From where to where Configuration Records lie in a file: before its first frame, or after its last one."""
     if not frames:
         return []
@@ -57,14 +57,14 @@ def find_records(copy: Copy, tracks: typing.Sequence[Track], frames: typing.Sequ
     return [each for start, size in around for each in configuration_record.places(copy.read(start, min(size, MOST_HEADER)), start, tracks)]
 
 
-def find_flac(copies: typing.Sequence[Copy], spots: typing.Iterable[Spot], base: Container) -> frozenset[Spot]:
+def find_flac(copies: Sequence[Copy], spots: Iterable[Spot], base: Container) -> frozenset[Spot]:
     """The packets that are frames of FLAC: some copy has the head of one there."""
     tracks = {track.number for track in base.tracks if track.is_flac and base.form in GIVE_SIZES}
     return frozenset(spot for spot in spots if spot[2] in tracks and any(
         flac_heads.begins(copy.read(spot[0], min(spot[1], flac_heads.LONGEST_HEAD))) for copy in copies))
 
 
-def ends_at(sizes: typing.Sequence[int], ends: typing.Sequence[typing.Optional[int]]) -> tuple[int, typing.Optional[int]]:
+def ends_at(sizes: Sequence[int], ends: Sequence[int | None]) -> tuple[int, int | None]:
     """Where OUT ends, and where the file does by what most copies say: what lies after that is never preferred to nothing."""
     known = [end for end in ends if end is not None]
     end = max(known, key=known.count, default=None)
@@ -72,13 +72,13 @@ def ends_at(sizes: typing.Sequence[int], ends: typing.Sequence[typing.Optional[i
     return (min(reaching) if reaching else max(sizes)), end
 
 
-def cover(copies: typing.Sequence[Copy], frames: typing.Sequence[Frame], others: typing.Sequence[tuple[Spot, Packet]],
-          tracks: typing.Sequence[Track], size: int, records: typing.Iterable[tuple[int, int]],
-          flac: typing.Container[Spot] = frozenset()) -> list[Stretch]:
+def cover(copies: Sequence[Copy], frames: Sequence[Frame], others: Sequence[tuple[Spot, Packet]],
+          tracks: Sequence[Track], size: int, records: Iterable[tuple[int, int]],
+          flac: Container[Spot] = frozenset()) -> list[Stretch]:
     """The stretches that cover a file: its frames, other packets (those of `flac` are frames of FLAC), Configuration Records, and what lies
     between them."""
     steps, contents = {track.number: track.step or 0.0 for track in tracks}, {track.number: track.content for track in tracks}
-    pieces: list[tuple[int, int, Kind, What, typing.Optional[Frame]]] = [
+    pieces: list[tuple[int, int, Kind, What, Frame | None]] = [
         (frame.place, frame.end, Kind.FRAME, What(Content.FRAME, frame.track, frame.time, frame.time + steps.get(frame.track, 0.0)), frame)
         for frame in frames]
     pieces += [(place, place + length, Kind.FLAC if (place, length, stream) in flac else Kind.PLAIN,
@@ -103,7 +103,7 @@ def cover(copies: typing.Sequence[Copy], frames: typing.Sequence[Frame], others:
 class Shown:
     """The packets that the containers of some copies show. `base` is the container that shows most frames."""
 
-    def __init__(self, copies: typing.Sequence[Copy], containers: typing.Sequence[Container], base: Container) -> None:
+    def __init__(self, copies: Sequence[Copy], containers: Sequence[Container], base: Container) -> None:
         self.copies, self.base, self.video = copies, base, base.video()
         self.spots: dict[Spot, list[Packet]] = {}
         for container in sorted(containers, key=lambda container: container is not base):
@@ -111,7 +111,7 @@ class Shown:
                 if packet.place is not None:
                     self.spots.setdefault((packet.place, packet.size, packet.stream), []).append(packet)
 
-    def frames(self, judge: typing.Optional[Judge]) -> list[Frame]:
+    def frames(self, judge: Judge | None) -> list[Frame]:
         """The frames, in the order of their places. Each has the time that the base shows, if it shows the frame."""
         spots = sorted(spot for spot in self.spots if spot[2] in self.video)
         clear = self.without_overlaps(spots, judge)
@@ -121,7 +121,7 @@ class Shown:
             frames.append(Frame(stream, packet.time, place, size, packet.key))
         return self.with_counted_times(frames) if self.base.form == "avi" else frames
 
-    def without_overlaps(self, spots: typing.Sequence[Spot], judge: typing.Optional[Judge]) -> list[Spot]:
+    def without_overlaps(self, spots: Sequence[Spot], judge: Judge | None) -> list[Spot]:
         """The spots, of which those that overlap are judged: the worthiest stand."""
         clear: list[Spot] = []
         for cluster in overlapping(spots):
@@ -131,7 +131,7 @@ class Shown:
             clear += cluster
         return clear
 
-    def worth(self, spots: typing.Sequence[Spot], judge: typing.Optional[Judge]) -> dict[Spot, tuple[bool, int, int]]:
+    def worth(self, spots: Sequence[Spot], judge: Judge | None) -> dict[Spot, tuple[bool, int, int]]:
         """Whether a spot has a passing frame in some copy, how many slices of it pass at most, and how many containers show it."""
         ranges = [spot[:2] for spot in spots]
         judged = [judge(copy, ranges) for copy in self.copies] if judge else [[Judged()] * len(spots)]
@@ -142,7 +142,7 @@ class Shown:
         """The frames of an AVI file have the times of their numbers, so where a container hides one those after it seem to come too early.
         Where times do not rise, frames are counted anew."""
         steps = {track.number: track.step for track in self.base.tracks}
-        counts: typing.Counter[int] = collections.Counter()
+        counts: collections.Counter[int] = collections.Counter()
         last: dict[int, float] = {}
         rising = all(frame.time > last.get(frame.track, float("-inf")) and not last.update({frame.track: frame.time}) for frame in frames)
         if rising or not all(steps.get(frame.track) for frame in frames):
@@ -153,7 +153,7 @@ class Shown:
             counts[frame.track] += 1
         return counted
 
-    def others(self, frames: typing.Sequence[Frame]) -> list[tuple[Spot, Packet]]:
+    def others(self, frames: Sequence[Frame]) -> list[tuple[Spot, Packet]]:
         """The packets of other tracks, in the order of their places: those that overlap no frame and none before."""
         starts, end = [frame.place for frame in frames], 0
         clear = []
@@ -167,7 +167,7 @@ class Shown:
         return clear
 
 
-def overlapping(spots: typing.Iterable[Spot]) -> typing.Iterator[list[Spot]]:
+def overlapping(spots: Iterable[Spot]) -> Iterator[list[Spot]]:
     """Spots in the order of their places, those together that hang together by overlaps."""
     cluster: list[Spot] = []
     end = 0
@@ -181,7 +181,7 @@ def overlapping(spots: typing.Iterable[Spot]) -> typing.Iterator[list[Spot]]:
         yield cluster
 
 
-def chosen_without_overlaps(spots: typing.Iterable[Spot]) -> list[Spot]:
+def chosen_without_overlaps(spots: Iterable[Spot]) -> list[Spot]:
     """Of spots in the order of their worth those that overlap none before them."""
     chosen: list[Spot] = []
     for spot in spots:
@@ -192,7 +192,7 @@ def chosen_without_overlaps(spots: typing.Iterable[Spot]) -> list[Spot]:
     return chosen
 
 
-def common_claims(containers: typing.Sequence[Container], base: Container) -> Claims:
+def common_claims(containers: Sequence[Container], base: Container) -> Claims:
     """What most of the containers claim, or else the base."""
     claims = [container.claims for container in containers if container.form == base.form]
     return max(claims, key=lambda each: (claims.count(each), each == base.claims))

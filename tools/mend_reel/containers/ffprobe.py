@@ -8,7 +8,8 @@ import dataclasses
 import math
 import shutil
 import subprocess
-import typing
+from collections.abc import Container, Iterable, Iterator, Mapping, Sequence
+from typing import NamedTuple
 import zlib
 
 from ..judging.frame_checks import MOST_BYTES
@@ -30,7 +31,7 @@ GIVE_DURATION = {"avi", "mov", "mxf"}
 GIVE_COUNTS = {"mov", "mxf"}
 
 
-class Packet(typing.NamedTuple):
+class Packet(NamedTuple):
     """A packet as ffprobe reports it, and where its bytes begin in the file, if they are found there as they are."""
 
     stream: int
@@ -38,8 +39,8 @@ class Packet(typing.NamedTuple):
     reported: int
     size: int
     key: bool
-    digest: typing.Optional[int] = None
-    place: typing.Optional[int] = None
+    digest: int | None = None
+    place: int | None = None
     lasts: float = 0.0
 
 
@@ -70,7 +71,7 @@ def fields(line: str) -> tuple[str, dict[str, str]]:
     return kind, dict(pair.split("=", 1) for pair in pairs if "=" in pair)
 
 
-def number(text: typing.Optional[str]) -> typing.Optional[float]:
+def number(text: str | None) -> float | None:
     """A finite number, or None for anything else."""
     try:
         value = float(text or "")
@@ -79,13 +80,13 @@ def number(text: typing.Optional[str]) -> typing.Optional[float]:
     return value if math.isfinite(value) else None
 
 
-def whole(text: typing.Optional[str], base: int = 10) -> typing.Optional[int]:
+def whole(text: str | None, base: int = 10) -> int | None:
     """A whole number of at most 64 bits, or None for anything else."""
     digits = "0123456789abcdefABCDEF"[: 22 if base == 16 else base]
     return int(text, base) if text and len(text) < 20 and not text.strip(digits) else None
 
 
-def read_packet(values: typing.Mapping[str, str]) -> typing.Optional[Packet]:
+def read_packet(values: Mapping[str, str]) -> Packet | None:
     time = number(values.get("pts_time"))
     time = number(values.get("dts_time")) if time is None else time
     stream, place, size = (whole(values.get(name)) for name in ("stream_index", "pos", "size"))
@@ -96,7 +97,7 @@ def read_packet(values: typing.Mapping[str, str]) -> typing.Optional[Packet]:
     return Packet(stream, time, place, size, "K" in values.get("flags", ""), sum_, lasts=number(values.get("duration_time")) or 0.0)
 
 
-def read_track(values: typing.Mapping[str, str]) -> Track:
+def read_track(values: Mapping[str, str]) -> Track:
     codec, rate = values.get("codec_name", ""), values.get("avg_frame_rate", "0/0").split("/")
     frames, seconds = (number(rate[0]), number(rate[-1]))
     step = seconds / frames if frames and seconds and codec == "ffv1" else None
@@ -104,12 +105,12 @@ def read_track(values: typing.Mapping[str, str]) -> Track:
                  int(number(values.get("width")) or 0), int(number(values.get("height")) or 0), step=step, is_flac=codec == "flac")
 
 
-def read_end(values: typing.Mapping[str, str]) -> typing.Optional[float]:
+def read_end(values: Mapping[str, str]) -> float | None:
     duration = number(values.get("duration"))
     return None if duration is None else duration + (number(values.get("start_time")) or 0.0)
 
 
-def read_lines(lines: typing.Iterable[str]) -> Container:
+def read_lines(lines: Iterable[str]) -> Container:
     """What ffprobe reported, line by line."""
     container, duration = Container(), None
     ends: dict[int, float] = {}
@@ -155,7 +156,7 @@ def ask(copy: Copy) -> Container:
     return container
 
 
-def ask_for(copy: Copy, more: typing.Sequence[str], entries: str) -> Container:
+def ask_for(copy: Copy, more: Sequence[str], entries: str) -> Container:
     words = ["ffprobe", "-v", "quiet", "-protocol_whitelist", "file", *more, "-show_entries", ENTRIES.format(more=entries), "-of",
              "compact", "file:" + copy.path]
     with or_fault("cannot run ffprobe"), subprocess.Popen(words, stdin=subprocess.DEVNULL, stdout=subprocess.PIPE,
@@ -164,7 +165,7 @@ def ask_for(copy: Copy, more: typing.Sequence[str], entries: str) -> Container:
         return read_lines(watched(copy, process.stdout))
 
 
-def watched(copy: Copy, lines: typing.Iterable[str]) -> typing.Iterator[str]:
+def watched(copy: Copy, lines: Iterable[str]) -> Iterator[str]:
     """The lines that ffprobe prints. Whoever watches the copy is told how far it is."""
     for number, line in enumerate(lines):
         if number % LINES_BETWEEN == 0:
@@ -172,7 +173,7 @@ def watched(copy: Copy, lines: typing.Iterable[str]) -> typing.Iterator[str]:
         yield line
 
 
-def with_records(copy: Copy, tracks: typing.Sequence[Track]) -> list[Track]:
+def with_records(copy: Copy, tracks: Sequence[Track]) -> list[Track]:
     """The tracks with their Configuration Records, which ffprobe prints in hexadecimal digits beside their places and characters."""
     made = []
     for track in tracks:
@@ -202,12 +203,12 @@ class Locator:
     far after is mostly the same, so what served last is tried first. `reported` are the places of all packets of a file that ends elsewhere
     than it says: bytes are lost or added in it."""
 
-    def __init__(self, copy: Copy, reported: typing.Sequence[int] = ()) -> None:
+    def __init__(self, copy: Copy, reported: Sequence[int] = ()) -> None:
         self.copy, self.reported = copy, sorted(reported)
         self.steps = [0, 4, 8, *(step for step in range(FARTHEST) if step not in (0, 4, 8))]
         self.misses, self.end, self.searches = 0, -1, 0
 
-    def place(self, packet: Packet) -> typing.Optional[int]:
+    def place(self, packet: Packet) -> int | None:
         if packet.size > MOST_BYTES:
             return None
         place = self.search(packet)
@@ -215,7 +216,7 @@ class Locator:
         self.end = self.end if place is None else place + packet.size
         return place
 
-    def search(self, packet: Packet) -> typing.Optional[int]:
+    def search(self, packet: Packet) -> int | None:
         for step in self.steps if self.misses < MOST_MISSES else self.steps[:3]:
             if self.lies(packet, packet.reported + step):
                 self.steps.remove(step)
@@ -225,7 +226,7 @@ class Locator:
             return self.end
         return self.search_around(packet)
 
-    def search_around(self, packet: Packet) -> typing.Optional[int]:
+    def search_around(self, packet: Packet) -> int | None:
         """Looks for a frame further away, and not where another one is reported: the file lost or gained bytes before it, and so has the
         next one the same distance."""
         if not self.reported or packet.digest is not None or self.searches >= MOST_SEARCHES:
@@ -249,7 +250,7 @@ class Locator:
         return len(piece) == packet.size and zlib.crc32(piece) == packet.digest
 
 
-def locate(copy: Copy, packets: typing.Sequence[Packet], video: typing.Container[int]) -> list[Packet]:
+def locate(copy: Copy, packets: Sequence[Packet], video: Container[int]) -> list[Packet]:
     """The packets with their places. Without a digest those that are not of FFV1 tracks lie where they are reported, or some bytes
     after."""
     end = structure.read(copy).end

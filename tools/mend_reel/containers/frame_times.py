@@ -3,7 +3,7 @@ from __future__ import annotations
 
 import dataclasses
 import statistics
-import typing
+from collections.abc import Sequence
 
 from ..model import Frame, Layout
 
@@ -20,7 +20,7 @@ class TrackTimes:
 
     number: int
     frames: list[Frame]
-    step: typing.Optional[float]
+    step: float | None
     size: int = 0
 
     @property
@@ -51,7 +51,7 @@ def tracks_of(layout: Layout) -> list[TrackTimes]:
     return made
 
 
-def constant_step(times: typing.Sequence[float], claimed: typing.Optional[float]) -> typing.Optional[float]:
+def constant_step(times: Sequence[float], claimed: float | None) -> float | None:
     """The time from a frame to the next, if it is constant: what the container claims, if the frames have it so; else what most have."""
     steps = [after - before for before, after in zip(times, times[1:]) if after > before]
     if not steps:
@@ -73,7 +73,7 @@ def end_of(layout: Layout) -> tuple[float, float]:
     return max([end, *(stretch.what.end or 0.0 for stretch in layout.stretches)]), max(0.5 * step, SOUND_BLOCK)
 
 
-def lasts(layout: Layout) -> typing.Optional[float]:
+def lasts(layout: Layout) -> float | None:
     """How long a file says that it lasts, if it ends before."""
     end, room = end_of(layout)
     duration = layout.claims.duration

@@ -3,7 +3,7 @@ from __future__ import annotations
 
 import dataclasses
 import itertools
-import typing
+from collections.abc import Iterable, Iterator, Sequence
 
 from ..model import Claims, Content, Copy, Kind, Layout, Track, What
 from . import clusters, configuration_record, ebml, elements, metadata, slice_footers, structure
@@ -31,7 +31,7 @@ CHILDREN = {identity: known | {clusters.CRC, clusters.VOID} for identity, known 
                             0x4461, 0x7BA9, 0x4D80, 0x5741}))}
 
 
-def signs(piece: bytes) -> typing.Iterator[int]:
+def signs(piece: bytes) -> Iterator[int]:
     """Yields the offsets at which a top-schema ID stands."""
     for sign in SIGNS:
         at = piece.find(sign)
@@ -40,7 +40,7 @@ def signs(piece: bytes) -> typing.Iterator[int]:
             at = piece.find(sign, at + 1)
 
 
-def is_divided(aligned: AlignedCopies, child: elements.Child) -> typing.Optional[bool]:
+def is_divided(aligned: AlignedCopies, child: elements.Child) -> bool | None:
     """Reports whether the children that a top-schema element may have cover it in some copy."""
     known = CHILDREN.get(child.identity)
     return None if known is None else elements.divides(aligned, child.content, child.end, known)
@@ -50,7 +50,7 @@ TOP = elements.Schema(STRONG | {clusters.VOID, clusters.CRC}, STRONG, frozenset(
                       clusters.IN_CLUSTER, signs, confirms=is_divided)
 
 
-def is_matroska(copies: typing.Sequence[Copy]) -> bool:
+def is_matroska(copies: Sequence[Copy]) -> bool:
     """Reports whether copies are Matroska files: one begins as an EBML file does, or has top-schema elements near its start."""
     header = EBML.to_bytes(4, "big")
     if any(copy.read(0, 4) == header and document_type(copy) in DOCUMENT_TYPES for copy in copies):
@@ -70,7 +70,7 @@ def document_type(copy: Copy) -> str:
 class MatroskaReader:
     """Reads a file over all its copies."""
 
-    def __init__(self, copies: typing.Sequence[Copy]) -> None:
+    def __init__(self, copies: Sequence[Copy]) -> None:
         self.copies, self.aligned = copies, AlignedCopies(copies)
         self.budget = Budget(PASSES_OVER_THE_FILE * sum(copy.size for copy in copies))
         self.stretches = Stretches(copies)
@@ -108,7 +108,7 @@ class MatroskaReader:
         return Layout(size, list(self.metadata.tracks), self.stretches.frames, self.stretches.made, self.metadata.claims, self.gaps,
                       rises=True, end=claimed_end, bare=list(self._bare()))
 
-    def _bare(self) -> typing.Iterator[tuple[int, int]]:
+    def _bare(self) -> Iterator[tuple[int, int]]:
         """Yields where elements lie that have no CRC-32, though others of the same ID have one, or most others."""
         kinds = [(child, self._has_crc(child)) for child in self.top
                  if child.identity in STRONG - {EBML, SEGMENT} and child.content < child.end and not child.is_cut]
@@ -120,10 +120,10 @@ class MatroskaReader:
 
     # ---- the file as a whole
 
-    def _read_end(self, segment: elements.Child) -> tuple[typing.Optional[int], Numbers]:
+    def _read_end(self, segment: elements.Child) -> tuple[int | None, Numbers]:
         """Returns where the Segment ends by its head, and the copies that are right: where its last element ends or a copy does, or what
         most of them have, though nothing vouches for that. None is the unknown size."""
-        ends: dict[typing.Optional[int], set[int]] = {}
+        ends: dict[int | None, set[int]] = {}
         for number in segment.identified:
             size = ebml.read_size(self.aligned.peek(number, segment.place + 4, 8), 0)
             if size and segment.place + 4 + size[1] == segment.content:
@@ -135,14 +135,14 @@ class MatroskaReader:
         end = max(ends, key=lambda each: (each == last, each in sizes, len(ends[each])))
         return end, frozenset(ends[end]) if end == last or end in sizes else NONE
 
-    def _size(self, claimed_end: typing.Optional[int]) -> int:
+    def _size(self, claimed_end: int | None) -> int:
         """Returns the size of OUT: up to the Segment's end where a copy ends there, or that of the longest copy."""
         if claimed_end is not None and any(copy.size == claimed_end for copy in self.copies):
             last = max((child.end for child in self.top if child.identity in STRONG), default=0)
             return claimed_end if last <= claimed_end else self.aligned.end
         return self.aligned.end
 
-    def _without_head(self, child: elements.Child) -> typing.Optional[elements.Child]:
+    def _without_head(self, child: elements.Child) -> elements.Child | None:
         """Returns the element that bytes which no copy divides are but for its head, if its children cover all the rest; or what an element
         of an unknown ID is by its children."""
         if child.identity in TOP.known or not self.aligned.steps.take(elements.CAREFUL_STEPS):
@@ -193,7 +193,7 @@ class MatroskaReader:
         for item in clusters.framing(child):
             self.stretches.plain(item.start, item.end, What(Content.FRAMING), item.vouched, joins=False)
 
-    def _add(self, child: elements.Child, claimed_end: typing.Optional[int]) -> None:
+    def _add(self, child: elements.Child, claimed_end: int | None) -> None:
         """Adds a top-schema element, or bytes that no copy divides: after the Segment's end they are no gap."""
         if child.identity == elements.UNDIVIDED:
             if claimed_end is not None and child.place >= claimed_end:
@@ -252,13 +252,13 @@ class MatroskaReader:
         lasts = item.lasts or self.clusters.steps.get(item.track or 0) or by_size
         return round((item.time or 0.0) + lasts, clusters.DIGITS)
 
-    def _add_live(self, live: typing.Sequence[elements.Child]) -> None:
+    def _add_live(self, live: Sequence[elements.Child]) -> None:
         """Adds an element of unknown size: its head, and its children."""
         if live:
             self._add_head(live[0])
             self._add_items(self.clusters.items(live[1:]))
 
-    def _add_items(self, items: typing.Iterable[clusters.Item]) -> None:
+    def _add_items(self, items: Iterable[clusters.Item]) -> None:
         """Adds what no CRC-32 of an element covers."""
         for item in items:
             what = What(item.content, item.track, item.time, None if item.time is None else self._end(item))
@@ -272,7 +272,7 @@ class MatroskaReader:
                 self.stretches.plain(item.start, item.end, what, item.vouched)
 
 
-def with_records(start: int, end: int, records: typing.Iterable[tuple[int, int]]) -> typing.Iterator[tuple[int, int, bool]]:
+def with_records(start: int, end: int, records: Iterable[tuple[int, int]]) -> Iterator[tuple[int, int, bool]]:
     """Yields the parts of a range, and whether each is a Configuration Record."""
     for first, last in records:
         if start <= first:
@@ -283,13 +283,13 @@ def with_records(start: int, end: int, records: typing.Iterable[tuple[int, int]]
         yield start, end, False
 
 
-def layout(copies: typing.Sequence[Copy]) -> Layout:
+def layout(copies: Sequence[Copy]) -> Layout:
     """Returns what lies where in a file, from copies of it: they have the same bytes at the same places but for damage, and may end
     early."""
     return MatroskaReader(copies).layout()
 
 
-def flaws(copy: Copy, layout: Layout) -> typing.Iterator[structure.Found]:
+def flaws(copy: Copy, layout: Layout) -> Iterator[structure.Found]:
     """Yields where the elements of a file, which a layout describes, lead nowhere within top-level ones, which of these have no CRC-32, and
     what lies after its end. A last sector that is shorter than others may be lost within a text: nothing else shows it."""
     for content, stretches in itertools.groupby(layout.stretches, key=lambda stretch: stretch.what.content):
@@ -305,7 +305,7 @@ def flaws(copy: Copy, layout: Layout) -> typing.Iterator[structure.Found]:
         yield structure.Found(structure.Flaw.AFTER_END, layout.end, copy.size)
 
 
-def claims(copies: typing.Sequence[Copy], layout: Layout) -> typing.Iterator[Claims]:
+def claims(copies: Sequence[Copy], layout: Layout) -> Iterator[Claims]:
     """Yields what each copy of the file that a layout describes claims of the recording."""
     identities = {content: identity for identity, content in CONTENTS.items() if identity in metadata.READ}
     known: dict[tuple[tuple[int, bytes], ...], Claims] = {}

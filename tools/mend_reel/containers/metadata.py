@@ -3,7 +3,7 @@ from __future__ import annotations
 
 import dataclasses
 import functools
-import typing
+from collections.abc import Mapping, Sequence
 
 from ..model import Claims, Content, Track
 from . import ebml
@@ -26,7 +26,7 @@ BY_TYPE = {1: Content.VIDEO, 2: Content.SOUND, 0x11: Content.SUBTITLES}
 class Metadata:
     """What a file says of itself. `scale` is what its time stamps count, in nanoseconds."""
 
-    tracks: typing.Sequence[Track] = ()
+    tracks: Sequence[Track] = ()
     scale: int = 1_000_000
     claims: Claims = Claims()
 
@@ -34,7 +34,7 @@ class Metadata:
         return {track.number: track for track in self.tracks}
 
 
-def read(contents: typing.Mapping[int, bytes]) -> Metadata:
+def read(contents: Mapping[int, bytes]) -> Metadata:
     """Returns what the contents of some top-level elements say, by their IDs."""
     entries = [dict(ebml.children(content)) for identity, content in ebml.children(contents.get(TRACKS, b"")) if identity == TRACK]
     tracks = [track for track in map(read_track, entries[:MOST_TRACKS]) if track]
@@ -47,7 +47,7 @@ def read(contents: typing.Mapping[int, bytes]) -> Metadata:
     return Metadata(tracks, scale, Claims(duration if 0 < duration < float("inf") else None, counts, index))
 
 
-def read_track(entry: typing.Mapping[int, bytes]) -> typing.Optional[Track]:
+def read_track(entry: Mapping[int, bytes]) -> Track | None:
     """Returns the track of a TrackEntry. A track whose frames are stored in another form (compressed, encrypted) is no FFV1 track here."""
     number, codec, private = ebml.number(entry.get(TRACK_NUMBER, b"")), ebml.text(entry.get(CODEC, b"")), entry.get(PRIVATE, b"")
     if not number:
@@ -67,13 +67,13 @@ def read_track(entry: typing.Mapping[int, bytes]) -> typing.Optional[Track]:
 
 
 @functools.lru_cache(maxsize=8)
-def read_index(content: bytes, scale: int) -> typing.Mapping[int, typing.Sequence[float]]:
+def read_index(content: bytes, scale: int) -> Mapping[int, Sequence[float]]:
     """Returns the times in an index, by track. Copies mostly have the same one, so it is read once."""
     index: dict[int, list[float]] = {}
     for identity, point in ebml.children(content):
         if identity != POINT:
             continue
-        time: typing.Optional[float] = None
+        time: float | None = None
         for field, value in ebml.children(point):
             if field == POINT_TIME:
                 time = ebml.number(value) * scale / NANOSECONDS
@@ -82,7 +82,7 @@ def read_index(content: bytes, scale: int) -> typing.Mapping[int, typing.Sequenc
     return index
 
 
-def read_counts(content: bytes, numbers: typing.Mapping[int, int], writer: str) -> dict[int, int]:
+def read_counts(content: bytes, numbers: Mapping[int, int], writer: str) -> dict[int, int]:
     """Returns how many frames each track has by the statistics in the tags, which name tracks by their UIDs. Those of another program than
     the one that wrote the file last are of the file that it read."""
     counts: dict[int, int] = {}

@@ -2,7 +2,7 @@
 from __future__ import annotations
 
 import itertools
-import typing
+from collections.abc import Iterable, Iterator
 
 from ..model import Copy
 
@@ -12,7 +12,7 @@ MOST_SLICES = 4096
 ENOUGH_SLICES = 6
 
 
-def starts(copy: Copy, start: int, end: int) -> typing.Iterator[int]:
+def starts(copy: Copy, start: int, end: int) -> Iterator[int]:
     """Yields where the slices of a frame begin in a copy, the last slice's first, as far as footers lead within a range."""
     for _ in range(MOST_SLICES):
         footer = copy.read(end - FOOTER, FOOTER) if end - FOOTER >= start else b""
@@ -34,7 +34,7 @@ def seems_frame(copy: Copy, start: int, end: int) -> bool:
     return len(places) == ENOUGH_SLICES or bool(places) and places[-1] == start
 
 
-def nearest(data: bytes, size: int, middle: int) -> typing.Optional[int]:
+def nearest(data: bytes, size: int, middle: int) -> int | None:
     """Returns where in some bytes a frame of a size lies by its footers, which lead from its end to its start: the one nearest to a
     place."""
     places = sorted(range(len(data) - size + 1), key=lambda start: abs(start - middle))
@@ -53,6 +53,6 @@ def leads(data: bytes, start: int, end: int) -> bool:
     return False
 
 
-def first_within(copies: typing.Iterable[Copy], first: int, last: int, end: int) -> typing.Optional[int]:
+def first_within(copies: Iterable[Copy], first: int, last: int, end: int) -> int | None:
     """Returns where a frame begins that ends at a place, if the footers of some copy lead to a place between two others."""
     return next((place for copy in copies for place in starts(copy, first, end) if place <= last), None)

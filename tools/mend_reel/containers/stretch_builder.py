@@ -2,7 +2,7 @@
 from __future__ import annotations
 
 import dataclasses
-import typing
+from collections.abc import Sequence
 
 from ..model import Copy, Frame, Kind, Stretch, What
 
@@ -13,13 +13,13 @@ Numbers = frozenset[int]
 class Stretches:
     """The stretches of OUT as they are found, one after the other. Plain ones of the same content are joined, and none is too long."""
 
-    def __init__(self, copies: typing.Sequence[Copy]) -> None:
+    def __init__(self, copies: Sequence[Copy]) -> None:
         self.made: list[Stretch] = []
         self.frames: list[Frame] = []
         self._sizes = [copy.size for copy in copies]
         self._least = min(self._sizes)
 
-    def _places(self, start: int, end: int) -> tuple[typing.Optional[int], ...]:
+    def _places(self, start: int, end: int) -> tuple[int | None, ...]:
         if end <= self._least:
             return (start,) * len(self._sizes)
         return tuple(start if end <= size else None for size in self._sizes)
@@ -50,8 +50,7 @@ class Stretches:
         else:
             self.made.append(Stretch(Kind.FRAME, frame.place, frame.size, what, self._places(frame.place, frame.end), (frame,)))
 
-    def element(self, start: int, end: int, what: What, parts: typing.Sequence[Frame] = (),
-                sound: typing.Sequence[tuple[int, int]] = ()) -> None:
+    def element(self, start: int, end: int, what: What, parts: Sequence[Frame] = (), sound: Sequence[tuple[int, int]] = ()) -> None:
         """Adds the content of an element that has a CRC-32."""
         self.frames += parts
         self.made.append(Stretch(Kind.ELEMENT, start, end - start, what, self._places(start, end), tuple(parts), tuple(sound)))

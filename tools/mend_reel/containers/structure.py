@@ -4,7 +4,7 @@ from __future__ import annotations
 import dataclasses
 import enum
 import re
-import typing
+from typing import NamedTuple
 
 from ..model import Copy
 from . import ebml
@@ -36,7 +36,7 @@ class Flaw(enum.Enum):
     NOT_WALKED = "is of a container whose parts are not walked here"
 
 
-class Found(typing.NamedTuple):
+class Found(NamedTuple):
     """A flaw, from which byte to which, and what there is, and what the file counts."""
 
     flaw: Flaw
@@ -52,7 +52,7 @@ class Structure:
     each track, in the order of tracks."""
 
     flaws: list[Found] = dataclasses.field(default_factory=list)
-    end: typing.Optional[int] = None
+    end: int | None = None
     counts: dict[int, int] = dataclasses.field(default_factory=dict)
 
     def close(self, place: int, size: int) -> Structure:
@@ -91,7 +91,7 @@ class Avi:
         self.copy, self.made, self.steps = copy, Structure(), Steps(copy.size)
         self.chunks: dict[int, int] = {}
         self.lengths: list[tuple[bytes, int]] = []
-        self.indexed: typing.Optional[tuple[int, int, int]] = None
+        self.indexed: tuple[int, int, int] | None = None
 
     def read(self) -> Structure:
         place, size, first = 0, self.copy.size, 0
@@ -152,7 +152,7 @@ class Mov:
         self.made.counts = {number: self.samples.get(track, 0) for number, track in enumerate(self.tracks)}
         return self.made
 
-    def walk(self, place: int, end: int, depth: int = 0) -> typing.Optional[int]:
+    def walk(self, place: int, end: int, depth: int = 0) -> int | None:
         """Walks the atoms between two places, and those within them. Returns where the last one ends, or None where they lead nowhere.
         What is of one value after the last one is none."""
         while place + 8 <= end:

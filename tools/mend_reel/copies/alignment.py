@@ -3,7 +3,7 @@ from __future__ import annotations
 
 import dataclasses
 import os
-import typing
+from typing import NamedTuple
 
 from ..model import Copy
 
@@ -15,7 +15,7 @@ WINDOW, MOST_SEARCHES, MOST_SHIFTS, AHEAD, ENDS = 1 << 20, 16, 32, 32, 64
 QUARTER, MOST_SPANS = 4, 8
 
 
-class Span(typing.NamedTuple):
+class Span(NamedTuple):
     """From where to where bytes of the one copy lie in the other, and how far after their place."""
 
     start: int
@@ -41,7 +41,7 @@ class Alignment:
     def is_shifted(self) -> bool:
         return any(span.shift for span in self.spans)
 
-    def place(self, start: int, end: int) -> typing.Optional[int]:
+    def place(self, start: int, end: int) -> int | None:
         """Where a range of the one copy lies in the other, if all of it lies in one span."""
         return next((start + span.shift for span in self.spans if span.start <= start and end <= span.end), None)
 

@@ -5,7 +5,7 @@ import dataclasses
 import enum
 import itertools
 import os
-import typing
+from collections.abc import Sequence
 
 from ..containers import ebml, ffmpeg_files, structure
 from ..containers.frame_times import lasts
@@ -36,7 +36,7 @@ class Left:
 
     number: int
     why: Leaving
-    other: typing.Optional[int] = None
+    other: int | None = None
 
     def text(self) -> str:
         return self.why.value.format(other="" if self.other is None else self.other + 1)
@@ -53,9 +53,9 @@ class Matched:
     places: dict[int, int]
     unplaced: list[Frame] = dataclasses.field(default_factory=list)
     contrary: list[Frame] = dataclasses.field(default_factory=list)
-    lasts: typing.Optional[float] = None
+    lasts: float | None = None
     tracks: dict[int, int] = dataclasses.field(default_factory=dict)
-    alignment: typing.Optional[Alignment] = None
+    alignment: Alignment | None = None
 
 
 @dataclasses.dataclass
@@ -69,7 +69,7 @@ class Arrangement:
     left: list[Left] = dataclasses.field(default_factory=list)
     rotten: set[int] = dataclasses.field(default_factory=set)
 
-    def notes(self, copies: typing.Sequence[Copy]) -> list[str]:
+    def notes(self, copies: Sequence[Copy]) -> list[str]:
         """Whose file OUT is, where there are others, and which copies have bytes after its end."""
         longer = [f"copy {number + 1} has {copies[number].size - self.layout.size:,} bytes after the end of the file, which are left out"
                   for number in self.basis if copies[number].size > self.layout.size]
@@ -83,7 +83,7 @@ class Arrangement:
 # ---- copies of one file
 
 
-def group(copies: typing.Sequence[Copy]) -> tuple[list[list[int]], list[Left]]:
+def group(copies: Sequence[Copy]) -> tuple[list[list[int]], list[Left]]:
     """The numbers of the copies of each file, in the order given, and those that are left: the same file again, and empty ones."""
     files: list[list[int]] = []
     left: list[Left] = []
@@ -117,7 +117,7 @@ def may_be_same(one: Copy, other: Copy) -> bool:
     return not one.form or not other.form or one.form == other.form
 
 
-def aligned(basis: typing.Sequence[Copy], other: Copy) -> typing.Optional[Alignment]:
+def aligned(basis: Sequence[Copy], other: Copy) -> Alignment | None:
     """Where the bytes of a file lie in a copy of it that lost or gained bytes, or None where it is none: its header gives the same
     length."""
     sizes = {claimed_size(copy) for copy in basis}
@@ -128,7 +128,7 @@ def aligned(basis: typing.Sequence[Copy], other: Copy) -> typing.Optional[Alignm
     return best if best and best.is_same_file() else None
 
 
-def claimed_size(copy: Copy) -> typing.Optional[int]:
+def claimed_size(copy: Copy) -> int | None:
     """The size that a file's own header claims, of Matroska and AVI files: a file that has it was not cut short. Of a MOV file it is
     where the first large atom ends."""
     data = copy.read(0, HEADER)
@@ -141,7 +141,7 @@ def claimed_size(copy: Copy) -> typing.Optional[int]:
     return segment.end if segment else None
 
 
-def atoms_end(data: bytes) -> typing.Optional[int]:
+def atoms_end(data: bytes) -> int | None:
     """Where the first atom of a MOV file ends that ends after its first bytes."""
     place = 0
     while place + 16 <= len(data):
@@ -156,7 +156,7 @@ def atoms_end(data: bytes) -> typing.Optional[int]:
 # ---- which file OUT is made of
 
 
-def describe(copies: typing.Sequence[Copy], judge: Judge, records: bool = True) -> Layout:
+def describe(copies: Sequence[Copy], judge: Judge, records: bool = True) -> Layout:
     """What lies where in a file, over all its copies."""
     from ..containers import matroska
 
@@ -209,7 +209,7 @@ class File:
                 any(each.is_undamaged for each in self.healths.values()), -self.numbers[0])
 
 
-def arrange(copies: typing.Sequence[Copy], judge: Judge) -> Arrangement:
+def arrange(copies: Sequence[Copy], judge: Judge) -> Arrangement:
     """Which copies OUT is made of, and how. Frames are judged only where the copies are of several files."""
     numbers, left = group(copies)
     files = []
@@ -238,7 +238,7 @@ def is_refused(copy: Copy) -> bool:
     return copy.container is not None and not copy.container.form and not structure.read(copy).flaws
 
 
-def choose(files: typing.Sequence[File], copies: typing.Sequence[Copy], judge: Judge) -> File:
+def choose(files: Sequence[File], copies: Sequence[Copy], judge: Judge) -> File:
     """The file that OUT is made of: the one for which most speaks. A file that shares nothing with any other serves only if it has several
     copies, or alone has something that passes."""
     shown = [file for file in files if file.has_video()]
@@ -254,7 +254,7 @@ def choose(files: typing.Sequence[File], copies: typing.Sequence[Copy], judge: J
     return max(candidates, key=lambda file: file.rank(judge))
 
 
-def relate(basis: File, other: File) -> typing.Optional[Pairing]:
+def relate(basis: File, other: File) -> Pairing | None:
     """Where another file has the frames of the basis, or None if it shares none with it. Of the basis' file with bytes lost or added all
     bytes have a place."""
     copy = max(other.recording.copies, key=lambda each: each.size)
@@ -268,7 +268,7 @@ def relate(basis: File, other: File) -> typing.Optional[Pairing]:
     return pairing if share(basis.recording, other.recording, pairing) else None
 
 
-def assemble(basis: File, others: typing.Sequence[File], left: list[Left], judge: Judge) -> Arrangement:
+def assemble(basis: File, others: Sequence[File], left: list[Left], judge: Judge) -> Arrangement:
     made = Arrangement(basis.numbers, basis.layout, left=left, rotten=basis.rotten())
     pairings = {id(file): pairing for file, pairing in basis.pairings}
     for file in others:
@@ -283,7 +283,7 @@ def assemble(basis: File, others: typing.Sequence[File], left: list[Left], judge
     return made
 
 
-def matched(number: int, copy: Copy, layout: Layout, pairing: Pairing, frames: typing.Sequence[Frame], judge: Judge) -> Matched:
+def matched(number: int, copy: Copy, layout: Layout, pairing: Pairing, frames: Sequence[Frame], judge: Judge) -> Matched:
     """How a copy of another file serves."""
     places = {each: place for each, place in pairing.places.items() if place + frames[each].size <= copy.size}
     judged = judge(copy, [(frame.place, frame.size) for frame in pairing.contrary])

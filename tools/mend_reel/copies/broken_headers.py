@@ -3,13 +3,13 @@ from __future__ import annotations
 
 import collections
 import dataclasses
-import typing
+from collections.abc import Iterable, Sequence
 
 from ..model import Content, Copy, Kind, Stretch
 from . import differences
 
 
-def drop_broken(stretches: typing.Iterable[Stretch], copies: typing.Sequence[Copy]) -> tuple[list[Stretch], collections.Counter[int]]:
+def drop_broken(stretches: Iterable[Stretch], copies: Sequence[Copy]) -> tuple[list[Stretch], collections.Counter[int]]:
     """Takes away the place of a copy in an element's header where it has other bytes than the copies whose headers the container confirms:
     the size of an element and its ID are right where they lead on. Returns the stretches, and how many places were taken away by copy."""
     dropped: collections.Counter[int] = collections.Counter()

@@ -2,7 +2,7 @@
 from __future__ import annotations
 
 import bisect
-import typing
+from collections.abc import Iterable, Iterator, Sequence
 
 from ..model import Copy, Fault, Frame, Kind, Layout, Stretch, or_fault
 from .arrangement import Matched
@@ -10,8 +10,7 @@ from .arrangement import Matched
 PIECE = 1 << 20
 
 
-def carry(layout: Layout, copies: typing.Sequence[Copy], other: Copy, matched: Matched, needed: typing.Iterable[int],
-         path: str) -> dict[int, int]:
+def carry(layout: Layout, copies: Sequence[Copy], other: Copy, matched: Matched, needed: Iterable[int], path: str) -> dict[int, int]:
     """Writes a file that has, one after the other, each of the stretches `needed` as its source copy has it, with those frames over it that
     the other file has. Returns the place of each stretch in that file. Stretches without a frame of the other file are left out."""
     numbers = {frame.place: number for number, frame in enumerate(layout.frames)}
@@ -30,7 +29,7 @@ def carry(layout: Layout, copies: typing.Sequence[Copy], other: Copy, matched: M
     return places
 
 
-def find_source(stretch: Stretch, copies: typing.Sequence[Copy]) -> typing.Optional[tuple[Copy, int]]:
+def find_source(stretch: Stretch, copies: Sequence[Copy]) -> tuple[Copy, int] | None:
     """The first copy that has a stretch, and its place there."""
     for number in range(len(copies)):
         place = stretch.places[number]
@@ -39,8 +38,7 @@ def find_source(stretch: Stretch, copies: typing.Sequence[Copy]) -> typing.Optio
     return None
 
 
-def overlay(stretch: Stretch, source: Copy, place: int, other: Copy, lifted: typing.Sequence[tuple[Frame, int]]
-            ) -> typing.Iterator[bytes]:
+def overlay(stretch: Stretch, source: Copy, place: int, other: Copy, lifted: Sequence[tuple[Frame, int]]) -> Iterator[bytes]:
     """The bytes of a stretch, with frames of the other file over those of the source."""
     at = stretch.start
     for frame, frame_place in lifted:
@@ -50,7 +48,7 @@ def overlay(stretch: Stretch, source: Copy, place: int, other: Copy, lifted: typ
     yield from pieces(source, place + at - stretch.start, stretch.end - at)
 
 
-def pieces(copy: Copy, place: int, size: int) -> typing.Iterator[bytes]:
+def pieces(copy: Copy, place: int, size: int) -> Iterator[bytes]:
     """Bytes of a copy, so many at a time that memory holds them."""
     for at in range(place, place + size, PIECE):
         wanted = min(PIECE, place + size - at)
@@ -72,11 +70,11 @@ def rising(layout: Layout, matched: Matched) -> dict[int, int]:
     return {found[at][0]: found[at][1] for at in longest_chain([(start, end) for _, start, end in found])}
 
 
-def longest_chain(ranges: typing.Sequence[tuple[int, int]]) -> list[int]:
+def longest_chain(ranges: Sequence[tuple[int, int]]) -> list[int]:
     """The numbers of the most ranges, in the order given, of which each begins at or after the end of the one before."""
     ends: list[int] = []
     last: list[int] = []
-    before: list[typing.Optional[int]] = []
+    before: list[int | None] = []
     for number, (start, end) in enumerate(ranges):
         length = bisect.bisect_right(ends, start)
         before.append(last[length - 1] if length else None)

@@ -4,7 +4,7 @@ from __future__ import annotations
 
 import dataclasses
 import os
-import typing
+from collections.abc import Callable, Sequence
 
 from ..containers import ffmpeg_files, ffprobe, matroska
 from ..judging.frame_checks import Judge
@@ -25,7 +25,7 @@ class Comparison:
     reads: list[bool]
     notes: list[str]
 
-    def sources(self, listed: typing.Sequence[Stretch], outcomes: typing.Sequence[Outcome], judge: Judge) -> dict[int, Stretch]:
+    def sources(self, listed: Sequence[Stretch], outcomes: Sequence[Outcome], judge: Judge) -> dict[int, Stretch]:
         """The stretches of a list for whose bytes nothing vouches and which are to be taken from another copy than they were, by their
         numbers: the program reported where copies differ."""
         doubtful = {outcome.number for outcome in outcomes if not outcome.state.is_good()}
@@ -38,7 +38,7 @@ class Comparison:
         return {number: stretch for number, stretch in chosen.items() if number in doubtful}
 
 
-def compare(layout: Layout, inputs: Inputs, report: typing.Callable[[float, float], None]) -> Comparison:
+def compare(layout: Layout, inputs: Inputs, report: Callable[[float, float], None]) -> Comparison:
     """Compares the copies. `report` is called with how many bytes of how many are done."""
     own, stretches = inputs.files[: inputs.own], []
     claims = claims_of(layout, own)
@@ -54,7 +54,7 @@ def compare(layout: Layout, inputs: Inputs, report: typing.Callable[[float, floa
     return Comparison(dataclasses.replace(layout, stretches=stretches), inputs, claims, reads, notes)
 
 
-def claims_of(layout: Layout, copies: typing.Sequence[Copy]) -> list[Claims]:
+def claims_of(layout: Layout, copies: Sequence[Copy]) -> list[Claims]:
     """What the copies of one file claim of the recording: those of a Matroska file in the same elements."""
     if any(copy.form == MATROSKA for copy in copies):
         return [layout.claims, *matroska.claims(copies, layout)]
@@ -68,7 +68,7 @@ def can_be_read(copy: Copy, layout: Layout, broken: int) -> bool:
     return not layout.gaps and not broken if copy.form == MATROSKA else bool(copy.form) and ffmpeg_files.reads(copy)
 
 
-def passing(frames: typing.Sequence[Stretch], copies: typing.Sequence[Copy], judge: Judge) -> list[frozenset[int]]:
+def passing(frames: Sequence[Stretch], copies: Sequence[Copy], judge: Judge) -> list[frozenset[int]]:
     """For each of some frames the copies in which it passes."""
     found: list[set[int]] = [set() for _ in frames]
     for number, copy in enumerate(copies):
@@ -79,7 +79,7 @@ def passing(frames: typing.Sequence[Stretch], copies: typing.Sequence[Copy], jud
     return list(map(frozenset, found))
 
 
-def best_shown(out: str, copies: typing.Sequence[Copy], judge: Judge) -> typing.Optional[int]:
+def best_shown(out: str, copies: Sequence[Copy], judge: Judge) -> int | None:
     """The number of the copy whose container shows more right frames than that of OUT does, if one is there: most of them. Frames that both
     show are as right in OUT."""
     if not ffprobe.can_ask():

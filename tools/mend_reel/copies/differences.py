@@ -5,7 +5,8 @@ import bisect
 import dataclasses
 import itertools
 import re
-import typing
+from collections.abc import Iterable, Iterator, Sequence, Set
+from typing import NamedTuple
 
 from ..model import Copy, Kind, Stretch
 
@@ -22,14 +23,14 @@ Partition = tuple[tuple[int, ...], ...]
 Label = tuple[int, ...]
 
 
-class Run(typing.NamedTuple):
+class Run(NamedTuple):
     """A run of bytes in which the same copies are equal: where it ends, and for each copy the first one that it is equal to."""
 
     end: int
     label: Label
 
 
-def partition(stretch: Stretch, copies: typing.Sequence[Copy]) -> Partition:
+def partition(stretch: Stretch, copies: Sequence[Copy]) -> Partition:
     """Returns the copies that have a stretch in groups with equal bytes, the group of the first copy first."""
     having = tuple(stretch.having())
     groups, offset = [having], 0
@@ -40,8 +41,7 @@ def partition(stretch: Stretch, copies: typing.Sequence[Copy]) -> Partition:
     return tuple(sorted(groups)) if having else ()
 
 
-def _equal(stretch: Stretch, copies: typing.Sequence[Copy], group: tuple[int, ...], offset: int,
-           size: int) -> list[tuple[int, ...]]:
+def _equal(stretch: Stretch, copies: Sequence[Copy], group: tuple[int, ...], offset: int, size: int) -> list[tuple[int, ...]]:
     """Returns the parts of a group that have equal bytes at an offset."""
     if len(group) == 1:
         return [group]
@@ -57,12 +57,12 @@ def _equal(stretch: Stretch, copies: typing.Sequence[Copy], group: tuple[int, ..
     return [tuple(same), *map(tuple, parts.values())]
 
 
-def _read(stretch: Stretch, copies: typing.Sequence[Copy], number: int, offset: int, size: int) -> bytes:
+def _read(stretch: Stretch, copies: Sequence[Copy], number: int, offset: int, size: int) -> bytes:
     place = stretch.places[number]
     return b"" if place is None else copies[number].read(place + offset, size)
 
 
-def split(stretch: Stretch, copies: typing.Sequence[Copy]) -> list[Stretch]:
+def split(stretch: Stretch, copies: Sequence[Copy]) -> list[Stretch]:
     """Returns the parts of a plain stretch: it is split where copies begin or end to differ."""
     having = stretch.having()
     if stretch.kind is not Kind.PLAIN or len(having) < 2:
@@ -83,7 +83,7 @@ def split(stretch: Stretch, copies: typing.Sequence[Copy]) -> list[Stretch]:
     return _parts(stretch, runs, agreed)
 
 
-def _runs(pieces: typing.Sequence[bytes], size: int) -> typing.Iterator[Run]:
+def _runs(pieces: Sequence[bytes], size: int) -> Iterator[Run]:
     """Yields the runs of some byte strings of one size. A bit stands for each pair of versions; it turns where they begin or end to
     differ."""
     versions = list(dict.fromkeys(pieces))
@@ -108,7 +108,7 @@ def _runs(pieces: typing.Sequence[bytes], size: int) -> typing.Iterator[Run]:
         turned ^= turns.get(place, 0)
 
 
-def _label(turned: int, pairs: typing.Sequence[tuple[int, int]], indexes: typing.Sequence[int]) -> Label:
+def _label(turned: int, pairs: Sequence[tuple[int, int]], indexes: Sequence[int]) -> Label:
     """Returns the label where the pairs of versions whose bits are set differ; `indexes` are the versions of the copies."""
     equal = {index: index for index in indexes}
     for number, (first, second) in reversed(list(enumerate(pairs))):
@@ -118,7 +118,7 @@ def _label(turned: int, pairs: typing.Sequence[tuple[int, int]], indexes: typing
     return tuple(versions.index(version) for version in versions)
 
 
-def _sectors(pieces: typing.Sequence[bytes], size: int) -> typing.Iterator[Run]:
+def _sectors(pieces: Sequence[bytes], size: int) -> Iterator[Run]:
     """Yields a run for each sector of some byte strings between which there are too many differences to list each."""
     for start in range(0, size, SECTOR):
         end = min(start + SECTOR, size)
@@ -134,7 +134,7 @@ def _extend(runs: list[Run], run: Run) -> None:
         runs.append(run)
 
 
-def _joined(runs: typing.Sequence[Run], agreed: Label) -> list[Run]:
+def _joined(runs: Sequence[Run], agreed: Label) -> list[Run]:
     """Returns the runs without short ones in which all copies agree between two in which the same ones differ."""
     joined: list[Run] = []
     for at, run in enumerate(runs):
@@ -146,7 +146,7 @@ def _joined(runs: typing.Sequence[Run], agreed: Label) -> list[Run]:
     return joined
 
 
-def _coarser(runs: typing.Sequence[Run], agreed: Label, phase: int) -> list[Run]:
+def _coarser(runs: Sequence[Run], agreed: Label, phase: int) -> list[Run]:
     """Returns runs that end where sectors do: those in which all agree, and those in which some differ. `phase` is where in a sector the
     first begins."""
     coarser: list[Run] = []
@@ -164,7 +164,7 @@ def _coarser(runs: typing.Sequence[Run], agreed: Label, phase: int) -> list[Run]
     return coarser
 
 
-def cut(stretches: typing.Iterable[Stretch], bounds: typing.AbstractSet[int]) -> list[Stretch]:
+def cut(stretches: Iterable[Stretch], bounds: Set[int]) -> list[Stretch]:
     """Returns the stretches, plain ones cut at these places of OUT."""
     ordered, made = sorted(bounds), []
     for stretch in stretches:
@@ -174,7 +174,7 @@ def cut(stretches: typing.Iterable[Stretch], bounds: typing.AbstractSet[int]) ->
     return made
 
 
-def _parts(stretch: Stretch, runs: typing.Sequence[Run], agreed: typing.Optional[Label]) -> list[Stretch]:
+def _parts(stretch: Stretch, runs: Sequence[Run], agreed: Label | None) -> list[Stretch]:
     """Returns the parts of a stretch between the ends of runs. In those of the label `agreed` the copies are alike."""
     parts, start = [], 0
     for run in runs:

@@ -2,7 +2,7 @@
 from __future__ import annotations
 
 import dataclasses
-import typing
+from collections.abc import Iterable, Mapping, Sequence
 
 from ..model import Copy, Frame
 from .frame_pairing import Recording
@@ -13,7 +13,7 @@ WINDOW = 1 << 20
 MOST_SEARCHES, MOST_MISSES = 8, 4
 
 
-def complete(ours: Recording, theirs: typing.Sequence[Copy], places: typing.Mapping[int, int]) -> dict[int, int]:
+def complete(ours: Recording, theirs: Sequence[Copy], places: Mapping[int, int]) -> dict[int, int]:
     """The places of frames in another file, with those that its container does not show."""
     copy = max(theirs, key=lambda each: each.size)
     search = Search(ours, copy, dict(places))
@@ -44,7 +44,7 @@ class Search:
             return False
         return any(self.copy.read(end - len(tail), len(tail)) == tail for tail in self.ours.tails(self.frame(number)))
 
-    def find(self, number: int, start: int, end: int) -> typing.Optional[int]:
+    def find(self, number: int, start: int, end: int) -> int | None:
         """The place of a frame whose end lies from `start` on, up to `end`; the first one."""
         size = self.frame(number).size
         for tail in dict.fromkeys(self.ours.tails(self.frame(number))):
@@ -63,7 +63,7 @@ class Search:
                 self.places[number] = place
                 return
 
-    def walk(self, numbers: typing.Iterable[int], onward: bool) -> None:
+    def walk(self, numbers: Iterable[int], onward: bool) -> None:
         """Looks for the frames after (or before) those that are placed: at the same shift, then near by, and then anywhere beyond."""
         shift, edge, misses, patience = None, 0 if onward else self.copy.size, 0, 0
         for number in numbers:
@@ -102,7 +102,7 @@ class Search:
                     self.places[number] = self.frame(number).place + shift
 
 
-def search_bytes(copy: Copy, wanted: bytes, start: int, end: int) -> typing.Optional[int]:
+def search_bytes(copy: Copy, wanted: bytes, start: int, end: int) -> int | None:
     """The first place from `start` on at which bytes lie, all of them before `end`."""
     place = max(start, 0)
     while place + len(wanted) <= end:

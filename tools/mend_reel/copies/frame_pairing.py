@@ -4,7 +4,7 @@ from __future__ import annotations
 import bisect
 import collections
 import dataclasses
-import typing
+from collections.abc import Iterator, Mapping, Sequence
 
 from ..judging.frame_checks import is_uniform, share_slice
 from ..model import Copy, Frame, Layout
@@ -21,11 +21,11 @@ Key = tuple[int, bytes]
 class Recording:
     """Copies of one file, and what lies where in it."""
 
-    copies: typing.Sequence[Copy]
+    copies: Sequence[Copy]
     layout: Layout
-    known: typing.Optional[dict[Key, int]] = None
+    known: dict[Key, int] | None = None
 
-    def tails(self, frame: Frame) -> typing.Iterator[bytes]:
+    def tails(self, frame: Frame) -> Iterator[bytes]:
         """The last bytes of a frame, as some copies have them. A frame that ends in bytes that are all the same has none."""
         size = min(TAIL, frame.size)
         for copy in self.copies[:MOST_READ]:
@@ -59,7 +59,7 @@ class Pairing:
     unplaced: list[Frame] = dataclasses.field(default_factory=list)
     contrary: list[Frame] = dataclasses.field(default_factory=list)
     tracks: dict[int, int] = dataclasses.field(default_factory=dict)
-    alignment: typing.Optional[Alignment] = None
+    alignment: Alignment | None = None
 
 
 def pair(ours: Recording, theirs: Recording) -> Pairing:
@@ -74,11 +74,10 @@ def pair(ours: Recording, theirs: Recording) -> Pairing:
     return pairing
 
 
-def pair_tracks(ours: typing.Sequence[Frame], theirs: typing.Sequence[Frame],
-                alike: typing.Mapping[int, int]) -> dict[int, typing.Optional[int]]:
+def pair_tracks(ours: Sequence[Frame], theirs: Sequence[Frame], alike: Mapping[int, int]) -> dict[int, int | None]:
     """For each FFV1 track of the other file that of the first that most of its frames are in, or else one that is left, in order."""
     votes = collections.Counter((theirs[other].track, ours[number].track) for other, number in alike.items())
-    pairs: dict[int, typing.Optional[int]] = {}
+    pairs: dict[int, int | None] = {}
     for (track, own), _ in votes.most_common():
         pairs.setdefault(track, own)
     left = iter(sorted({frame.track for frame in ours} - set(pairs.values())))
@@ -91,8 +90,8 @@ class TrackPairing:
     """Pairs the frames of one track by times. An offset is how much later a frame comes in the first file: that of the frames that are
     paired nearest before and after, as an AVI file that lost a packet has all after it too early."""
 
-    def __init__(self, ours: typing.Sequence[Frame], theirs: typing.Sequence[Frame], numbers: typing.Sequence[int],
-                 track: typing.Optional[int], alike: typing.Mapping[int, int]) -> None:
+    def __init__(self, ours: Sequence[Frame], theirs: Sequence[Frame], numbers: Sequence[int],
+                 track: int | None, alike: Mapping[int, int]) -> None:
         self.theirs, self.track, self.alike = theirs, track, alike
         self.numbers = sorted(numbers, key=lambda number: theirs[number].time)
         self.frames = sorted((frame.time, number, frame.size) for number, frame in enumerate(ours) if frame.track == self.track)
@@ -100,12 +99,12 @@ class TrackPairing:
         self.near = NEAR * least_step(self.times)
         self.offsets = self.find_offsets(ours)
 
-    def find_offsets(self, ours: typing.Sequence[Frame]) -> dict[int, typing.Optional[float]]:
+    def find_offsets(self, ours: Sequence[Frame]) -> dict[int, float | None]:
         """The offset of each frame, or None where the frames that are paired before and after it have different ones."""
         own = [round(ours[self.alike[number]].time - self.theirs[number].time, 3)
                if number in self.alike and ours[self.alike[number]].track == self.track else None for number in self.numbers]
         before, after = carried(own), carried(own[::-1])[::-1]
-        found: dict[int, typing.Optional[float]] = {}
+        found: dict[int, float | None] = {}
         for number, early, late in zip(self.numbers, before, after):
             if early is not None and late is not None and abs(early - late) > self.near:
                 found[number] = None
@@ -128,13 +127,13 @@ class TrackPairing:
             else:
                 pairing.places[nearest[1]] = frame.place
 
-    def nearest(self, time: float) -> typing.Optional[tuple[float, int, int]]:
+    def nearest(self, time: float) -> tuple[float, int, int] | None:
         at = bisect.bisect(self.times, time)
         found = min(self.frames[max(at - 1, 0) : at + 1], key=lambda frame: abs(frame[0] - time), default=None)
         return found if found and abs(found[0] - time) <= self.near else None
 
 
-def carried(values: typing.Sequence[typing.Optional[float]]) -> list[typing.Optional[float]]:
+def carried(values: Sequence[float | None]) -> list[float | None]:
     """Each value, or the last one before it that is one."""
     made, last = [], None
     for value in values:
@@ -143,7 +142,7 @@ def carried(values: typing.Sequence[typing.Optional[float]]) -> list[typing.Opti
     return made
 
 
-def least_step(times: typing.Sequence[float]) -> float:
+def least_step(times: Sequence[float]) -> float:
     return min((after - before for before, after in zip(times, times[1:]) if after > before), default=1.0)
 
 

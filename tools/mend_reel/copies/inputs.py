@@ -4,7 +4,7 @@ from __future__ import annotations
 
 import dataclasses
 import pathlib
-import typing
+from collections.abc import Sequence
 
 from ..containers import ebml
 from ..model import Copy, Kind, Layout, open_copy
@@ -22,7 +22,7 @@ class Inputs:
     own: int
 
 
-def gather(arrangement: Arrangement, layout: Layout, copies: typing.Sequence[Copy], work: pathlib.Path) -> tuple[Inputs, Layout]:
+def gather(arrangement: Arrangement, layout: Layout, copies: Sequence[Copy], work: pathlib.Path) -> tuple[Inputs, Layout]:
     """The files that serve, and the layout with the places of its stretches in each of them: of a copy that lost or gained bytes all that
     lies in its spans, and of other files frames that no element covers, and elements that no copy of OUT's file has whole, with their
     frames."""
@@ -52,7 +52,7 @@ def aligned(layout: Layout, matched: Matched) -> dict[int, int]:
     return {number: place for number, place in placed if place is not None}
 
 
-def lost_elements(layout: Layout, copies: typing.Sequence[Copy]) -> list[int]:
+def lost_elements(layout: Layout, copies: Sequence[Copy]) -> list[int]:
     """The numbers of the elements of which no copy has a version that passes."""
     return [number for number, stretch in enumerate(layout.stretches) if stretch.kind is Kind.ELEMENT
             and not any(ebml.passes_in(stretch, copies, copy) for copy in range(len(copies)))]

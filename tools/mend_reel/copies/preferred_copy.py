@@ -3,7 +3,7 @@ from __future__ import annotations
 
 import dataclasses
 import re
-import typing
+from collections.abc import Callable, Container, Iterable, Iterator, Sequence
 
 from ..containers import ebml
 from ..model import Because, Content, Copy, Kind, Layout, Stretch
@@ -20,7 +20,7 @@ PLAYED = frozenset({Content.SOUND, Content.VIDEO, Content.SUBTITLES, Content.FRA
 Numbers = frozenset[int]
 Candidates = list[int]
 # Returns for each of some frames the copies that have it with all its slices passing.
-Judge = typing.Callable[[typing.Sequence[Stretch]], typing.Sequence[Numbers]]
+Judge = Callable[[Sequence[Stretch]], Sequence[Numbers]]
 
 
 class Sectors:
@@ -63,8 +63,8 @@ class Case:
     because: Because = Because.ALONE
 
 
-def choose(layout: Layout, copies: typing.Sequence[Copy], reads: typing.Sequence[bool], judge: Judge,
-           unlike: typing.Optional[typing.Container[int]] = None) -> dict[int, Stretch]:
+def choose(layout: Layout, copies: Sequence[Copy], reads: Sequence[bool], judge: Judge,
+           unlike: Container[int] | None = None) -> dict[int, Stretch]:
     """Returns the stretches in which copies differ, with their sources, by their numbers. `reads` says whose container can be read, and
     `judge` is called once, with the frames in which copies differ. Only the stretches of the numbers `unlike` are compared, where it is
     known that all others are alike in all copies."""
@@ -76,7 +76,7 @@ def choose(layout: Layout, copies: typing.Sequence[Copy], reads: typing.Sequence
     return {at: dataclasses.replace(case.stretch, source=case.candidates[0], because=case.because) for at, case in cases.items()}
 
 
-def decide(cases: typing.Sequence[Case], copies: typing.Sequence[Copy], found: typing.Sequence[KnownDamage]) -> None:
+def decide(cases: Sequence[Case], copies: Sequence[Copy], found: Sequence[KnownDamage]) -> None:
     """Leaves one candidate of each case, by the rules in their order, and notes what is known of each copy."""
     for case in cases:
         narrow(case, by_check(case), Because.CONFIRMED)
@@ -103,15 +103,15 @@ def follow(stretch: Stretch, number: int) -> Stretch:
     return dataclasses.replace(stretch, source=number, because=Because.SHOWS)
 
 
-def mark_unread(copies: typing.Sequence[Copy], found: typing.Sequence[KnownDamage]) -> None:
+def mark_unread(copies: Sequence[Copy], found: Sequence[KnownDamage]) -> None:
     """Marks the sectors that could not be read."""
     for copy, known in zip(copies, found):
         for start, end in copy.unread:
             known.damaged.mark(start, end)
 
 
-def differing(stretches: typing.Iterable[Stretch], copies: typing.Sequence[Copy], found: typing.Sequence[KnownDamage],
-              unlike: typing.Optional[typing.Container[int]]) -> typing.Iterator[tuple[int, Case]]:
+def differing(stretches: Iterable[Stretch], copies: Sequence[Copy], found: Sequence[KnownDamage],
+              unlike: Container[int] | None) -> Iterator[tuple[int, Case]]:
     """Yields the stretches in which copies differ. Of the others each copy that has them is verified, but for plain ones."""
     for at, stretch in enumerate(stretches):
         having = stretch.having()
@@ -122,15 +122,14 @@ def differing(stretches: typing.Iterable[Stretch], copies: typing.Sequence[Copy]
             found[number].verified += stretch.size
 
 
-def judged(cases: typing.Sequence[Case], copies: typing.Sequence[Copy], judge: Judge) -> None:
+def judged(cases: Sequence[Case], copies: Sequence[Copy], judge: Judge) -> None:
     """Sees what passes: elements by their CRC-32s, frames as they are judged."""
     frames = [case for case in cases if case.stretch.kind is Kind.FRAME]
     for case, passing in zip(frames, judge([case.stretch for case in frames]) if frames else ()):
         case.passing = frozenset(passing).intersection(case.candidates)
     for case in cases:
         if case.stretch.kind is Kind.ELEMENT:
-            case.passing = frozenset(number for group in case.groups
-                                     if ebml.passes_in(case.stretch, copies, group[0]) for number in group)
+            case.passing = frozenset(number for group in case.groups if ebml.passes_in(case.stretch, copies, group[0]) for number in group)
 
 
 def narrow(case: Case, serving: Candidates, rule: Because) -> None:
@@ -148,7 +147,7 @@ def by_check(case: Case) -> Candidates:
     return [number for number in case.candidates if number in case.passing]
 
 
-def without_lost_sectors(case: Case, copies: typing.Sequence[Copy]) -> Candidates:
+def without_lost_sectors(case: Case, copies: Sequence[Copy]) -> Candidates:
     """Others have lost sectors there, which are filled with one value now. A copy in which nothing is known to be wrong comes before
     this."""
     stretch = case.stretch
@@ -159,7 +158,7 @@ def without_lost_sectors(case: Case, copies: typing.Sequence[Copy]) -> Candidate
     return others
 
 
-def mark_lost(case: Case, kept: Candidates, found: typing.Sequence[KnownDamage]) -> None:
+def mark_lost(case: Case, kept: Candidates, found: Sequence[KnownDamage]) -> None:
     """Marks the sectors of the candidates that are left and have lost some."""
     for number in case.candidates if kept and case.stretch.kind is Kind.PLAIN else ():
         if number not in kept:
@@ -167,14 +166,14 @@ def mark_lost(case: Case, kept: Candidates, found: typing.Sequence[KnownDamage])
             found[number].damaged.mark(place, place + case.stretch.size)
 
 
-def undamaged(case: Case, found: typing.Sequence[KnownDamage]) -> Candidates:
+def undamaged(case: Case, found: Sequence[KnownDamage]) -> Candidates:
     """Nothing is known to be wrong in the sectors of the stretch."""
     size = case.stretch.size
     places = [(number, case.stretch.places[number] or 0) for number in case.candidates]
     return [number for number, place in places if not found[number].damaged.touch(place, place + size)]
 
 
-def by_vote(case: Case, found: typing.Sequence[KnownDamage]) -> Candidates:
+def by_vote(case: Case, found: Sequence[KnownDamage]) -> Candidates:
     """More than half of the copies whose container can be read have the same there."""
     voters = [number for number in case.candidates if found[number].reads]
     for group in case.groups:
@@ -183,7 +182,7 @@ def by_vote(case: Case, found: typing.Sequence[KnownDamage]) -> Candidates:
     return []
 
 
-def healthiest(case: Case, ranks: typing.Sequence[tuple[int, int]]) -> Candidates:
+def healthiest(case: Case, ranks: Sequence[tuple[int, int]]) -> Candidates:
     """Most bytes of the copy are verified, and of such copies the least sectors are known to be damaged."""
     best = min(ranks[number] for number in case.candidates)
     return [number for number in case.candidates if ranks[number] == best]
@@ -192,7 +191,7 @@ def healthiest(case: Case, ranks: typing.Sequence[tuple[int, int]]) -> Candidate
 # ---- what is known to be wrong
 
 
-def note(case: Case, copies: typing.Sequence[Copy], found: typing.Sequence[KnownDamage]) -> None:
+def note(case: Case, copies: Sequence[Copy], found: Sequence[KnownDamage]) -> None:
     """Counts what passes, and marks the sectors in which the other copies differ from it."""
     right = [group for group in case.groups if case.passing.issuperset(group)]
     if case.stretch.kind is not Kind.PLAIN:
@@ -204,8 +203,7 @@ def note(case: Case, copies: typing.Sequence[Copy], found: typing.Sequence[Known
                 mark_differences(case.stretch, copies, right[0][0], group, found)
 
 
-def mark_differences(stretch: Stretch, copies: typing.Sequence[Copy], right: int, wrong: typing.Sequence[int],
-                     found: typing.Sequence[KnownDamage]) -> None:
+def mark_differences(stretch: Stretch, copies: Sequence[Copy], right: int, wrong: Sequence[int], found: Sequence[KnownDamage]) -> None:
     """Marks the sectors in which copies with equal bytes differ from one that is right."""
     for offset in range(0, stretch.size, PIECE):
         size = min(PIECE, stretch.size - offset)
@@ -215,8 +213,7 @@ def mark_differences(stretch: Stretch, copies: typing.Sequence[Copy], right: int
                 mark_piece(stretch, offset + start, ours[start : start + SECTOR], theirs[start : start + SECTOR], wrong, found)
 
 
-def mark_piece(stretch: Stretch, offset: int, ours: bytes, theirs: bytes, wrong: typing.Sequence[int],
-               found: typing.Sequence[KnownDamage]) -> None:
+def mark_piece(stretch: Stretch, offset: int, ours: bytes, theirs: bytes, wrong: Sequence[int], found: Sequence[KnownDamage]) -> None:
     """Marks the sectors of the first and of the last byte in which byte strings of at most a sector differ."""
     unequal = [at for at, pair in enumerate(zip(ours, theirs)) if pair[0] != pair[1]]
     for number in wrong if unequal else ():
@@ -225,7 +222,7 @@ def mark_piece(stretch: Stretch, offset: int, ours: bytes, theirs: bytes, wrong:
             found[number].damaged.mark(place + at, place + at + 1)
 
 
-def without_lost(stretch: Stretch, copies: typing.Sequence[Copy]) -> Stretch:
+def without_lost(stretch: Stretch, copies: Sequence[Copy]) -> Stretch:
     """Returns a plain stretch without the versions of copies that have lost a sector there, where two others at least agree."""
     having = stretch.having()
     if stretch.kind is not Kind.PLAIN or stretch.is_alike or len(having) < 3:
@@ -243,7 +240,7 @@ def around(stretch: Stretch, number: int) -> tuple[int, int]:
     return max(place - SECTOR + 1, 0), place + stretch.size + SECTOR - 1
 
 
-def has_lost_sector(stretch: Stretch, copies: typing.Sequence[Copy], number: int, others: typing.Iterable[int]) -> bool:
+def has_lost_sector(stretch: Stretch, copies: Sequence[Copy], number: int, others: Iterable[int]) -> bool:
     """Reports whether a copy has a run of one value of a sector's length in a stretch, or across an end of it, where another copy has more
     values; or zeros in a last sector that is shorter."""
     start, end = around(stretch, number)
@@ -259,14 +256,14 @@ def has_lost_sector(stretch: Stretch, copies: typing.Sequence[Copy], number: int
     return False
 
 
-def has_data(stretch: Stretch, copies: typing.Sequence[Copy], number: int, other: int, start: int, end: int) -> bool:
+def has_data(stretch: Stretch, copies: Sequence[Copy], number: int, other: int, start: int, end: int) -> bool:
     """Reports whether another copy has several values where one copy has a range of one value, next to a stretch."""
     shift = (stretch.places[other] or 0) - (stretch.places[number] or 0)
     piece = copies[other].read(max(start + shift, 0), end - start)
     return piece.count(piece[:1]) < len(piece)
 
 
-def differ_widely(stretch: Stretch, copies: typing.Sequence[Copy], one: int, other: int) -> bool:
+def differ_widely(stretch: Stretch, copies: Sequence[Copy], one: int, other: int) -> bool:
     """Reports whether two copies differ in many bytes in a stretch and around it."""
     if stretch.size >= FEWEST_LOST * differences.SHORTEST_AGREED:
         return True

@@ -3,12 +3,12 @@ from __future__ import annotations
 
 import bisect
 import dataclasses
-import typing
+from collections.abc import Sequence
 
 from ..model import Copy, Kind, Stretch
 
 
-def without_unread(stretch: Stretch, copies: typing.Sequence[Copy], own: int) -> list[Stretch]:
+def without_unread(stretch: Stretch, copies: Sequence[Copy], own: int) -> list[Stretch]:
     """The parts of a stretch, in which no copy has a place that it could not be read at. A frame or an element is one part: its check says
     what of it is right. The first copies, so many as `own`, are of OUT's file."""
     if not any(copy.unread for copy in copies):
@@ -29,7 +29,7 @@ def spans_in(copy: Copy, start: int, end: int) -> list[tuple[int, int]]:
     return [(max(one, start), min(other, end)) for one, other in copy.unread[first:last]]
 
 
-def part(stretch: Stretch, copies: typing.Sequence[Copy], own: int, start: int, end: int) -> Stretch:
+def part(stretch: Stretch, copies: Sequence[Copy], own: int, start: int, end: int) -> Stretch:
     """The part of a stretch between two places of OUT. If one copy alone could be read there, and each other one of OUT's file not, what it
     has stands without doubt. What none could be read is that of the first copy, and open."""
     offset, size = start - stretch.start, end - start

@@ -4,7 +4,7 @@ from __future__ import annotations
 import bisect
 import dataclasses
 import itertools
-import typing
+from collections.abc import Iterator, Sequence
 
 from ..containers.frame_times import THOUSANDTHS, TrackTimes, end_of, tracks_of
 from ..copies.arrangement import Matched
@@ -24,10 +24,10 @@ class Seen:
     recording, and the copies that are other files."""
 
     layout: Layout
-    out: typing.Optional[Layout]
+    out: Layout | None
     results: Results
-    claims: typing.Sequence[Claims] = ()
-    matched: typing.Sequence[Matched] = ()
+    claims: Sequence[Claims] = ()
+    matched: Sequence[Matched] = ()
 
     def all_claims(self) -> list[Claims]:
         """What OUT claims, and what lies in OUT by all its copies; and what single copies claim where OUT says nothing. Where it does,
@@ -46,7 +46,7 @@ class Seen:
         return known
 
 
-def find_lacks(seen: Seen) -> typing.Iterator[Reason]:
+def find_lacks(seen: Seen) -> Iterator[Reason]:
     """What OUT does not show, in the order of what is surest."""
     if seen.out is None or not seen.out.frames:
         if seen.layout.frames:
@@ -65,7 +65,7 @@ def find_lacks(seen: Seen) -> typing.Iterator[Reason]:
     yield from of_others(seen)
 
 
-def hidden(layout: Layout, out: Layout, results: Results) -> typing.Iterator[Reason]:
+def hidden(layout: Layout, out: Layout, results: Results) -> Iterator[Reason]:
     """The listed frames that OUT's container does not show at their places."""
     shown = {(frame.track, frame.place, frame.size) for frame in out.frames}
     for number, frame in enumerate(layout.frames):
@@ -74,7 +74,7 @@ def hidden(layout: Layout, out: Layout, results: Results) -> typing.Iterator[Rea
             yield Reason(Why.HIDDEN, Content.FRAME, frame.track, (order, order), (frame.place, frame.end), (frame.time, frame.time))
 
 
-def misplaced(out: Layout) -> typing.Iterator[Reason]:
+def misplaced(out: Layout) -> Iterator[Reason]:
     """The frames whose times do not rise with those of the others: what lies there is of another place."""
     tracks: dict[int, list[Frame]] = {}
     for frame in out.frames if out.rises else ():
@@ -91,7 +91,7 @@ class Excuses:
     """Why a hole in the times may have been recorded: OUT has as many frames as the file counts, or the bytes between the frames on both
     sides of it are verified, so that no frame can be hidden there."""
 
-    def __init__(self, seen: Seen, tracks: typing.Sequence[TrackTimes]) -> None:
+    def __init__(self, seen: Seen, tracks: Sequence[TrackTimes]) -> None:
         claimed = [each.counts for each in seen.all_claims()]
         self.counted = {track.number for track in tracks
                         if {each[track.number] for each in claimed if track.number in each} == {len(track.frames)}}
@@ -111,7 +111,7 @@ class Excuses:
         return track.number in self.counted or self.unverified(start, end) < SMALLER * track.size
 
 
-def holes(track: TrackTimes, excuses: Excuses) -> typing.Iterator[Reason]:
+def holes(track: TrackTimes, excuses: Excuses) -> Iterator[Reason]:
     """Times at which a frame is expected, and none is shown: between two frames, and before the first."""
     if not track.step:
         return
@@ -129,7 +129,7 @@ def hole(track: TrackTimes, start: float, end: float, count: int, span: tuple[in
     return Reason(Why.HOLE, Content.FRAME, track.number, bytes=span, times=(start, max(start, end)), count=max(count, 1))
 
 
-def counts(seen: Seen, tracks: typing.Sequence[TrackTimes]) -> typing.Iterator[Reason]:
+def counts(seen: Seen, tracks: Sequence[TrackTimes]) -> Iterator[Reason]:
     """Where fewer frames are shown than the file counts."""
     has = {track.number: len(track.frames) for track in tracks}
     for track in (track for track in seen.layout.tracks if track.is_ffv1):
@@ -138,7 +138,7 @@ def counts(seen: Seen, tracks: typing.Sequence[TrackTimes]) -> typing.Iterator[R
             yield Reason(Why.COUNT, track=track.number, has=has.get(track.number, 0), count=count)
 
 
-def ends(seen: Seen, tracks: typing.Sequence[TrackTimes]) -> typing.Iterator[Reason]:
+def ends(seen: Seen, tracks: Sequence[TrackTimes]) -> Iterator[Reason]:
     """Where OUT ends before the time that the file claims, or a track does, or a copy that is another file and is cut short itself."""
     for track in tracks:
         claimed = [each.ends[track.number] for each in seen.all_claims() if track.number in each.ends]
@@ -154,7 +154,7 @@ def ends(seen: Seen, tracks: typing.Sequence[TrackTimes]) -> typing.Iterator[Rea
                 yield Reason(Why.SHORTER, times=(end, matched.lasts), copy=matched.number)
 
 
-def indexed(seen: Seen, track: TrackTimes, known: typing.Sequence[tuple[float, float]]) -> typing.Iterator[Reason]:
+def indexed(seen: Seen, track: TrackTimes, known: Sequence[tuple[float, float]]) -> Iterator[Reason]:
     """The times that an index has of a track, at which no frame is shown. Those in holes are known already."""
     times, near = track.times, 0.5 * track.most_step() or THOUSANDTHS
     starts = [start for start, _ in known]
@@ -165,7 +165,7 @@ def indexed(seen: Seen, track: TrackTimes, known: typing.Sequence[tuple[float, f
             yield Reason(Why.INDEX, Content.FRAME, track.number, times=(time, time))
 
 
-def of_others(seen: Seen) -> typing.Iterator[Reason]:
+def of_others(seen: Seen) -> Iterator[Reason]:
     """What copies that are other files have, and OUT has no place for."""
     for matched in seen.matched:
         for why, frames in ((Why.UNPLACED, matched.unplaced), (Why.CONTRARY, matched.contrary)):

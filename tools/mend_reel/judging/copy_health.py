@@ -2,7 +2,7 @@
 from __future__ import annotations
 
 import dataclasses
-import typing
+from collections.abc import Sequence
 
 from ..containers import ebml
 from ..model import Copy, Frame, Kind, Layout
@@ -38,7 +38,7 @@ def has_passing(layout: Layout, at: int, number: int, copy: Copy) -> bool:
     return place is not None and ebml.passes(copy, place, place + stretch.size)
 
 
-def rotten(layout: Layout, healths: typing.Sequence[CopyHealth]) -> set[int]:
+def rotten(layout: Layout, healths: Sequence[CopyHealth]) -> set[int]:
     """The numbers of the frames that fail in elements that pass: they were damaged before the file was written."""
     numbers = {frame.place: at for at, frame in enumerate(layout.frames)}
     return {numbers[frame.place] for each in healths for at in each.passing for frame in layout.stretches[at].parts} - {
@@ -48,7 +48,7 @@ def rotten(layout: Layout, healths: typing.Sequence[CopyHealth]) -> set[int]:
 # ---- recordings without parities
 
 
-def lack_parities(layout: Layout, copies: typing.Sequence[Copy]) -> bool:
+def lack_parities(layout: Layout, copies: Sequence[Copy]) -> bool:
     """Whether the slices of a recording have no parities: of frames all over it no slice passes in any copy, though there is reason to
     believe that most of them are undamaged."""
     count = len(layout.frames)
@@ -63,7 +63,7 @@ def lack_parities(layout: Layout, copies: typing.Sequence[Copy]) -> bool:
     return 2 * believed > len(samples)
 
 
-def is_believed(layout: Layout, frame: Frame, versions: typing.Sequence[bytes], copies: typing.Sequence[Copy]) -> bool:
+def is_believed(layout: Layout, frame: Frame, versions: Sequence[bytes], copies: Sequence[Copy]) -> bool:
     """Whether a frame seems undamaged: its slices are divided by sizes alone, its copies are equal, its element passes, or it is of a
     version of FFV1 that has neither footers nor a record. A frame of bytes that are all the same is lost."""
     if any(map(is_uniform, versions)):

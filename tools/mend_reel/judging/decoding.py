@@ -2,7 +2,7 @@
 for right."""
 from __future__ import annotations
 
-import typing
+from collections.abc import Callable, Sequence
 
 from ..containers.configuration_record import has_range_coder
 from ..containers.ffprobe import can_ask
@@ -16,7 +16,7 @@ BEFORE, AFTER = 2.0, 0.5
 HEADER = 64
 ENTRIES = "frame=pkt_pos,pkt_size"
 
-Decodes = typing.Callable[[Track, Frame], bool]
+Decodes = Callable[[Track, Frame], bool]
 
 
 class FfmpegDecoder:
@@ -40,7 +40,7 @@ class FfmpegDecoder:
         return done.returncode == 0 and not done.stderr.strip() and found
 
 
-def decoded(layout: Layout, stretches: typing.Sequence[Stretch], outcomes: typing.Sequence[Outcome], decodes: Decodes) -> frozenset[int]:
+def decoded(layout: Layout, stretches: Sequence[Stretch], outcomes: Sequence[Outcome], decodes: Decodes) -> frozenset[int]:
     """The places of those frames with guessed slices for which no other checksum vouches, and that decode. `stretches` are in the order of
     OUT, and `outcomes` have their numbers there."""
     tracks, found = {track.number: track for track in layout.tracks}, set()

@@ -5,7 +5,7 @@ import dataclasses
 import hashlib
 import os
 import re
-import typing
+from collections.abc import Callable, Iterator, Sequence
 
 from ..model import Copy, Fault, or_fault
 
@@ -19,7 +19,7 @@ MOST_LINE, MOST_LINES = 1 << 16, 1 << 20
 MOST_STREAMS = 64
 
 
-Report = typing.Callable[[int, int], None]
+Report = Callable[[int, int], None]
 
 
 def unreported(done: int, whole: int) -> None:
@@ -65,7 +65,7 @@ def digest(path: str, algorithm: str, report: Report = unreported) -> str:
 # ---- lines of digest files
 
 
-def lines(path: str) -> typing.Iterator[str]:
+def lines(path: str) -> Iterator[str]:
     """The lines of a digest file, names as the system has them."""
     with or_fault(f"cannot read {path}"), open(path, "rb") as file:
         for _ in range(MOST_LINES):
@@ -82,7 +82,7 @@ def is_of_frames(path: str) -> bool:
     return next(iter(lines(path)), "").startswith(FRAMES_SIGN)
 
 
-def entries(path: str) -> typing.Iterator[Entry]:
+def entries(path: str) -> Iterator[Entry]:
     """The digests that a file has, as md5sum, sha1sum, sha256sum and sha512sum write them, or with the name of the algorithm."""
     for line in lines(path):
         entry = read_line(line)
@@ -90,7 +90,7 @@ def entries(path: str) -> typing.Iterator[Entry]:
             yield entry
 
 
-def read_line(line: str) -> typing.Optional[Entry]:
+def read_line(line: str) -> Entry | None:
     tagged, plain = TAGGED_LINE.fullmatch(line), PLAIN_LINE.fullmatch(line)
     if tagged:
         escaped, algorithm, name, made = tagged.groups()
@@ -110,7 +110,7 @@ def unescaped(name: str) -> str:
     return re.sub(r"\\[\\nr]", lambda match: ESCAPES[match.group()], name)
 
 
-def choose(found: typing.Sequence[Entry], named: str, copies: typing.Sequence[str], digest_file: str) -> Entry:
+def choose(found: Sequence[Entry], named: str, copies: Sequence[str], digest_file: str) -> Entry:
     """The entry that is meant: the one of the file's name, else that of a copy's, else the only one."""
     for names in ([named], copies):
         bases = {os.path.basename(name) for name in names}

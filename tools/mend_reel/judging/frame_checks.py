@@ -5,7 +5,7 @@ import dataclasses
 import os
 import pathlib
 import tempfile
-import typing
+from collections.abc import Callable, Iterator, Sequence
 import zlib
 
 from ..model import Copy, Fault
@@ -32,7 +32,7 @@ class Judged:
         return self.is_whole and 0 < self.links == self.passing
 
 
-Judge = typing.Callable[[Copy, typing.Sequence[Range]], list[Judged]]
+Judge = Callable[[Copy, Sequence[Range]], list[Judged]]
 
 
 class Scan:
@@ -43,7 +43,7 @@ class Scan:
         self.known: dict[tuple[str, int, int], Judged] = {}
         self.names: dict[str, int] = {}
 
-    def __call__(self, copy: Copy, ranges: typing.Sequence[Range]) -> list[Judged]:
+    def __call__(self, copy: Copy, ranges: Sequence[Range]) -> list[Judged]:
         """The judgement of each range. A range that the copy does not have has no slices."""
         fits = {(place, size) for place, size in ranges if 0 < size <= MOST_BYTES and 0 <= place and place + size <= copy.size}
         left = sorted(each for each in fits if (copy.path, *each) not in self.known)
@@ -53,7 +53,7 @@ class Scan:
                 self.known[(copy.path, *each)] = judged
         return [self.known.get((copy.path, *each), Judged()) for each in ranges]
 
-    def scan(self, copy: Copy, ranges: typing.Sequence[Range]) -> list[Judged]:
+    def scan(self, copy: Copy, ranges: Sequence[Range]) -> list[Judged]:
         """Has the program judge ranges that rise and do not overlap. It reads the copy by a link, as it takes only names that are text."""
         name = self.names.setdefault(copy.path, len(self.names))
         path, link = self.work / f"ranges.{name}", self.work / f"scanned.{name}"
@@ -76,7 +76,7 @@ class Scan:
             raise Fault(f"{self.program} did not report what it found in {copy.path}") from None
 
 
-def part_overlaps(ranges: typing.Sequence[Range]) -> tuple[list[Range], list[Range]]:
+def part_overlaps(ranges: Sequence[Range]) -> tuple[list[Range], list[Range]]:
     """Of ranges in their order those that follow each other, and those that begin within one of these."""
     now: list[Range] = []
     later = []
@@ -91,7 +91,7 @@ def read_line(line: str) -> Judged:
     return Judged(int(words[3]), int(words[5]), words[6] == "whole")
 
 
-def slices(frame: bytes) -> typing.Iterator[tuple[int, int]]:
+def slices(frame: bytes) -> Iterator[tuple[int, int]]:
     """From where to where the slices of a frame lie, from the last one on, as far as the footers lead (RFC 9043, section 4.9)."""
     end = len(frame)
     while end >= FOOTER:

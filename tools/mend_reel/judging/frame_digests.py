@@ -5,7 +5,7 @@ import dataclasses
 import os
 import re
 import subprocess
-import typing
+from collections.abc import Iterable, Iterator, Sequence
 
 from ..model import Fault, or_fault
 from .digests import MOST_STREAMS, Compared, Report, lines, unreported
@@ -44,7 +44,7 @@ class FrameDigests:
         return self.streams.setdefault(int(number), Stream())
 
 
-def read(found: typing.Iterable[str]) -> FrameDigests:
+def read(found: Iterable[str]) -> FrameDigests:
     """Reads the lines of a digest file, and of what FFmpeg prints."""
     made = FrameDigests()
     for line in found:
@@ -90,7 +90,7 @@ def make(path: str, wanted: FrameDigests, report: Report) -> FrameDigests:
     """The digests of a file's frames, as FFmpeg makes them."""
     count = sum(map(len, wanted.frames.values()))
 
-    def lines_of(file: typing.Iterable[bytes]) -> typing.Iterator[str]:
+    def lines_of(file: Iterable[bytes]) -> Iterator[str]:
         for number, line in enumerate(file, 1):
             report(min(number, count), count)
             yield os.fsdecode(line).rstrip("\r\n")
@@ -129,7 +129,7 @@ def compare(digest_file: str, path: str, named: str, report: Report = unreported
     return Compared(False, f"{named} does not have the original's frames: digests of {digest_file} differ: {differing}", False)
 
 
-def runs(numbers: typing.Sequence[int]) -> str:
+def runs(numbers: Sequence[int]) -> str:
     """Numbers as ranges, so many at most."""
     found: list[list[int]] = []
     for number in numbers:

@@ -1,13 +1,13 @@
 """What a digest that was kept of the original says of a file."""
 from __future__ import annotations
 
-import typing
+from collections.abc import Sequence
 
 from . import digests, frame_digests
 from .digests import Compared, Report, unreported
 
 
-def compare(digest_file: str, path: str, named: str, copies: typing.Sequence[str], report: Report = unreported) -> Compared:
+def compare(digest_file: str, path: str, named: str, copies: Sequence[str], report: Report = unreported) -> Compared:
     """What a digest file says of the file at a path, which is named so (OUT has another name while it is made). A line is meant if it has
     that name, or that of a copy, or is the only one. `report` is called with how much of the work is done, and of how much."""
     if digests.is_of_frames(digest_file):

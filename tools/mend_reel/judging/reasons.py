@@ -3,7 +3,8 @@ from __future__ import annotations
 
 import dataclasses
 import enum
-import typing
+from collections.abc import Iterable, Sequence
+from typing import Any
 
 from ..model import Because, Content
 
@@ -67,12 +68,12 @@ class Reason:
 
     why: Why
     content: Content = Content.UNKNOWN
-    track: typing.Optional[int] = None
-    frames: typing.Optional[tuple[int, int]] = None
-    bytes: typing.Optional[tuple[int, int]] = None
-    times: typing.Optional[tuple[float, float]] = None
-    source: typing.Optional[int] = None
-    copy: typing.Optional[int] = None
+    track: int | None = None
+    frames: tuple[int, int] | None = None
+    bytes: tuple[int, int] | None = None
+    times: tuple[float, float] | None = None
+    source: int | None = None
+    copy: int | None = None
     has: int = 0
     count: int = 1
     because: Because = Because.ALONE
@@ -122,7 +123,7 @@ class Reason:
         return f"{self.subject(out)}{self.where()}: {why}"
 
 
-def one_more(number: typing.Optional[int]) -> str:
+def one_more(number: int | None) -> str:
     """The number of a copy as a person counts."""
     return "" if number is None else str(number + 1)
 
@@ -142,7 +143,7 @@ def span_of_times(times: tuple[float, float]) -> str:
 # ---- reasons of neighbours
 
 
-def key_of(reason: Reason) -> tuple[typing.Any, ...]:
+def key_of(reason: Reason) -> tuple[Any, ...]:
     """What reasons have in common that can be one."""
     return reason.why, reason.content, reason.track, reason.source, reason.because, reason.copy
 
@@ -160,13 +161,13 @@ def goes_on(before: Reason, after: Reason) -> bool:
     return before.why in OF_FRAMES and before.why is not Why.HOLE
 
 
-def widest(before: typing.Optional[tuple], after: typing.Optional[tuple]) -> typing.Optional[tuple]:
+def widest(before: tuple | None, after: tuple | None) -> tuple | None:
     if before is None or after is None:
         return before or after
     return min(before[0], after[0]), max(before[1], after[1])
 
 
-def join(reasons: typing.Iterable[Reason]) -> list[Reason]:
+def join(reasons: Iterable[Reason]) -> list[Reason]:
     """The reasons in order, those of neighbours as one."""
     joined: list[Reason] = []
     last: dict[tuple, int] = {}
@@ -181,7 +182,7 @@ def join(reasons: typing.Iterable[Reason]) -> list[Reason]:
     return joined
 
 
-def lines(reasons: typing.Sequence[Reason], out: str = "OUT", most: int = MOST_LINES) -> list[str]:
+def lines(reasons: Sequence[Reason], out: str = "OUT", most: int = MOST_LINES) -> list[str]:
     """The reasons in lines, so many at most, and how many more there are."""
     shown = [reason.text(out) for reason in reasons[:most]]
     return shown + ([f"and {len(reasons) - most} more"] if len(reasons) > most else [])

@@ -4,7 +4,7 @@ from __future__ import annotations
 import bisect
 import dataclasses
 import enum
-import typing
+from collections.abc import Iterable, Sequence, Set
 
 from ..model import Content, Frame, Kind, Layout, Outcome, SliceReport, State, Stretch
 
@@ -71,17 +71,17 @@ class Sums:
         return 1 - self.verified / max(sum(self.named().values()), 1)
 
 
-def is_given(slices: typing.Sequence[SliceReport]) -> bool:
+def is_given(slices: Sequence[SliceReport]) -> bool:
     """Whether all slices of a frame are settled or woven."""
     return all(place.state in GIVEN for place in slices)
 
 
-def is_guessed(slices: typing.Sequence[SliceReport]) -> bool:
+def is_guessed(slices: Sequence[SliceReport]) -> bool:
     """Whether all slices of a frame are settled, woven or guessed, and some are guessed: voted or repaired."""
     return not is_given(slices) and all(place.state in (*GIVEN, *GUESSED) for place in slices)
 
 
-def copies_of(marks: str, mark: str, copy_of_mark: typing.Sequence[int]) -> set[int]:
+def copies_of(marks: str, mark: str, copy_of_mark: Sequence[int]) -> set[int]:
     """The copies that have a mark. Several marks may be of one copy."""
     return {copy_of_mark[at] for at, each in enumerate(marks) if each == mark}
 
@@ -90,9 +90,9 @@ class Results:
     """What became of the frames of a recording. `copy_of_mark` has the copy that each mark of an outcome is of; `decoded` the places of
     frames with guessed slices that decode, and `rotten` the numbers of frames that fail their parities in elements that pass."""
 
-    def __init__(self, layout: Layout, stretches: typing.Sequence[Stretch], outcomes: typing.Iterable[Outcome],
-                 copy_of_mark: typing.Sequence[int], decoded: typing.AbstractSet[int] = frozenset(),
-                 rotten: typing.AbstractSet[int] = frozenset()) -> None:
+    def __init__(self, layout: Layout, stretches: Sequence[Stretch], outcomes: Iterable[Outcome],
+                 copy_of_mark: Sequence[int], decoded: Set[int] = frozenset(),
+                 rotten: Set[int] = frozenset()) -> None:
         self.layout, self.stretches, self.copy_of_mark, self.decoded, self.rotten = layout, stretches, copy_of_mark, decoded, rotten
         self.places = [frame.place for frame in layout.frames]
         self.orders = count_in_tracks(layout.frames)
@@ -134,7 +134,7 @@ class Results:
             damaged = {self.copy_of_mark[mark] for mark in self.stretches[number].having()}
             self.frames[at] = FrameResult(at, self.orders[at], frame, number, FrameState.LOST, tuple(sorted(damaged)))
 
-    def judge(self, number: int, outcome: Outcome, part: typing.Optional[int], at: int) -> typing.Optional[FrameResult]:
+    def judge(self, number: int, outcome: Outcome, part: int | None, at: int) -> FrameResult | None:
         """What became of a frame; `part` is its number in its stretch, where the program lists its slices."""
         slices = () if part is None else tuple(outcome.slices.get(part, ()))
         damaged = self.damaged(self.stretches[number].kind, outcome, part is not None, slices)
@@ -143,7 +143,7 @@ class Results:
         state = FrameState.WOVEN if self.places[at] in self.decoded else how_it_stands(outcome.state, slices, part is not None)
         return FrameResult(at, self.orders[at], self.layout.frames[at], number, state, tuple(sorted(damaged)), slices)
 
-    def damaged(self, kind: Kind, outcome: Outcome, is_part: bool, slices: typing.Sequence[SliceReport]) -> set[int]:
+    def damaged(self, kind: Kind, outcome: Outcome, is_part: bool, slices: Sequence[SliceReport]) -> set[int]:
         """The copies that have a frame, and not as it was recorded: other bytes than OUT has in a slice, or none that passes."""
         zeros, ones = copies_of(outcome.marks, "0", self.copy_of_mark), copies_of(outcome.marks, "1", self.copy_of_mark)
         if kind is Kind.ELEMENT and is_part and not slices:
@@ -239,7 +239,7 @@ class Results:
         return found
 
 
-def how_it_stands(state: State, slices: typing.Sequence[SliceReport], has_parts: bool) -> FrameState:
+def how_it_stands(state: State, slices: Sequence[SliceReport], has_parts: bool) -> FrameState:
     """How a damaged frame stands in OUT."""
     given = bool(slices) and is_given(slices)
     if not given and state not in (State.WHOLE, State.WOVEN) and (has_parts or not state.is_good()):
@@ -249,7 +249,7 @@ def how_it_stands(state: State, slices: typing.Sequence[SliceReport], has_parts:
     return FrameState.RESTORED
 
 
-def count_in_tracks(frames: typing.Sequence[Frame]) -> list[int]:
+def count_in_tracks(frames: Sequence[Frame]) -> list[int]:
     """The number of each frame in its track, from 0."""
     counts: dict[int, int] = {}
     orders = []

@@ -2,7 +2,7 @@
 from __future__ import annotations
 
 import dataclasses
-import typing
+from collections.abc import Iterable, Iterator, Mapping, Sequence, Set
 
 from ..containers.structure import Flaw, Found
 from ..copies.arrangement import Left, Matched
@@ -32,20 +32,20 @@ class Evidence:
     numbers of frames that fail their parities in elements that pass."""
 
     layout: Layout
-    stretches: typing.Sequence[Stretch]
-    outcomes: typing.Sequence[Outcome]
-    out: typing.Optional[Layout]
-    claims: typing.Sequence[Claims] = ()
-    matched: typing.Sequence[Matched] = ()
-    left: typing.Sequence[Left] = ()
-    copy_of_mark: typing.Sequence[int] = ()
-    others: typing.Mapping[int, Layout] = dataclasses.field(default_factory=dict)
+    stretches: Sequence[Stretch]
+    outcomes: Sequence[Outcome]
+    out: Layout | None
+    claims: Sequence[Claims] = ()
+    matched: Sequence[Matched] = ()
+    left: Sequence[Left] = ()
+    copy_of_mark: Sequence[int] = ()
+    others: Mapping[int, Layout] = dataclasses.field(default_factory=dict)
     has_damaged_heads: bool = False
-    decoded: typing.AbstractSet[int] = frozenset()
-    compared: typing.Optional[Compared] = None
+    decoded: Set[int] = frozenset()
+    compared: Compared | None = None
     is_check: bool = False
-    flaws: typing.Sequence[Found] = ()
-    rotten: typing.AbstractSet[int] = frozenset()
+    flaws: Sequence[Found] = ()
+    rotten: Set[int] = frozenset()
 
 
 @dataclasses.dataclass
@@ -59,7 +59,7 @@ class Verdict:
     counts: Counts
     results: Results
     has_damage: bool = False
-    compared: typing.Optional[Compared] = None
+    compared: Compared | None = None
     is_check: bool = False
     is_walked: bool = True
 
@@ -118,14 +118,14 @@ def judge(evidence: Evidence) -> Verdict:
                    evidence.is_check, is_walked)
 
 
-def is_cut(evidence: Evidence, copy_of_mark: typing.Sequence[int]) -> bool:
+def is_cut(evidence: Evidence, copy_of_mark: Sequence[int]) -> bool:
     """Whether a copy of OUT's file lacks a part of it."""
     others = {matched.number for matched in evidence.matched}
     own = [at for at, number in enumerate(copy_of_mark) if number not in others]
     return any(None in stretch.places and any(stretch.places[at] is None for at in own) for stretch in evidence.stretches)
 
 
-def of_other_contents(evidence: Evidence) -> typing.Iterator[Reason]:
+def of_other_contents(evidence: Evidence) -> Iterator[Reason]:
     """What other files have, and OUT lacks or has less of: tracks of a kind, attachments, chapters, tags."""
     own = evidence.layout.contents()
     for copy, other in evidence.others.items():
@@ -139,24 +139,24 @@ def of_tags(evidence: Evidence) -> list[str]:
             if Content.TAGS in other.contents() - own]
 
 
-def of_records(evidence: Evidence) -> typing.Iterator[Reason]:
+def of_records(evidence: Evidence) -> Iterator[Reason]:
     """The tracks whose Configuration Record fails its parity."""
     for track in (evidence.out or evidence.layout).tracks:
         if track.is_ffv1 and track.record and not passes_as_record(track.record):
             yield Reason(Why.RECORD, Content.TRACKS, track.number)
 
 
-def of_unchecked(results: Results) -> typing.Iterator[Reason]:
+def of_unchecked(results: Results) -> Iterator[Reason]:
     """That no frame of a file that is checked has a checksum."""
     frames = [number for number, stretch in enumerate(results.stretches) if results.numbers(stretch) or stretch.what.content in OF_CLUSTERS]
     if all(results.state(number) is State.ALONE for number in frames):
         yield Reason(Why.UNCHECKED)
 
 
-def of_one_copy(results: Results) -> typing.Iterator[Reason]:
+def of_one_copy(results: Results) -> Iterator[Reason]:
     """What one copy alone has and no checksum covers: nothing vouches for it. Stretches of one content are one reason, up to the next one
     for which something vouches."""
-    runs: dict[tuple[Content, typing.Optional[int]], Reason] = {}
+    runs: dict[tuple[Content, int | None], Reason] = {}
     for number, stretch in enumerate(results.stretches):
         key = stretch.what.content, stretch.what.track
         if results.state(number) is not State.ALONE:
@@ -183,14 +183,14 @@ def of_the_rest(results: Results) -> list[str]:
     return [f"beside frames that are not restored {size} bytes of sound and headers can't be verified, as one checksum is over all"]
 
 
-def of_gaps(layout: Layout) -> typing.Iterator[Reason]:
+def of_gaps(layout: Layout) -> Iterator[Reason]:
     """The bytes that no copy divides, and those that none has."""
     for place, size in layout.gaps:
         why = Why.ABSENT if place >= layout.size else Why.UNDIVIDED
         yield Reason(why, Content.UNKNOWN, bytes=(place, place + size))
 
 
-def of_flaws(evidence: Evidence, found: typing.Iterable[Reason]) -> list[Reason]:
+def of_flaws(evidence: Evidence, found: Iterable[Reason]) -> list[Reason]:
     """Where the parts of a file do not hang together, but for what is in doubt already. What copies agree on may lack a checksum, or lie
     after the end."""
     known, made = [reason.bytes for reason in found if reason.bytes and reason.why is not Why.ALONE], []
@@ -201,13 +201,13 @@ def of_flaws(evidence: Evidence, found: typing.Iterable[Reason]) -> list[Reason]
     return made
 
 
-def of_rotten(results: Results, rotten: typing.Iterable[int]) -> typing.Iterator[Reason]:
+def of_rotten(results: Results, rotten: Iterable[int]) -> Iterator[Reason]:
     """The frames that were damaged before the file was written."""
     for at in rotten:
         yield of_frame(Why.ROTTEN, results.frames[at], 0)
 
 
-def of_stretches(results: Results) -> typing.Iterator[Reason]:
+def of_stretches(results: Results) -> Iterator[Reason]:
     """The stretches of OUT that are not whole, woven, agreed or read; what is alone stands apart."""
     for number, stretch in enumerate(results.stretches):
         state = results.state(number)
@@ -216,7 +216,7 @@ def of_stretches(results: Results) -> typing.Iterator[Reason]:
             yield from of_stretch(stretch, state, lost, results.source(stretch))
 
 
-def of_stretch(stretch: Stretch, state: State, lost: typing.Sequence[FrameResult], source: int) -> typing.Iterator[Reason]:
+def of_stretch(stretch: Stretch, state: State, lost: Sequence[FrameResult], source: int) -> Iterator[Reason]:
     """Why a stretch is in doubt: the frames that are lost in it, if it is for them, else all of it."""
     having = len(stretch.having())
     damaged = Why.ALONE_DAMAGED if having == 1 else Why.DAMAGED
@@ -241,7 +241,7 @@ def is_disputed(frame: FrameResult) -> bool:
     return any(place.state == "disputed" for place in frame.slices)
 
 
-def guess_of(frame: FrameResult) -> typing.Optional[Why]:
+def guess_of(frame: FrameResult) -> Why | None:
     """By what guesses a frame is put together, if it is by some."""
     if not is_guessed(frame.slices):
         return None
@@ -255,7 +255,7 @@ def of_frame(why: Why, result: FrameResult, source: int) -> Reason:
                   source if why in (Why.DIFFER, Why.DISPUTED) else None)
 
 
-def of_bytes(why: Why, stretch: Stretch, source: typing.Optional[int] = None) -> Reason:
+def of_bytes(why: Why, stretch: Stretch, source: int | None = None) -> Reason:
     what = stretch.what
     start, end = what.start, what.end if what.end is not None else what.start
     times = None if start is None or end is None else (start, end)

@@ -6,7 +6,8 @@ import io
 import os
 import signal
 import sys
-import typing
+from collections.abc import Iterable, Sequence
+from typing import Any, NoReturn, TextIO
 
 from ..model import Fault
 from . import options, session
@@ -27,7 +28,7 @@ def ignore_interrupts() -> None:
         signal.signal(number, signal.SIG_IGN)
 
 
-def interrupted(*_: typing.Any) -> typing.NoReturn:
+def interrupted(*_: Any) -> NoReturn:
     """Ends the work. What comes while it is cleared away is ignored."""
     ignore_interrupts()
     raise Interrupted("interrupted")
@@ -48,7 +49,7 @@ def check(asked: options.Options) -> None:
     refuse_kept(filter(None, (asked.keep, asked.pictures)), asked.copies, asked.force)
 
 
-def refuse_repeated(made: typing.Sequence[str]) -> None:
+def refuse_repeated(made: Sequence[str]) -> None:
     """Refuses to write two files to one place. A device takes several."""
     places = [os.path.realpath(path) if descriptor is None else descriptor for path in made for descriptor in [descriptor_of(path)]]
     for number, place in enumerate(places):
@@ -56,7 +57,7 @@ def refuse_repeated(made: typing.Sequence[str]) -> None:
             raise Fault(f"{made[number]} is named twice")
 
 
-def write_out(lines: typing.Iterable[str], stream: typing.TextIO) -> None:
+def write_out(lines: Iterable[str], stream: TextIO) -> None:
     """Prints the lines. A reader that takes no more of them has what it wants."""
     try:
         print("\n".join(map(in_one_line, lines)), file=stream, flush=True)
@@ -73,7 +74,7 @@ def say(fault: str) -> None:
         print(line, file=sys.stderr or io.StringIO(), flush=True)
 
 
-def made_or_not(fault: BaseException, asked: options.Options, outputs: typing.Optional[Outputs]) -> str:
+def made_or_not(fault: BaseException, asked: options.Options, outputs: Outputs | None) -> str:
     """A fault, and whether OUT was made before it where that is to be said."""
     if outputs is not None and outputs.is_out_made:
         return f"{fault}; {asked.out} was made"

@@ -2,7 +2,7 @@
 from __future__ import annotations
 
 import re
-import typing
+from collections.abc import Iterator
 
 from ..model import Copy, Fault, or_fault
 
@@ -32,7 +32,7 @@ def unread(path: str, copy: Copy) -> list[Span]:
     return found
 
 
-def read(path: str) -> typing.Iterator[tuple[int, int, str]]:
+def read(path: str) -> Iterator[tuple[int, int, str]]:
     """The blocks of a mapfile: from where to where, and their statuses. They follow each other."""
     last, is_begun = None, False
     for number, words in lines(path):
@@ -63,7 +63,7 @@ def number_of(word: str) -> int:
     return int(word, 8 if word[0] == "0" and not set(word) - set("01234567") else 10)
 
 
-def lines(path: str) -> typing.Iterator[tuple[int, list[str]]]:
+def lines(path: str) -> Iterator[tuple[int, list[str]]]:
     """The words of each line that is no comment, with the line's number."""
     with or_fault(f"cannot read {path}"), open(path, "rb") as file:
         for number in range(1, MOST_LINES):

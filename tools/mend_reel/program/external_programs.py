@@ -8,11 +8,12 @@ import shutil
 import signal
 import subprocess
 import sys
-import typing
+from collections.abc import Iterator, Sequence
+from typing import IO, Union
 
 from ..model import Fault, or_fault
 
-Word = typing.Union[str, "os.PathLike[str]"]
+Word = Union[str, "os.PathLike[str]"]
 
 
 def run(*words: Word) -> "subprocess.CompletedProcess[bytes]":
@@ -23,7 +24,7 @@ def run(*words: Word) -> "subprocess.CompletedProcess[bytes]":
 
 
 @contextlib.contextmanager
-def started(words: typing.Sequence[Word], faults: typing.IO[bytes]) -> "typing.Iterator[subprocess.Popen[bytes]]":
+def started(words: Sequence[Word], faults: IO[bytes]) -> "Iterator[subprocess.Popen[bytes]]":
     """Runs a program whose standard output is read as it comes, and whose faults go to a file. It ends where the reader fails."""
     with or_fault(f"cannot run {os.fspath(words[0])}"):
         child = subprocess.Popen([os.fspath(word) for word in words], stdin=subprocess.DEVNULL, stdout=subprocess.PIPE, stderr=faults,

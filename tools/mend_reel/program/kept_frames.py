@@ -7,7 +7,7 @@ import os
 import pathlib
 import re
 import shutil
-import typing
+from collections.abc import Iterable, Sequence
 
 from ..model import Copy, Fault, Track
 from .external_programs import last_line, need, run
@@ -37,11 +37,11 @@ class Held:
 
     name: str
     track: Track
-    pieces: typing.Sequence[tuple[str, bytes]]
+    pieces: Sequence[tuple[str, bytes]]
     is_restored: bool
 
 
-def refuse_kept(folders: typing.Iterable[str], copies: typing.Sequence[str], force: bool) -> None:
+def refuse_kept(folders: Iterable[str], copies: Sequence[str], force: bool) -> None:
     """Refuses to overwrite what an earlier call kept in some folders, and copies that have such names."""
     found = [os.path.join(folder, name) for folder in folders if os.path.isdir(folder)
              for name in sorted(os.listdir(folder)) if KEPT.fullmatch(name)]
@@ -55,7 +55,7 @@ def refuse_kept(folders: typing.Iterable[str], copies: typing.Sequence[str], for
 class Keeper:
     """Keeps what was asked for, in the working folder, until all is done. What fails here is a note: OUT is not lost for it."""
 
-    def __init__(self, program: str, work: pathlib.Path, keep: typing.Optional[str], pictures: typing.Optional[str]) -> None:
+    def __init__(self, program: str, work: pathlib.Path, keep: str | None, pictures: str | None) -> None:
         self.program, self.work, self.keep, self.pictures = program, work, keep, pictures
         self.notes: list[str] = []
         self.pixels: dict[int, str] = {}
@@ -64,7 +64,7 @@ class Keeper:
         for name in ("keep", "pictures"):
             (work / name).mkdir()
 
-    def keep_list(self, listed: pathlib.Path, copies: typing.Sequence[Copy]) -> None:
+    def keep_list(self, listed: pathlib.Path, copies: Sequence[Copy]) -> None:
         """Keeps the list, and the paths of its copies. A copy in the working folder is kept too, as it would be gone else."""
         if not self.keep:
             return
@@ -73,7 +73,7 @@ class Keeper:
         except OSError as error:
             self.notes.append(f"the list is not kept: {error.strerror}")
 
-    def copy_list(self, listed: pathlib.Path, copies: typing.Sequence[Copy]) -> None:
+    def copy_list(self, listed: pathlib.Path, copies: Sequence[Copy]) -> None:
         paths = []
         for copy in copies:
             if pathlib.Path(copy.path).parent == self.work:
@@ -153,14 +153,14 @@ class Keeper:
             run("ffmpeg", "-v", "quiet", "-y", "-f", "rawvideo", "-pix_fmt", self.pixels[frame.track.number], "-s", size, "-i",
                 folder / "samples", self.work / "pictures" / f"{frame.name}.png")
 
-    def hand_over(self, others: typing.Sequence[str]) -> list[str]:
+    def hand_over(self, others: Sequence[str]) -> list[str]:
         """Copies what was kept to where it is asked for, but over none of some other files. Returns what could not be, in lines."""
         made = [(path, os.path.join(asked, path.name)) for asked, name in ((self.keep, "keep"), (self.pictures, "pictures")) if asked
                 for path in sorted((self.work / name).iterdir())]
         return list(filter(None, (copy_over(path, name, others) for path, name in made)))
 
 
-def copy_over(path: pathlib.Path, name: str, others: typing.Sequence[str]) -> typing.Optional[str]:
+def copy_over(path: pathlib.Path, name: str, others: Sequence[str]) -> str | None:
     """Copies a file, and returns why that could not be."""
     if any(is_same(name, other) for other in others):
         return f"{name} is not kept: it is another file of this call"

@@ -3,7 +3,8 @@ from __future__ import annotations
 
 import dataclasses
 import itertools
-import typing
+from collections.abc import Iterable, Iterator, Sequence
+from typing import TextIO
 
 from ..containers.stretch_builder import MOST_STRETCH
 from ..model import Kind, Stretch
@@ -11,7 +12,7 @@ from ..model import Kind, Stretch
 FIRST_PART = 6
 
 
-def list_of(stretches: typing.Iterable[Stretch]) -> list[Stretch]:
+def list_of(stretches: Iterable[Stretch]) -> list[Stretch]:
     """The stretches as they can stand in a list. What the program would refuse is changed: a place that does not rise is none, and where
     the source lacks the stretch the first copy that has it is its source."""
     listed: list[Stretch] = []
@@ -29,13 +30,13 @@ def list_of(stretches: typing.Iterable[Stretch]) -> list[Stretch]:
     return listed
 
 
-def write(listed: typing.Iterable[Stretch], file: typing.TextIO) -> None:
+def write(listed: Iterable[Stretch], file: TextIO) -> None:
     """Writes the list to a file."""
     for stretch in listed:
         file.writelines(lines(stretch))
 
 
-def pieces(stretch: Stretch) -> typing.Iterator[Stretch]:
+def pieces(stretch: Stretch) -> Iterator[Stretch]:
     """Yields a stretch, in several plain ones if it is too long for one, and nothing if it is empty."""
     if stretch.size <= MOST_STRETCH:
         if stretch.size > 0:
@@ -47,7 +48,7 @@ def pieces(stretch: Stretch) -> typing.Iterator[Stretch]:
                                   places=places, parts=())
 
 
-def rising(stretch: Stretch, ends: typing.Sequence[int]) -> Stretch:
+def rising(stretch: Stretch, ends: Sequence[int]) -> Stretch:
     """Returns a stretch without the places that begin before the end of the stretch before, and without parts that can't be listed."""
     places = tuple(None if place is None or place < end else place for place, end in zip(stretch.places, ends))
     if stretch.kind is Kind.ELEMENT:
@@ -57,7 +58,7 @@ def rising(stretch: Stretch, ends: typing.Sequence[int]) -> Stretch:
     return stretch if places == stretch.places else dataclasses.replace(stretch, places=places)
 
 
-def listable(stretch: Stretch) -> typing.Iterator[tuple[int, int, bool]]:
+def listable(stretch: Stretch) -> Iterator[tuple[int, int, bool]]:
     """Yields the parts of an element that rise, begin after its CRC-32, and end within it."""
     end = stretch.start + FIRST_PART
     for place, size, is_flac in stretch.listed_parts():
@@ -66,7 +67,7 @@ def listable(stretch: Stretch) -> typing.Iterator[tuple[int, int, bool]]:
             end = place + size
 
 
-def lines(stretch: Stretch) -> typing.Iterator[str]:
+def lines(stretch: Stretch) -> Iterator[str]:
     """Yields the lines of a stretch."""
     places = " ".join("-" if place is None else str(place) for place in stretch.places)
     yield f"{stretch.kind.value} {stretch.size} {stretch.source + 1} {places}\n"

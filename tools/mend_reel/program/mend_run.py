@@ -3,7 +3,7 @@ from __future__ import annotations
 
 import os
 import pathlib
-import typing
+from collections.abc import Callable, Iterable, Iterator, Mapping, Sequence
 
 from ..model import Copy, Fault, Outcome, SliceReport, State, Stretch
 from .external_programs import last_line, started
@@ -28,7 +28,7 @@ def read_place(words: list[str]) -> SliceReport:
 class ReportReader:
     """Reads the lines of a pass, which come a stretch after the other."""
 
-    def __init__(self, lines: typing.Iterable[bytes]) -> None:
+    def __init__(self, lines: Iterable[bytes]) -> None:
         self.lines = iter(lines)
         self.words: list[str] = []
         self.next()
@@ -61,14 +61,14 @@ class ReportReader:
             slices[part - 1] = self.read_slices()
         return Outcome(int(number) - 1, State(state), int(count[0]) if count else 0, marks, slices)
 
-    def outcomes(self) -> typing.Iterator[Outcome]:
+    def outcomes(self) -> Iterator[Outcome]:
         """What became of each stretch."""
         while self.words:
             yield self.read_stretch()
 
 
-def mend(program: str, stretches: typing.Sequence[Stretch], listed: pathlib.Path, out: str, out_name: str, copies: typing.Sequence[Copy],
-         work: pathlib.Path, report: typing.Callable[[int], None]) -> list[Outcome]:
+def mend(program: str, stretches: Sequence[Stretch], listed: pathlib.Path, out: str, out_name: str, copies: Sequence[Copy],
+         work: pathlib.Path, report: Callable[[int], None]) -> list[Outcome]:
     """Has the program write `out`, which a person knows by another name, by a list, and returns what became of each stretch that some copy
     has otherwise, or that is open. `report` is called with how many bytes of OUT are done."""
     names = [link_to(copy, work) for copy in copies]
@@ -102,7 +102,7 @@ def mend(program: str, stretches: typing.Sequence[Stretch], listed: pathlib.Path
     return found
 
 
-def known_by(line: str, names: typing.Mapping[str, str]) -> str:
+def known_by(line: str, names: Mapping[str, str]) -> str:
     """A line with the names of files that a person knows."""
     for name, known in names.items():
         line = line.replace(name, known)

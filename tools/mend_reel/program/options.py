@@ -3,7 +3,7 @@ from __future__ import annotations
 
 import argparse
 import dataclasses
-import typing
+from collections.abc import Mapping, Sequence
 
 VERSION = "0.2.0"
 USAGE = """mend-reel [options] -o OUT COPY...
@@ -23,16 +23,16 @@ class Options:
     """What is asked for. `out` is nothing where copies are only checked; `is_named` is whether it was named by -o. `maps` has the file of
     unread places of some copies, by their numbers."""
 
-    out: typing.Optional[str]
+    out: str | None
     is_named: bool
     copies: tuple[str, ...]
     force: bool
-    keep: typing.Optional[str]
-    pictures: typing.Optional[str]
-    report: typing.Optional[str]
-    json: typing.Optional[str]
-    digest: typing.Optional[str]
-    maps: typing.Mapping[int, str]
+    keep: str | None
+    pictures: str | None
+    report: str | None
+    json: str | None
+    digest: str | None
+    maps: Mapping[int, str]
     digests: bool
     jobs: int
     quiet: bool
@@ -79,7 +79,7 @@ def parser() -> argparse.ArgumentParser:
     return made
 
 
-def read(words: typing.Sequence[str]) -> Options:
+def read(words: Sequence[str]) -> Options:
     """Reads the command line. It ends the program with status 2 where it is not understood."""
     made = parser()
     end = words.index(END_OF_OPTIONS) if END_OF_OPTIONS in words else len(words)
@@ -106,7 +106,7 @@ def refuse_with_check(asked: argparse.Namespace, made: argparse.ArgumentParser) 
             made.error(f"argument {option}: not allowed with argument --check")
 
 
-def maps_of(words: typing.Sequence[str], copies: typing.Sequence[str], made: argparse.ArgumentParser) -> dict[int, str]:
+def maps_of(words: Sequence[str], copies: Sequence[str], made: argparse.ArgumentParser) -> dict[int, str]:
     """The paths of maps by the numbers of their copies. A copy and a path may have equals signs, so the longest name of a copy is meant."""
     maps: dict[int, str] = {}
     for word in words:

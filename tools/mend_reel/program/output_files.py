@@ -12,7 +12,7 @@ import shutil
 import signal
 import stat
 import tempfile
-import typing
+from collections.abc import Iterator
 
 from ..model import Fault, or_fault
 
@@ -27,7 +27,7 @@ MOST_LINKS, PIECE = 40, 1 << 20
 
 
 @contextlib.contextmanager
-def uninterrupted() -> typing.Iterator[None]:
+def uninterrupted() -> Iterator[None]:
     """Has an interrupt wait until a file that is made is known, so that it can be removed."""
     before = signal.pthread_sigmask(signal.SIG_BLOCK, INTERRUPTS)
     try:
@@ -39,7 +39,7 @@ def uninterrupted() -> typing.Iterator[None]:
 # ---- what a name stands for
 
 
-def descriptor_of(path: str) -> typing.Optional[int]:
+def descriptor_of(path: str) -> int | None:
     """The number of the open file that a path names: `-` and /dev/stdout are standard output. Links are followed."""
     if path == STANDARD_OUTPUT:
         return 1
@@ -54,7 +54,7 @@ def descriptor_of(path: str) -> typing.Optional[int]:
     return None
 
 
-def state_of(path: str) -> typing.Optional[os.stat_result]:
+def state_of(path: str) -> os.stat_result | None:
     """What the system says of the file that a path names, if it is there."""
     descriptor = descriptor_of(path)
     with contextlib.suppress(OSError):
@@ -111,7 +111,7 @@ class Output:
 
     path: str
     part: str
-    replaced: typing.Optional[str]
+    replaced: str | None
 
     def settle(self) -> None:
         """Gives the part its place."""

@@ -2,13 +2,14 @@
 from __future__ import annotations
 
 import concurrent.futures
-import typing
+from collections.abc import Callable, Sequence
+from typing import TypeVar
 
-Item = typing.TypeVar("Item")
-Found = typing.TypeVar("Found")
+Item = TypeVar("Item")
+Found = TypeVar("Found")
 
 
-def of_each(jobs: int, work: typing.Callable[[Item], Found], items: typing.Sequence[Item]) -> list[Found]:
+def of_each(jobs: int, work: Callable[[Item], Found], items: Sequence[Item]) -> list[Found]:
     """What is found for each item, in their order, so many at a time. Other programs do the work, or the system does, so threads serve.
     After a fault or an interrupt nothing is begun any more."""
     if jobs == 1 or len(items) < 2:

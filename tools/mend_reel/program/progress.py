@@ -3,7 +3,8 @@ from __future__ import annotations
 
 import sys
 import time
-import typing
+from collections.abc import Iterable
+from typing import TextIO
 
 from ..model import Copy
 
@@ -19,8 +20,8 @@ def clock(seconds: float) -> str:
 class Progress:
     """Reports on standard error how much of each step is done, and how long the rest of it takes at the pace so far."""
 
-    def __init__(self, quiet: bool = False, stream: typing.Optional[typing.TextIO] = None) -> None:
-        self.stream: typing.Optional[typing.TextIO] = stream or sys.stderr
+    def __init__(self, quiet: bool = False, stream: TextIO | None = None) -> None:
+        self.stream: TextIO | None = stream or sys.stderr
         self.quiet, self.terminal = quiet or self.stream is None, self.stream is not None and self.stream.isatty()
         self.step, self.begun, self.last, self.shown = "", 0.0, 0.0, False
         self.share = 0.0
@@ -44,7 +45,7 @@ class Progress:
         left = f", {clock((now - self.begun) * (1 - share) / share)} left" if share > 0 else ""
         self.show(f"{self.step}: {100 * share:.0f} %{left}")
 
-    def watch(self, copies: typing.Iterable[Copy]) -> None:
+    def watch(self, copies: Iterable[Copy]) -> None:
         """Has it reported how far each copy is read."""
         for copy in copies:
             copy.watch = lambda place, size=copy.size: self.at(place, size)  # type: ignore[misc]

@@ -5,7 +5,7 @@ import dataclasses
 import os
 import pathlib
 import stat
-import typing
+from collections.abc import Iterable, Mapping, Sequence
 
 from ..containers import ffprobe, matroska, structure
 from ..copies.arrangement import Arrangement, arrange, describe
@@ -46,7 +46,7 @@ class Made:
     outcomes: list[Outcome]
     out: Layout
     flaws: list[structure.Found]
-    part: typing.Optional[str] = None
+    part: str | None = None
     decoded: frozenset[int] = frozenset()
 
 
@@ -56,10 +56,10 @@ class Outputs:
     files; and whether OUT is made."""
 
     files: Files
-    out: typing.Optional[Output] = None
-    report: typing.Optional[Output] = None
-    json: typing.Optional[Output] = None
-    left: typing.Sequence[str] = ()
+    out: Output | None = None
+    report: Output | None = None
+    json: Output | None = None
+    left: Sequence[str] = ()
     is_out_made: bool = False
 
     @classmethod
@@ -84,9 +84,9 @@ class Outputs:
 class Finished:
     """What there is to say at the end: the lines to print, the exit status, and what could not be judged or written."""
 
-    lines: typing.Sequence[str]
+    lines: Sequence[str]
     status: int
-    faults: typing.Sequence[Fault] = ()
+    faults: Sequence[Fault] = ()
 
 
 def run(options: Options, work: pathlib.Path, outputs: Outputs, progress: Progress) -> Finished:
@@ -108,7 +108,7 @@ def run(options: Options, work: pathlib.Path, outputs: Outputs, progress: Progre
     return Finished(lines, max(summary.verdict.status for summary in summaries), faults)
 
 
-def patch(source: pathlib.Path, out: str, stretches: typing.Iterable[Stretch]) -> None:
+def patch(source: pathlib.Path, out: str, stretches: Iterable[Stretch]) -> None:
     """Writes stretches, which lie in a file one after the other, to their places in OUT."""
     with open(source, "rb") as file, open(out, "r+b") as made:
         for stretch in stretches:
@@ -139,7 +139,7 @@ class Session:
             for copy in copies:
                 os.close(copy.file)
 
-    def judged(self, copies: typing.Sequence[Copy], reporter: Reporter) -> Summary:
+    def judged(self, copies: Sequence[Copy], reporter: Reporter) -> Summary:
         """What becomes of some copies."""
         self.progress.begin("reading the copies")
         for copy, form in zip(copies, of_each(self.options.jobs, self.form, copies)):
@@ -167,7 +167,7 @@ class Session:
         self.notes += self.keeper.hand_over([*self.options.copies, *self.options.read(), *self.options.made()])
         return summary
 
-    def refuse_recording(self, copies: typing.Sequence[Copy]) -> None:
+    def refuse_recording(self, copies: Sequence[Copy]) -> None:
         """Refuses to overwrite a recording of the copies' video where OUT is named by its place alone: it may be a copy that stands there
         because OUT was forgotten."""
         path = self.options.out
@@ -185,7 +185,7 @@ class Session:
         if 0 not in left and len(left) < len(copies):
             raise Fault(f"{path} is a recording of the same video as the copies (-o {path} overwrites it)")
 
-    def compared(self, path: str) -> typing.Optional[Compared]:
+    def compared(self, path: str) -> Compared | None:
         """What a kept digest says of OUT, or of the file that is checked."""
         if self.options.digest is None:
             return None
@@ -260,7 +260,7 @@ class Session:
             return listed, outcomes
         return self.mend_anew(comparison, listed, outcomes, {number: follow(stretch, best) for number, stretch in ways.items()}, out)
 
-    def mend_anew(self, comparison: Comparison, listed: list[Stretch], outcomes: list[Outcome], chosen: typing.Mapping[int, Stretch],
+    def mend_anew(self, comparison: Comparison, listed: list[Stretch], outcomes: list[Outcome], chosen: Mapping[int, Stretch],
                   out: str) -> tuple[list[Stretch], list[Outcome]]:
         """OUT with those stretches of which another copy is followed than before made anew: nothing else is read a second time."""
         changed = {number: stretch for number, stretch in chosen.items() if stretch.source != listed[number].source}
@@ -276,13 +276,13 @@ class Session:
         self.keeper.keep_list(self.work / "list", comparison.inputs.files)
         return listed, outcomes
 
-    def write_list(self, name: str, stretches: typing.Sequence[Stretch]) -> list[Stretch]:
+    def write_list(self, name: str, stretches: Sequence[Stretch]) -> list[Stretch]:
         listed = mend_list.list_of(stretches)
         with open(self.work / name, "w", encoding="ascii") as text:
             mend_list.write(listed, text)
         return listed
 
-    def mend_listed(self, name: str, listed: typing.Sequence[Stretch], out: str, comparison: Comparison) -> list[Outcome]:
+    def mend_listed(self, name: str, listed: Sequence[Stretch], out: str, comparison: Comparison) -> list[Outcome]:
         """Has the program make a file by a list."""
         self.progress.begin("mending")
         return mend(self.program, listed, self.work / name, out, self.options.out or out, comparison.inputs.files, self.work,

@@ -9,7 +9,6 @@ import os
 import pathlib
 import shutil
 import tempfile
-import typing
 
 PREFIX, LOCK = "mend-reel.", "lock"
 
@@ -36,7 +35,7 @@ def leftovers() -> list[str]:
 
 def is_left(folder: str) -> bool:
     """Whether a folder for working files is nobody's any more: its lock can be had."""
-    lock: typing.Optional[int] = None
+    lock: int | None = None
     try:
         lock = os.open(os.path.join(folder, LOCK), os.O_WRONLY | getattr(os, "O_NOFOLLOW", 0))
         fcntl.flock(lock, fcntl.LOCK_EX | fcntl.LOCK_NB)

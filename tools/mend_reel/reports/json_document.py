@@ -7,7 +7,8 @@ from __future__ import annotations
 
 import json
 import os
-import typing
+from collections.abc import Iterable, Iterator, Sequence
+from typing import Any, TextIO
 
 from ..judging.reasons import Reason
 from ..judging.results import FrameResult, Results
@@ -15,11 +16,11 @@ from ..model import Outcome, SliceReport, Stretch, Track
 from .summary import CopySummary, Role, Summary
 
 FORMAT, FORMAT_VERSION = "mend-reel", 2
-Made = dict[str, typing.Any]
+Made = dict[str, Any]
 ROLES = {Role.BASIS: "basis", Role.OTHER: "other file", Role.LEFT: "left out"}
 
 
-def write(file: typing.TextIO, summaries: typing.Sequence[Summary]) -> None:
+def write(file: TextIO, summaries: Sequence[Summary]) -> None:
     """Writes the document: OUT, or each file that was checked."""
     write_open(file, call_of(summaries[0]), "files")
     for number, summary in enumerate(summaries):
@@ -28,13 +29,13 @@ def write(file: typing.TextIO, summaries: typing.Sequence[Summary]) -> None:
     file.write("\n ]\n}\n")
 
 
-def write_open(file: typing.TextIO, made: Made, last: str) -> None:
+def write_open(file: TextIO, made: Made, last: str) -> None:
     """Writes an object up to the beginning of its last member, a list."""
     head = json.dumps(made, indent=1)
     file.write(head[: head.rindex("\n}")] + f',\n "{last}": [')
 
 
-def write_file(file: typing.TextIO, summary: Summary) -> None:
+def write_file(file: TextIO, summary: Summary) -> None:
     """Writes what is known of OUT or of a file. The stretches come last, one in a line: those that are not whole in every copy."""
     write_open(file, document(summary), "stretches")
     comma = "\n"
@@ -93,12 +94,12 @@ def reason_of(reason: Reason, out: str) -> Made:
             "sentence": text_of(reason.text(out))}
 
 
-def counted(copy: typing.Optional[int]) -> typing.Optional[int]:
+def counted(copy: int | None) -> int | None:
     """The number of a copy, from 1."""
     return None if copy is None else copy + 1
 
 
-def times_of(times: typing.Iterable[typing.Optional[float]]) -> typing.Optional[list[typing.Optional[float]]]:
+def times_of(times: Iterable[float | None]) -> list[float | None] | None:
     """From when to when, or null if that is not known."""
     made = [None if time is None else round(time, 6) for time in times]
     return made if made[0] is not None else None
@@ -107,7 +108,7 @@ def times_of(times: typing.Iterable[typing.Optional[float]]) -> typing.Optional[
 # ---- stretches
 
 
-def listed(results: Results) -> typing.Iterator[int]:
+def listed(results: Results) -> Iterator[int]:
     """The numbers of the stretches that are not whole in every copy."""
     for number in range(len(results.stretches)):
         if number in results.outcomes or not results.state(number).is_good():
@@ -126,7 +127,7 @@ def stretch_of(results: Results, number: int) -> Made:
     }
 
 
-def places_of(stretch: Stretch, outcome: typing.Optional[Outcome], copy_of_mark: typing.Sequence[int]) -> list[Made]:
+def places_of(stretch: Stretch, outcome: Outcome | None, copy_of_mark: Sequence[int]) -> list[Made]:
     """Where each copy has a stretch, and whether it has what OUT has."""
     marks = outcome.marks if outcome else "-" * len(stretch.places)
     return [{"copy": copy_of_mark[at] + 1, "range": None if place is None else [place, place + stretch.size],
@@ -139,7 +140,7 @@ def frame_of(result: FrameResult, results: Results) -> Made:
             "damaged_in": [copy + 1 for copy in result.damaged], "slices": [slice_of(each, results.copy_of_mark) for each in result.slices]}
 
 
-def slice_of(place: SliceReport, copy_of_mark: typing.Sequence[int]) -> Made:
+def slice_of(place: SliceReport, copy_of_mark: Sequence[int]) -> Made:
     """A slice of a frame, by its bytes in the frame, and the copies that gave what OUT has."""
     givers = [copy_of_mark[at] + 1 for at, mark in enumerate(place.marks) if mark == "1"]
     return {"range_in_frame": [place.start, place.end], "state": place.state, "combinations": place.count, "given_by": sorted(set(givers))}

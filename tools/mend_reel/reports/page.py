@@ -3,7 +3,8 @@ from __future__ import annotations
 
 import html
 import itertools
-import typing
+from collections.abc import Iterable, Sequence
+from typing import Any, TextIO
 
 from ..judging.reasons import lines, span_of_times, time_code
 from ..judging.results import FrameResult, FrameState
@@ -32,12 +33,12 @@ STANDS = {State.WHOLE: "whole", State.WOVEN: "woven", State.AGREED: "agreed", St
           State.MISSING: "not restored", State.OPEN: "open", State.READ: "read"}
 
 
-def text(words: typing.Any) -> str:
+def text(words: Any) -> str:
     """A text as HTML."""
     return html.escape(text_of(str(words)))
 
 
-def write(file: typing.TextIO, summaries: typing.Sequence[Summary]) -> None:
+def write(file: TextIO, summaries: Sequence[Summary]) -> None:
     """Writes the page: OUT, or each file that was checked."""
     title = text(", ".join(summary.title() for summary in summaries[:4]))
     file.write(f'<!DOCTYPE html>\n<html lang="en"><head><meta charset="utf-8"><meta name="viewport" content="width=device-width">'
@@ -66,7 +67,7 @@ def doubts(summary: Summary) -> str:
     return made + ("<h2>Notes</h2>" + items(notes) if notes else "")
 
 
-def items(entries: typing.Iterable[str]) -> str:
+def items(entries: Iterable[str]) -> str:
     return "<ul>" + "".join(f"<li>{text(line)}</li>" for line in entries) + "</ul>"
 
 
@@ -105,7 +106,7 @@ def timeline(summary: Summary) -> str:
     return "<h2>Where the damage lies</h2>" + drawn.svg() + more + legend("Copies", OF_COPY) + legend(worst, OF_OUT)
 
 
-def legend(what: str, shades: typing.Sequence[Shade]) -> str:
+def legend(what: str, shades: Sequence[Shade]) -> str:
     keys = "".join(f'<span class="key" style="background:{COLOURS[shade]}"></span>{WORDS[shade]}' for shade in shades)
     return f"<p>{what}:{keys}</p>"
 
@@ -126,13 +127,13 @@ def frames(summary: Summary) -> str:
     return "<h2>Damaged frames</h2><p>Those that are not restored come first.</p>" + table(heads, rows, len(damaged))
 
 
-def table(heads: typing.Sequence[str], rows: str, count: int) -> str:
+def table(heads: Sequence[str], rows: str, count: int) -> str:
     more = f"<p>The first {MOST_ROWS} of {count} are shown.</p>" if count > MOST_ROWS else ""
     cells = "".join(f'<th scope="col">{head}</th>' for head in heads)
     return f'{more}<table class="wide"><thead><tr>{cells}</tr></thead><tbody>{rows}</tbody></table>'
 
 
-def frame_row(result: FrameResult, copy_of_mark: typing.Sequence[int], several: bool) -> str:
+def frame_row(result: FrameResult, copy_of_mark: Sequence[int], several: bool) -> str:
     damaged = [place for place in result.slices if place.state != "settled" or "0" in place.marks]
     spans = [f"{', '.join(f'{place.start} to {place.end}' for place in group)}: {how}"
              for how, group in itertools.groupby(damaged[:MOST_SLICES], key=lambda place: how_slice(place, copy_of_mark))]
@@ -142,7 +143,7 @@ def frame_row(result: FrameResult, copy_of_mark: typing.Sequence[int], several: 
             f"<td>{numbers(result.damaged)}</td><td class=\"k\">{result.state.value}</td><td>{'<br>'.join(map(text, spans))}</td></tr>")
 
 
-def how_slice(place: SliceReport, copy_of_mark: typing.Sequence[int]) -> str:
+def how_slice(place: SliceReport, copy_of_mark: Sequence[int]) -> str:
     """What OUT has in place of a slice that is damaged in some copy."""
     givers = sorted({copy_of_mark[at] for at, mark in enumerate(place.marks) if mark == "1"})
     if place.state == "settled":
@@ -156,7 +157,7 @@ def how_slice(place: SliceReport, copy_of_mark: typing.Sequence[int]) -> str:
     return {"disputed": "different ones pass", "missing": "none passes"}.get(place.state, "the footers do not lead there")
 
 
-def numbers(copies_of: typing.Iterable[int]) -> str:
+def numbers(copies_of: Iterable[int]) -> str:
     return ", ".join(str(number + 1) for number in copies_of)
 
 

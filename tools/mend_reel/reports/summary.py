@@ -4,7 +4,7 @@ from __future__ import annotations
 import dataclasses
 import enum
 import os
-import typing
+from collections.abc import Mapping, Sequence
 
 from ..copies.arrangement import Matched
 from ..judging.verdict import Verdict
@@ -29,8 +29,8 @@ class CopySummary:
     form: str = ""
     role: Role = Role.BASIS
     why: str = ""
-    verified: typing.Optional[int] = None
-    sha256: typing.Optional[str] = None
+    verified: int | None = None
+    sha256: str | None = None
 
     def name(self) -> str:
         """The path as text: bytes that are none stand as the replacement character."""
@@ -43,14 +43,14 @@ class Summary:
     where, the verdict, and what else is to be said."""
 
     date: str
-    versions: typing.Mapping[str, str]
-    command: typing.Sequence[str]
-    copies: typing.Sequence[CopySummary]
-    out: typing.Optional[CopySummary]
+    versions: Mapping[str, str]
+    command: Sequence[str]
+    copies: Sequence[CopySummary]
+    out: CopySummary | None
     layout: Layout
     verdict: Verdict
-    matched: typing.Sequence[Matched] = ()
-    notes: typing.Sequence[str] = ()
+    matched: Sequence[Matched] = ()
+    notes: Sequence[str] = ()
 
     def title(self) -> str:
         return self.out.name() if self.out else ", ".join(copy.name() for copy in self.copies[:4])

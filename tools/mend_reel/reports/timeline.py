@@ -6,7 +6,7 @@ import dataclasses
 import enum
 import html
 import itertools
-import typing
+from collections.abc import Iterator
 
 from ..judging.reasons import time_code
 from ..judging.results import FrameState
@@ -77,7 +77,7 @@ class Timeline:
         self.summary, self.results = summary, summary.verdict.results
         self.size, self.out = max(summary.layout.size, 1), "OUT" if summary.out else "mended"
         shown = [number for number, copy in enumerate(summary.copies) if copy.role is not Role.LEFT]
-        self.copies: list[typing.Optional[int]] = [*shown[:MOST_COPIES], None]
+        self.copies: list[int | None] = [*shown[:MOST_COPIES], None]
         self.more = len(shown) - len(shown[:MOST_COPIES])
         self.matched = {matched.number: matched.places for matched in summary.matched}
         self.basis = [number for number in shown[:MOST_COPIES] if number not in self.matched]
@@ -168,7 +168,7 @@ class Timeline:
         return (f'<svg viewBox="0 -2 {LEFT + WIDTH + RIGHT} {top + 40}" role="img" aria-label="Damage along the file">'
                 + "".join(parts) + "</svg>")
 
-    def row(self, copy: typing.Optional[int], kind: str, name: str, top: int) -> str:
+    def row(self, copy: int | None, kind: str, name: str, top: int) -> str:
         height, cells = BAR if kind == self.FRAMES else THIN, self.rows[copy, kind]
         shades = cells.shades() if copy is None else cells.shares()
         bold = ' font-weight="bold"' if copy is None else ""
@@ -190,7 +190,7 @@ class Timeline:
         return (f'<rect x="{LEFT + start * unit:.1f}" y="{top}" width="{count * unit:.1f}" height="{height}" fill="{COLOURS[shade]}">'
                 f"<title>{title}</title></rect>")
 
-    def tail(self, copy: typing.Optional[int], kind: str, top: int) -> str:
+    def tail(self, copy: int | None, kind: str, top: int) -> str:
         """How many frames are damaged, or not restored, after the row of frames."""
         if kind != self.FRAMES:
             return ""
@@ -206,7 +206,7 @@ class Timeline:
         at = min(bisect.bisect_left(self.results.places, place), len(frames) - 1)
         return time_code(frames[at].time)
 
-    def ticks(self, top: int) -> typing.Iterator[str]:
+    def ticks(self, top: int) -> Iterator[str]:
         """Times and byte places under the rows."""
         for part in range(TICKS):
             column = COLUMNS * part // (TICKS - 1)

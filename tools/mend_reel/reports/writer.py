@@ -4,7 +4,8 @@ from __future__ import annotations
 import datetime
 import os
 import sys
-import typing
+from collections.abc import Callable, Sequence
+from typing import TextIO
 
 from ..copies.arrangement import Arrangement
 from ..judging import digests
@@ -18,7 +19,7 @@ from ..program.progress import Progress
 from . import json_document, page
 from .summary import CopySummary, Role, Summary
 
-Writer = typing.Callable[[typing.TextIO, typing.Sequence[Summary]], None]
+Writer = Callable[[TextIO, Sequence[Summary]], None]
 
 
 class Reporter:
@@ -28,8 +29,8 @@ class Reporter:
         self.options, self.progress = options, progress
         self.versions = {"mend-reel": VERSION, "ffv1restore": version_of(program), "ffprobe": version_of("ffprobe")}
 
-    def summary(self, copies: typing.Sequence[Copy], arrangement: Arrangement, layout: Layout, verdict: Verdict,
-                part: typing.Optional[str], notes: typing.Sequence[str]) -> Summary:
+    def summary(self, copies: Sequence[Copy], arrangement: Arrangement, layout: Layout, verdict: Verdict,
+                part: str | None, notes: Sequence[str]) -> Summary:
         """What is to be said of OUT, or of a file that was checked. `part` is where OUT lies while it is made."""
         if self.options.digests:
             self.progress.begin("taking digests")
@@ -38,14 +39,14 @@ class Reporter:
         return Summary(date, self.versions, ["mend-reel", *sys.argv[1:]], self.copy_summaries(copies, arrangement, verdict),
                        self.out_summary(part, form), layout, verdict, arrangement.matched, notes)
 
-    def out_summary(self, part: typing.Optional[str], form: str) -> typing.Optional[CopySummary]:
+    def out_summary(self, part: str | None, form: str) -> CopySummary | None:
         """What is known of OUT, if it was made."""
         if part is None or self.options.out is None:
             return None
         sum_ = digests.digest(part, "sha256", self.progress.at) if self.options.digests else None
         return CopySummary(self.options.out, os.stat(part).st_size, form, sha256=sum_)
 
-    def copy_summaries(self, copies: typing.Sequence[Copy], arrangement: Arrangement, verdict: Verdict) -> list[CopySummary]:
+    def copy_summaries(self, copies: Sequence[Copy], arrangement: Arrangement, verdict: Verdict) -> list[CopySummary]:
         """What is known of each copy."""
         left = {left.number: left.text() for left in arrangement.left}
         others = {matched.number for matched in arrangement.matched}
@@ -57,7 +58,7 @@ class Reporter:
             made.append(CopySummary(copy.path, copy.size, copy.form, role, left.get(number, ""), verified, sum_))
         return made
 
-    def write(self, summaries: typing.Sequence[Summary], files: Files, *outputs: typing.Optional[Output]) -> list[Fault]:
+    def write(self, summaries: Sequence[Summary], files: Files, *outputs: Output | None) -> list[Fault]:
         """Writes the page and the document, if they are asked for, and returns why one can't be written."""
         faults = []
         for output, writer in zip(outputs, (page.write, json_document.write)):
@@ -70,7 +71,7 @@ class Reporter:
         return faults
 
 
-def write_part(output: Output, writer: Writer, summaries: typing.Sequence[Summary]) -> None:
+def write_part(output: Output, writer: Writer, summaries: Sequence[Summary]) -> None:
     """Writes a report as a part."""
     with or_fault(f"cannot write {output.path}"), open(output.part, "w", encoding="utf-8") as made:
         writer(made, summaries)
