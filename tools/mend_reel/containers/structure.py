@@ -1,9 +1,11 @@
 """How the elements, chunks or atoms of one file hang together: where they lead nowhere, where the file ends by them, what they count."""
 from __future__ import annotations
 
+import collections
 import dataclasses
 import enum
 import re
+from collections.abc import Callable, Iterator, Set
 from typing import NamedTuple
 
 from ..model import Copy
@@ -14,6 +16,7 @@ NAME = re.compile(rb"[\x20-\x7e\xa9][\x20-\x7e]{3}")
 MEDIA = re.compile(rb"([0-9]{2})(?:d[bc]|wb|tx)")
 MXF_KEY, MXF_HEAD = bytes.fromhex("060e2b34"), 16
 NUT_INDEX, NUT_ID, TAIL = bytes.fromhex("4e58dd672f23e64e"), b"nut/multimedia container\0", 1 << 20
+AVI_MASTERS = frozenset({b"RIFF", b"LIST"})
 MOV_MASTERS = frozenset({b"moov", b"trak", b"mdia", b"minf", b"stbl", b"mvex", b"moof", b"traf"})
 MATROSKA_MASTERS = frozenset({0x1654AE6B, 0x1549A966, 0x1C53BB6B, 0x1254C367, 0x114D9B74, 0x1941A469, 0x1043A770, 0xAE, 0xE0, 0xE1, 0x6D80,
                               0x6240, 0xBB, 0xB7, 0x7373, 0x63C0, 0x67C8, 0x4DBB, 0x61A7, 0x45B9, 0xB6, 0x1A45DFA3})
@@ -67,9 +70,9 @@ def read(copy: Copy) -> Structure:
     """The structure of a file, by its first bytes. Of a container that is not known here nothing is walked."""
     head = copy.read(0, len(NUT_ID))
     if head[:4] == b"RIFF":
-        return Avi(copy).read()
+        return read_avi(copy)
     if head[4:8] in (b"ftyp", b"moov", b"mdat", b"wide", b"free", b"skip"):
-        return Mov(copy).read()
+        return read_mov(copy)
     if head[:4] == MXF_KEY:
         return read_mxf(copy)
     return read_nut(copy) if head == NUT_ID else Structure([Found(Flaw.NOT_WALKED, 0, copy.size)])
@@ -81,109 +84,108 @@ def is_uniform(copy: Copy, place: int) -> bool:
     return all((piece := copy.read(start, TAIL)).count(value) == len(piece) for start in range(place, copy.size, TAIL))
 
 
-# ---- AVI
+# ---- files of parts that have their sizes before them
 
 
-class Avi:
-    """Walks the chunks of an AVI file."""
+class Part(NamedTuple):
+    """A chunk, an atom or a key: its name, where its content starts, and where the next one does."""
 
-    def __init__(self, copy: Copy) -> None:
-        self.copy, self.made, self.steps = copy, Structure(), Steps(copy.size)
-        self.chunks: dict[int, int] = {}
-        self.lengths: list[tuple[bytes, int]] = []
-        self.indexed: tuple[int, int, int] | None = None
+    name: bytes
+    content: int
+    end: int
 
-    def read(self) -> Structure:
-        place, size, first = 0, self.copy.size, 0
-        while place < size:
-            head = self.copy.read(place, 12)
-            if head[:4] != b"RIFF" or head[8:] not in (b"AVI ", b"AVIX") or not self.steps.take():
+
+class Walk:
+    """A walk over the parts of a file, and those within `masters`. `head` reads the part at a place: of a file, up to an end, so deep
+    within others. After a part of the name `last` something else may follow, for MOV bytes of one value."""
+
+    def __init__(self, copy: Copy, head: Callable[[Copy, int, int, int], Part | None], masters: Set[bytes] = frozenset(), last: bytes = b"",
+                 least: int = 1) -> None:
+        self.copy, self.head, self.masters, self.last, self.least = copy, head, masters, last, least
+        self.made, self.steps, self.has_last = Structure(), Steps(copy.size), False
+
+    def parts(self, place: int, end: int, depth: int = 0) -> Iterator[Part]:
+        """Yields the parts between two places, each before those within it."""
+        while place + self.least <= end:
+            part = self.head(self.copy, place, end, depth) if depth <= MOST_DEPTH and self.steps.take() else None
+            if part is None and not depth and self.has_last and (self.last != b"moov" or is_uniform(self.copy, place)):
                 break
-            end = place + 8 + int.from_bytes(head[4:8], "little")
-            self.walk(place + 12, min(end, size))
-            first = first or sum(self.chunks.values())
-            place = end + (end & 1)
-        if self.indexed and self.indexed[2] != first:
-            self.made.flaws.append(Found(Flaw.COUNT, *self.indexed[:2], first, self.indexed[2]))
-        for number, (kind, length) in enumerate(self.lengths):
-            if kind == b"vids" and length != self.chunks.get(number, 0):
-                self.made.flaws.append(Found(Flaw.COUNT, 0, self.copy.size, self.chunks.get(number, 0), length))
-        return self.made.close(place, size)
-
-    def walk(self, place: int, end: int, depth: int = 0) -> None:
-        """Walks the chunks between two places, and those of lists in them."""
-        while place < end:
-            head = self.copy.read(place, 12)
-            after = place + 8 + int.from_bytes(head[4:8], "little")
-            if not NAME.fullmatch(head[:4]) or after > end and end < self.copy.size or depth > MOST_DEPTH or not self.steps.take():
+            if part is None:
                 self.made.flaws.append(Found(Flaw.BROKEN, place, end))
                 return
-            media = MEDIA.fullmatch(head[:4])
-            if head[:4] == b"LIST":
-                self.walk(place + 12, min(after, end), depth + 1)
-            elif media:
-                self.chunks[int(media.group(1))] = self.chunks.get(int(media.group(1)), 0) + 1
-            elif head[:4] == b"strh":
-                strh = self.copy.read(place + 8, 36)
-                self.lengths.append((strh[:4], int.from_bytes(strh[32:36], "little")))
-            elif head[:4] == b"idx1":
-                self.indexed = place + 8, after, (after - place - 8) // 16
-            place = after + (after & 1)
+            yield part
+            self.has_last |= part.name == self.last
+            yield from self.parts(part.content, min(part.end, end), depth + 1) if part.name in self.masters else ()
+            place = part.end
+        if not depth:
+            self.made.close(place, self.copy.size)
 
 
-# ---- MOV
+def chunk(copy: Copy, place: int, end: int, depth: int) -> Part | None:
+    """A chunk of an AVI file, which fills up to an even size."""
+    head = copy.read(place, 12)
+    name, after = head[:4], place + 8 + int.from_bytes(head[4:8], "little")
+    is_chunk = NAME.fullmatch(name) if depth else name == b"RIFF" and head[8:] in (b"AVI ", b"AVIX")
+    return Part(name, place + (12 if name in AVI_MASTERS else 8), after + (after & 1)) if is_chunk and (after <= end or end >= copy.size) else None
 
 
-class Mov:
-    """Walks the atoms of a MOV or MP4 file, and counts the samples in its tables, of fragments too."""
+def read_avi(copy: Copy) -> Structure:
+    """An AVI file has as many chunks of each stream as its header and the index of its first part count."""
+    walk, chunks, kinds, index = Walk(copy, chunk, AVI_MASTERS, b"RIFF"), collections.Counter[int](), [], None
+    for name, content, end in walk.parts(0, copy.size):
+        media = MEDIA.fullmatch(name)
+        chunks.update([int(media.group(1))] if media else ())
+        if name == b"strh":
+            kinds.append(copy.read(content, 36))
+        elif name == b"idx1":
+            index = Found(Flaw.COUNT, content, end, sum(chunks.values()), (end - content) // 16)
+    lengths = {number: int.from_bytes(kind[32:36], "little") for number, kind in enumerate(kinds) if kind[:4] == b"vids"}
+    walk.made.flaws += [index] if index and index.has != index.count else []
+    walk.made.flaws += [Found(Flaw.COUNT, 0, copy.size, chunks[number], count) for number, count in lengths.items() if count != chunks[number]]
+    return walk.made
 
-    def __init__(self, copy: Copy) -> None:
-        self.copy, self.made, self.steps = copy, Structure(), Steps(copy.size)
-        self.tracks: list[int] = []
-        self.samples: dict[int, int] = {}
-        self.track, self.has_tables = 0, False
 
-    def read(self) -> Structure:
-        end = self.walk(0, self.copy.size)
-        if end is not None:
-            self.made.close(end, self.copy.size)
-        if not self.has_tables:
-            self.made.flaws.append(Found(Flaw.NO_TABLE, 0, self.copy.size))
-        self.made.counts = {number: self.samples.get(track, 0) for number, track in enumerate(self.tracks)}
-        return self.made
+def atom(copy: Copy, place: int, end: int, depth: int) -> Part | None:
+    """An atom of a MOV or MP4 file. The last one may go on to the file's end."""
+    head = copy.read(place, 16)
+    size, content = int.from_bytes(head[:4], "big"), place + 8
+    if size == 1:
+        size, content = int.from_bytes(head[8:16], "big"), place + 16
+    after = end if size == 0 and not depth else place + size
+    return Part(head[4:8], content, after) if NAME.fullmatch(head[4:8]) and content <= after and (not depth or after <= end) else None
 
-    def walk(self, place: int, end: int, depth: int = 0) -> int | None:
-        """Walks the atoms between two places, and those within them. Returns where the last one ends, or None where they lead nowhere.
-        What is of one value after the last one is none."""
-        while place + 8 <= end:
-            head = self.copy.read(place, 16)
-            size, content = int.from_bytes(head[:4], "big"), place + 8
-            if size == 1:
-                size, content = int.from_bytes(head[8:16], "big"), place + 16
-            after = end if size == 0 and not depth else place + size
-            if not NAME.fullmatch(head[4:8]) or after < content or depth and after > end or depth > MOST_DEPTH or not self.steps.take():
-                if not depth and self.has_tables and is_uniform(self.copy, place):
-                    return place
-                self.made.flaws.append(Found(Flaw.BROKEN, place, end))
-                return None
-            self.add(head[4:8], content, after, depth)
-            place = after
-        return place
 
-    def add(self, name: bytes, content: int, end: int, depth: int) -> None:
-        """Takes what an atom says."""
-        if name in MOV_MASTERS:
-            self.has_tables |= name == b"moov"
-            self.walk(content, min(end, self.copy.size), depth + 1)
-        elif name in (b"tkhd", b"tfhd"):
-            data = self.copy.read(content, 24)
+def read_mov(copy: Copy) -> Structure:
+    """The tables of a MOV file count samples, of fragments too."""
+    walk, samples, tracks, track = Walk(copy, atom, MOV_MASTERS, b"moov", 8), collections.Counter[int](), [], 0
+    for name, content, _ in walk.parts(0, copy.size):
+        if name in (b"tkhd", b"tfhd"):
+            data = copy.read(content, 24)
             at = 4 if name == b"tfhd" else 20 if data[:1] == b"\1" else 12
-            self.track = int.from_bytes(data[at : at + 4], "big")
-            self.tracks += [self.track] if name == b"tkhd" else []
+            track = int.from_bytes(data[at : at + 4], "big")
+            tracks += [track] if name == b"tkhd" else []
         elif name in (b"stsz", b"trun"):
-            at = 8 if name == b"stsz" else 4
-            count = int.from_bytes(self.copy.read(content + at, 4), "big")
-            self.samples[self.track] = self.samples.get(self.track, 0) + count
+            samples[track] += int.from_bytes(copy.read(content + (8 if name == b"stsz" else 4), 4), "big")
+    walk.made.flaws += [] if walk.has_last else [Found(Flaw.NO_TABLE, 0, copy.size)]
+    walk.made.counts = {number: samples[track] for number, track in enumerate(tracks)}
+    return walk.made
+
+
+def key(copy: Copy, place: int, end: int, depth: int) -> Part | None:
+    """A key of an MXF file, with the size of what follows it: in one byte, or in so many as the first one says."""
+    head = copy.read(place, MXF_HEAD + 9)
+    first = head[MXF_HEAD] if len(head) > MXF_HEAD else 0x80
+    more = first & 0x7F if first & 0x80 else 0
+    size, content = head[MXF_HEAD + 1 : MXF_HEAD + 1 + more] if more else bytes([first]), place + MXF_HEAD + 1 + more
+    is_key = head[:4] == MXF_KEY and first != 0x80 and more <= 8 and len(size) >= more
+    return Part(head[:MXF_HEAD], content, content + int.from_bytes(size, "big")) if is_key else None
+
+
+def read_mxf(copy: Copy) -> Structure:
+    walk = Walk(copy, key)
+    for _ in walk.parts(0, copy.size):
+        pass
+    return walk.made
 
 
 # ---- NUT
@@ -203,24 +205,6 @@ def read_nut(copy: Copy) -> Structure:
         if tail[content] < 0x80:
             break
     return made.close(start + content + 1 + size, copy.size)
-
-
-# ---- MXF
-
-
-def read_mxf(copy: Copy) -> Structure:
-    """An MXF file is keys of 16 bytes, each with the size of what follows it: in one byte, or in so many as the first one says."""
-    place, made, steps = 0, Structure(), Steps(copy.size)
-    while place < copy.size:
-        head = copy.read(place, MXF_HEAD + 9)
-        first = head[MXF_HEAD] if len(head) > MXF_HEAD else 0x80
-        more = first & 0x7F if first & 0x80 else 0
-        size = head[MXF_HEAD + 1 : MXF_HEAD + 1 + more] if more else bytes([first])
-        if head[:4] != MXF_KEY or first == 0x80 or more > 8 or len(size) < more or not steps.take():
-            made.flaws.append(Found(Flaw.BROKEN, place, copy.size))
-            return made
-        place += MXF_HEAD + 1 + more + int.from_bytes(size, "big")
-    return made.close(place, copy.size)
 
 
 # ---- Matroska
