@@ -6,7 +6,7 @@ import tempfile
 import unittest
 from unittest import mock
 
-from mend_reel.judging import digests, frame_digests, kept_digest
+from mend_reel.judging import kept_digests
 from mend_reel.model import Fault
 from . import made
 
@@ -43,7 +43,7 @@ class DigestTest(unittest.TestCase):
     def compare(self, lines, named="/films/out.mkv", copies=()):
         kept = self.folder / "kept"
         kept.write_bytes(lines if isinstance(lines, bytes) else lines.encode())
-        return kept_digest.compare(str(kept), str(self.folder / "part"), named, copies)
+        return kept_digests.compare(str(kept), str(self.folder / "part"), named, copies)
 
     def test_each_way_to_write_a_digest(self):
         for line in (f"{MD5}  out.mkv\n", f"{SHA1} *out.mkv", f"{SHA256}  /somewhere/else/out.mkv\r\n", f"SHA256 (out.mkv) = {SHA256}",
@@ -55,9 +55,9 @@ class DigestTest(unittest.TestCase):
     def test_how_far_the_work_is_is_reported(self):
         told = []
         path = self.folder / "long"
-        path.write_bytes(bytes(digests.PIECE + 7))
-        digests.digest(str(path), "md5", lambda *each: told.append(each))
-        self.assertEqual(told, [(digests.PIECE, digests.PIECE + 7), (digests.PIECE + 7, digests.PIECE + 7)])
+        path.write_bytes(bytes(kept_digests.PIECE + 7))
+        kept_digests.digest(str(path), "md5", lambda *each: told.append(each))
+        self.assertEqual(told, [(kept_digests.PIECE, kept_digests.PIECE + 7), (kept_digests.PIECE + 7, kept_digests.PIECE + 7)])
 
     def test_another_file(self):
         found = self.compare(f"{OTHER}  out.mkv")
@@ -65,9 +65,9 @@ class DigestTest(unittest.TestCase):
         self.assertIn(f"is not the original: its SHA256 is {SHA256}, and", found.text)
 
     def test_names_with_escapes(self):
-        self.assertEqual(digests.read_line("\\" + MD5 + "  a\\nb\\\\c\\r").name, "a\nb\\c\r")
-        self.assertEqual(digests.read_line(MD5 + "  a\\nb").name, "a\\nb")
-        self.assertEqual(digests.read_line(f"\\SHA256 (a\\\\b) = {SHA256}").name, "a\\b")
+        self.assertEqual(kept_digests.read_line("\\" + MD5 + "  a\\nb\\\\c\\r").name, "a\nb\\c\r")
+        self.assertEqual(kept_digests.read_line(MD5 + "  a\\nb").name, "a\\nb")
+        self.assertEqual(kept_digests.read_line(f"\\SHA256 (a\\\\b) = {SHA256}").name, "a\\b")
 
     def test_names_that_are_no_text(self):
         self.assertTrue(self.compare(f"{OTHER}  x\n{SHA256}  ".encode() + b"\xff.mkv\n", os.fsdecode(b"/\xff.mkv")).is_original)
@@ -95,25 +95,25 @@ class DigestTest(unittest.TestCase):
 
     def test_a_file_that_is_not_there(self):
         with self.assertRaisesRegex(Fault, "cannot read /nowhere"):
-            kept_digest.compare("/nowhere", str(self.folder / "part"), "out", [])
+            kept_digests.compare("/nowhere", str(self.folder / "part"), "out", [])
 
     def test_the_digest_of_a_copy(self):
         with made.opened(CONTENT) as (copy,):
-            self.assertEqual(digests.sha256(copy), SHA256)
+            self.assertEqual(kept_digests.sha256(copy), SHA256)
 
 
 class FrameDigestTest(unittest.TestCase):
     def read(self, text):
-        return frame_digests.read(text.splitlines())
+        return kept_digests.read_frames(text.splitlines())
 
     def test_what_ffmpeg_is_asked_for(self):
-        words = frame_digests.command("/a.mkv", self.read(FRAMES.format(codec="ffv1")))
+        words = kept_digests.command("/a.mkv", self.read(FRAMES.format(codec="ffv1")))
         self.assertEqual(words[words.index("-map"):], ["-map", "0:v:0", "-c:0", "copy", "-map", "0:a:0", "-c:1", "pcm_s16le", "-f", "framehash",
                                                        "-hash", "MD5", "-format_version", "2", "-"])
         self.assertIn("file:/a.mkv", words)
 
     def test_words_of_a_file_are_not_trusted(self):
-        words = frame_digests.command("/a.mkv", self.read(FRAMES.format(codec="copy -f mp4 /etc/passwd")))
+        words = kept_digests.command("/a.mkv", self.read(FRAMES.format(codec="copy -f mp4 /etc/passwd")))
         self.assertFalse([word for word in words if "passwd" in word])
         self.assertEqual(self.read(FRAMES.replace("#hash: MD5", "#hash: MD5 -f mp4")).hash, "MD5")
         self.assertEqual(self.read(FRAMES.replace("#hash: MD5", "#hash: SHA256")).hash, "SHA256")
@@ -124,34 +124,34 @@ class FrameDigestTest(unittest.TestCase):
 
     def test_equal_frames(self):
         wanted = self.read(FRAMES.format(codec="rawvideo"))
-        self.assertEqual(frame_digests.differences(wanted, self.read(FRAMES.format(codec="rawvideo").lower())), {})
+        self.assertEqual(kept_digests.differences(wanted, self.read(FRAMES.format(codec="rawvideo").lower())), {})
         self.assertEqual(wanted.frames[0][1], ("1", "76800", "b" * 32))
 
     def test_frames_that_differ(self):
         wanted = self.read(FRAMES.format(codec="rawvideo"))
         for old, new, found in (("b" * 32, "b" * 31 + "0", {0: [1]}), ("0,          2,          2,        1,    76800, " + "d" * 32 + "\n", "", {0: [2]}),
                                 ("     9216", "     9217", {1: [0]}), ("0,          2,          2", "0,          2,          3", {0: [2]})):
-            self.assertEqual(frame_digests.differences(wanted, self.read(FRAMES.replace(old, new))), found)
+            self.assertEqual(kept_digests.differences(wanted, self.read(FRAMES.replace(old, new))), found)
         more = self.read(FRAMES + "0,          3,          3,        1,    76800, " + "e" * 32)
-        self.assertEqual(frame_digests.differences(wanted, more), {0: [3]})
+        self.assertEqual(kept_digests.differences(wanted, more), {0: [3]})
 
     def test_times_are_compared_where_both_count_them_alike(self):
         other = FRAMES.replace("#tb 0: 1/25", "#tb 0: 1/1000").replace("0,          2,          2", "0,         80,         80")
-        self.assertEqual(frame_digests.differences(self.read(FRAMES), self.read(other)), {})
+        self.assertEqual(kept_digests.differences(self.read(FRAMES), self.read(other)), {})
 
     def test_the_sentence(self):
         with tempfile.TemporaryDirectory() as folder:
             kept = os.path.join(folder, "kept")
             pathlib.Path(kept).write_text(FRAMES)
             other = self.read(FRAMES.replace("b" * 32, "e" * 32).replace("d" * 32, "e" * 32))
-            with mock.patch.object(frame_digests, "make", return_value=other):
-                found = kept_digest.compare(kept, "/a.mkv", "out.mkv", [])
-            with mock.patch.object(frame_digests, "make", return_value=self.read(FRAMES)):
-                same = kept_digest.compare(kept, "/a.mkv", "out.mkv", [])
+            with mock.patch.object(kept_digests, "make_frames", return_value=other):
+                found = kept_digests.compare(kept, "/a.mkv", "out.mkv", [])
+            with mock.patch.object(kept_digests, "make_frames", return_value=self.read(FRAMES)):
+                same = kept_digests.compare(kept, "/a.mkv", "out.mkv", [])
         self.assertFalse(found.is_original)
         self.assertTrue(found.text.endswith("differ: stream 0: frames 1 to 2"))
         self.assertTrue(same.is_original and same.text.startswith("out.mkv has the original's frames"))
 
     def test_runs(self):
-        self.assertEqual(frame_digests.runs([1, 2, 3, 7]), "frames 1 to 3, 7")
-        self.assertTrue(frame_digests.runs(list(range(0, 40, 2))).endswith("and 10 more"))
+        self.assertEqual(kept_digests.runs([1, 2, 3, 7]), "frames 1 to 3, 7")
+        self.assertTrue(kept_digests.runs(list(range(0, 40, 2))).endswith("and 10 more"))

@@ -10,7 +10,7 @@ from unittest import mock
 
 import schema
 from mend_reel.copies.arrangement import Matched
-from mend_reel.judging.digests import Compared
+from mend_reel.judging.kept_digests import Compared
 from mend_reel.judging.reasons import Why
 from mend_reel.judging.results import FrameState
 from mend_reel.judging.verdict import Evidence, judge

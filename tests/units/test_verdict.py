@@ -6,7 +6,7 @@ from mend_reel.containers.frame_times import constant_step, end_of, lasts
 from mend_reel.containers.structure import Flaw, Found
 from mend_reel.copies.arrangement import Leaving, Left, Matched
 from mend_reel.judging.completeness import Excuses, Seen, misplaced
-from mend_reel.judging.digests import Compared
+from mend_reel.judging.kept_digests import Compared
 from mend_reel.judging.reasons import Why
 from mend_reel.judging.results import FrameState, Results
 from mend_reel.judging.verdict import Evidence, judge

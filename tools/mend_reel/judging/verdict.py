@@ -8,7 +8,7 @@ from ..containers.structure import Flaw, Found
 from ..copies.arrangement import Left, Matched
 from ..model import Because, Claims, Content, Kind, Layout, Outcome, State, Stretch
 from .completeness import Seen, find_lacks
-from .digests import Compared
+from .kept_digests import Compared
 from .frame_checks import passes_as_record
 from .reasons import Reason, Why, join
 from .results import GUESSED, Counts, FrameResult, FrameState, Results, Sums, is_guessed

@@ -12,8 +12,8 @@ from ..copies.arrangement import Arrangement, arrange, describe
 from ..copies.comparison import Comparison, best_shown, compare
 from ..copies.inputs import Inputs, gather
 from ..copies.preferred_copy import follow
-from ..judging import copy_health, decoding, kept_digest
-from ..judging.digests import Compared
+from ..judging import copy_health, decoding, kept_digests
+from ..judging.kept_digests import Compared
 from ..judging.frame_checks import Scan
 from ..judging.results import FrameState
 from ..judging.verdict import Evidence, Verdict, judge
@@ -190,7 +190,7 @@ class Session:
         if self.options.digest is None:
             return None
         self.progress.begin("comparing with the digest")
-        return kept_digest.compare(self.options.digest, path, self.options.out or path, self.options.copies, self.progress.at)
+        return kept_digests.compare(self.options.digest, path, self.options.out or path, self.options.copies, self.progress.at)
 
     @staticmethod
     def form(copy: Copy) -> str:

@@ -8,7 +8,7 @@ from collections.abc import Callable, Sequence
 from typing import TextIO
 
 from ..copies.arrangement import Arrangement
-from ..judging import digests
+from ..judging import kept_digests
 from ..judging.verdict import Verdict
 from ..model import Copy, Fault, Layout, or_fault
 from ..program.external_programs import version_of
@@ -43,7 +43,7 @@ class Reporter:
         """What is known of OUT, if it was made."""
         if part is None or self.options.out is None:
             return None
-        sum_ = digests.digest(part, "sha256", self.progress.at) if self.options.digests else None
+        sum_ = kept_digests.digest(part, "sha256", self.progress.at) if self.options.digests else None
         return CopySummary(self.options.out, os.stat(part).st_size, form, sha256=sum_)
 
     def copy_summaries(self, copies: Sequence[Copy], arrangement: Arrangement, verdict: Verdict) -> list[CopySummary]:
@@ -51,7 +51,7 @@ class Reporter:
         left = {left.number: left.text() for left in arrangement.left}
         others = {matched.number for matched in arrangement.matched}
         made = []
-        sums = of_each(self.options.jobs, digests.sha256, copies) if self.options.digests else [None] * len(copies)
+        sums = of_each(self.options.jobs, kept_digests.sha256, copies) if self.options.digests else [None] * len(copies)
         for number, (copy, sum_) in enumerate(zip(copies, sums)):
             role = Role.LEFT if number in left else Role.OTHER if number in others else Role.BASIS
             verified = None if number in left else verdict.results.verified_in(number)
