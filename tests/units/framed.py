@@ -3,6 +3,7 @@ from __future__ import annotations
 
 import typing
 
+from mend_reel.containers import own_checks
 from mend_reel.judging import frame_checks
 from mend_reel.model import Claims, Content, Frame, Kind, Layout, Stretch, Track, What
 from . import made
@@ -37,8 +38,8 @@ def judge(copy: typing.Any, ranges: typing.Sequence[frame_checks.Range]) -> typi
     answers = []
     for place, size in ranges:
         content = copy.read(place, size) if place + size <= copy.size else b""
-        links = list(frame_checks.slices(content))
-        answers.append(frame_checks.Judged(len(links), sum(frame_checks.passes(content[start:end]) for start, end in links),
+        links = list(own_checks.slices(content))
+        answers.append(frame_checks.Judged(len(links), sum(own_checks.passes(content[start:end]) for start, end in links),
                                       bool(links) and links[-1][0] == 0))
     return answers
 

@@ -7,7 +7,7 @@ import unittest
 import unittest.mock
 
 import readings
-from mend_reel.containers.configuration_record import AFTER_ONE, coder_of
+from mend_reel.containers.own_checks import AFTER_ONE, coder_of
 from mend_reel.judging.decoding import FfmpegDecoder, decoded
 from mend_reel.judging.reasons import Why
 from mend_reel.judging.results import FrameState

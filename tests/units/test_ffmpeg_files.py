@@ -3,7 +3,7 @@ import dataclasses
 import unittest
 from unittest import mock
 
-from mend_reel.containers import ffmpeg_files, flac_heads, stretch_builder
+from mend_reel.containers import ffmpeg_files, own_checks, stretch_builder
 from mend_reel.containers.ffprobe import Container, Packet
 from mend_reel.model import Claims, Content, Frame, Kind, Track
 from . import made
@@ -49,14 +49,14 @@ class FlacTest(unittest.TestCase):
         self.assertEqual(self.kinds("ogg", self.HEAD), [(Kind.PLAIN, 50, 80)])
 
     def test_heads(self):
-        self.assertTrue(flac_heads.begins(self.HEAD + b"more"))
-        self.assertTrue(flac_heads.begins(b"\xff\xf9\x1c\x08\xc2\x80\x2c" + bytes([flac_heads.crc8(b"\xff\xf9\x1c\x08\xc2\x80\x2c")])))
+        self.assertTrue(own_checks.is_flac(self.HEAD + b"more"))
+        self.assertTrue(own_checks.is_flac(b"\xff\xf9\x1c\x08\xc2\x80\x2c" + bytes([own_checks.crc8(b"\xff\xf9\x1c\x08\xc2\x80\x2c")])))
         for at in range(8):
             for bit in range(8):
-                self.assertFalse(flac_heads.begins(made.damaged(self.HEAD, (at, bytes([self.HEAD[at] ^ 1 << bit])))), (at, bit))
+                self.assertFalse(own_checks.is_flac(made.damaged(self.HEAD, (at, bytes([self.HEAD[at] ^ 1 << bit])))), (at, bit))
         for size in range(8):
-            self.assertFalse(flac_heads.begins(self.HEAD[:size]))
-        self.assertFalse(flac_heads.begins(bytes(16)))
+            self.assertFalse(own_checks.is_flac(self.HEAD[:size]))
+        self.assertFalse(own_checks.is_flac(bytes(16)))
 
 
 class ProbeTest(unittest.TestCase):

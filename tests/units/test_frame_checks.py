@@ -5,7 +5,8 @@ import stat
 import tempfile
 import unittest
 
-from mend_reel.judging.frame_checks import Judged, Scan, has_only_sizes, part_overlaps, passes, read_line, share_slice, slices
+from mend_reel.containers.own_checks import has_only_sizes, passes, share_slice, slices
+from mend_reel.judging.frame_checks import Judged, Scan, part_overlaps, read_line
 from mend_reel.model import Fault
 from . import made  # noqa: F401
 from .framed import frame, judge, parity, slice_of

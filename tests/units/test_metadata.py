@@ -4,7 +4,7 @@ from __future__ import annotations
 import struct
 import unittest
 
-from mend_reel.containers import ebml, metadata, slice_footers
+from mend_reel.containers import ebml, metadata, own_checks
 from mend_reel.model import Content, Track
 from . import made
 
@@ -55,15 +55,15 @@ class Footers(unittest.TestCase):
     def test_starts(self) -> None:
         with made.opened(b"head" + made.frame(1, 30, 20, 10)) as (copy,):
             end = 4 + 60 + 24
-            self.assertEqual(list(slice_footers.starts(copy, 0, end)), [end - 18, end - 46, 4])
-            self.assertTrue(slice_footers.is_frame(copy, 4, end))
-            self.assertFalse(slice_footers.is_frame(copy, 3, end))
-            self.assertEqual(slice_footers.first_within([copy], 2, 9, end), 4)
-            self.assertIsNone(slice_footers.first_within([copy], 5, 9, end))
+            self.assertEqual(list(own_checks.walk(copy.read, 0, end)), [(end - 18, end), (end - 46, end - 18), (4, end - 46)])
+            self.assertTrue(own_checks.is_frame(copy, 4, end))
+            self.assertFalse(own_checks.is_frame(copy, 3, end))
+            self.assertEqual(own_checks.first_within([copy], 2, 9, end), 4)
+            self.assertIsNone(own_checks.first_within([copy], 5, 9, end))
 
     def test_zero_bytes_are_no_slices(self) -> None:
         with made.opened(bytes(64)) as (copy,):
-            self.assertFalse(slice_footers.is_frame(copy, 0, 64))
+            self.assertFalse(own_checks.is_frame(copy, 0, 64))
 
 
 if __name__ == "__main__":

@@ -5,7 +5,7 @@ import os
 import random
 import typing
 
-from mend_reel.judging.frame_checks import passes, slices
+from mend_reel.containers.own_checks import passes, slices
 from . import made, toy_ffprobe
 from .framed import frame, matroska
 from .test_command import GOOD, InFolder

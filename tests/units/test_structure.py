@@ -3,7 +3,7 @@ import unittest
 
 from mend_reel.containers import matroska, structure
 from mend_reel.containers.structure import Flaw, Found
-from mend_reel.judging.frame_checks import passes_as_record
+from mend_reel.containers.own_checks import passes_as_record
 from . import made
 from .framed import frame, matroska as reel
 

@@ -7,7 +7,7 @@ from collections.abc import Callable, Iterable, Iterator, Sequence
 from typing import NamedTuple
 
 from ..model import Content, Frame, Track
-from . import ebml, elements, slice_footers
+from . import ebml, elements, own_checks
 from .aligned_copies import NONE, AlignedCopies, Budget, Numbers
 from .metadata import NANOSECONDS, Metadata
 
@@ -149,7 +149,7 @@ class Clusters:
         copies = [aligned.copies[number] for number in aligned.numbers if child.identity == SIMPLE_BLOCK]
         heads = [(copy, head) for copy in copies for head in [read_block_head(copy.read(child.content, LONGEST_BLOCK_HEAD), child.content)]
                  if head and head.track in self.tracks and self.tracks[head.track].is_ffv1]
-        return any(slice_footers.is_frame(copy, head.payload, child.end) for copy, head in heads) if heads else None
+        return any(own_checks.is_frame(copy, head.payload, child.end) for copy, head in heads) if heads else None
 
     def items(self, children: Sequence[elements.Child]) -> list[Item]:
         """Returns the items of some children of a cluster."""
@@ -206,7 +206,7 @@ class Clusters:
         return [head for _, head in sorted(heads, key=doubt)]
 
     def _has_footers(self, payload: int, end: int) -> bool:
-        return any(slice_footers.is_frame(self.aligned.copies[number], payload, end) for number in self.aligned.numbers)
+        return any(own_checks.is_frame(self.aligned.copies[number], payload, end) for number in self.aligned.numbers)
 
     def _head(self, child: elements.Child, start: int | None) -> BlockHead | None:
         """Returns the likeliest head of a block."""
@@ -257,7 +257,7 @@ class Clusters:
         first, last = child.place + 2 + BLOCK_FIELDS, child.place + 9 + BLOCK_FIELDS
         tracks = [track for track in self.tracks.values() if track.is_ffv1]
         copies = [self.aligned.copies[number] for number in self.aligned.numbers]
-        payload = slice_footers.first_within(copies, first, last, child.end) if tracks and not child.is_cut else None
+        payload = own_checks.first_within(copies, first, last, child.end) if tracks and not child.is_cut else None
         if payload is None:
             yield Item(child.place, child.end, Content.UNKNOWN, is_gap=True)
             return

@@ -8,7 +8,7 @@ from collections.abc import Container, Iterable, Iterator, Sequence
 
 from ..judging.frame_checks import Judge, Judged
 from ..model import Claims, Content, Copy, Frame, Kind, Layout, Stretch, Track, What
-from . import configuration_record, flac_heads, structure
+from . import own_checks, structure
 from .ffprobe import Container, Packet, contain, with_records
 from .stretch_builder import Stretches
 
@@ -54,14 +54,14 @@ def find_records(copy: Copy, tracks: Sequence[Track], frames: Sequence[Frame]) -
     if not frames:
         return []
     around = ((0, frames[0].place), (frames[-1].end, copy.size - frames[-1].end))
-    return [each for start, size in around for each in configuration_record.places(copy.read(start, min(size, MOST_HEADER)), start, tracks)]
+    return [each for start, size in around for each in own_checks.records_in(copy.read(start, min(size, MOST_HEADER)), start, tracks)]
 
 
 def find_flac(copies: Sequence[Copy], spots: Iterable[Spot], base: Container) -> frozenset[Spot]:
     """The packets that are frames of FLAC: some copy has the head of one there."""
     tracks = {track.number for track in base.tracks if track.is_flac and base.form in GIVE_SIZES}
     return frozenset(spot for spot in spots if spot[2] in tracks and any(
-        flac_heads.begins(copy.read(spot[0], min(spot[1], flac_heads.LONGEST_HEAD))) for copy in copies))
+        own_checks.is_flac(copy.read(spot[0], min(spot[1], own_checks.LONGEST_FLAC_HEAD))) for copy in copies))
 
 
 def ends_at(sizes: Sequence[int], ends: Sequence[int | None]) -> tuple[int, int | None]:

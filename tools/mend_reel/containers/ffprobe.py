@@ -15,7 +15,7 @@ import zlib
 from ..judging.frame_checks import MOST_BYTES
 from ..model import Claims, Content, Copy, Fault, Track, or_fault
 from ..program.external_programs import run
-from . import slice_footers, structure
+from . import own_checks, structure
 
 # How far after the place that ffprobe reports a packet's bytes are looked for, and after how many misses they no longer are.
 FARTHEST, MOST_MISSES = 64, 16
@@ -233,7 +233,7 @@ class Locator:
             return None
         self.searches += 1
         start, end = max(packet.reported - AROUND, self.end, 0), packet.reported + packet.size + AROUND
-        found = slice_footers.nearest(self.copy.read(start, max(end - start, 0)), packet.size, packet.reported - start)
+        found = own_checks.nearest(self.copy.read(start, max(end - start, 0)), packet.size, packet.reported - start)
         at = bisect.bisect(self.reported, start + (found or 0))
         if found is None or at and start + found - self.reported[at - 1] <= FARTHEST:
             return None
@@ -245,7 +245,7 @@ class Locator:
         if place < 0 or place + packet.size > self.copy.size:
             return False
         if packet.digest is None:
-            return slice_footers.seems_frame(self.copy, place, place + packet.size)
+            return own_checks.seems_frame(self.copy, place, place + packet.size)
         piece = self.copy.read(place, packet.size)
         return len(piece) == packet.size and zlib.crc32(piece) == packet.digest
 

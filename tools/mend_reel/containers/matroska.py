@@ -6,7 +6,7 @@ import itertools
 from collections.abc import Iterable, Iterator, Sequence
 
 from ..model import Claims, Content, Copy, Kind, Layout, Track, What
-from . import clusters, configuration_record, ebml, elements, metadata, slice_footers, structure
+from . import clusters, ebml, elements, metadata, own_checks, structure
 from .aligned_copies import NONE, WINDOW, AlignedCopies, Budget, Numbers, Steps
 from .stretch_builder import MOST_STRETCH, Stretches
 
@@ -169,7 +169,7 @@ class MatroskaReader:
         described = {track.number for track in self.metadata.tracks if track.codec}
         for child in [child for child in self.top if child.identity == CLUSTER][:CLUSTERS_TO_GUESS_BY]:
             for number, start, end in self.clusters.payloads(child.content, child.end):
-                if number not in described | found and any(slice_footers.is_frame(copy, start, end) for copy in self.copies):
+                if number not in described | found and any(own_checks.is_frame(copy, start, end) for copy in self.copies):
                     found.add(number)
         return [Track(number, Content.VIDEO, "V_FFV1", is_ffv1=True) for number in sorted(found)]
 
@@ -213,7 +213,7 @@ class MatroskaReader:
             else:
                 vouched = self._sound_headers(child) if child.identity == EBML else NONE
                 described = self._content(child) if child.identity == metadata.TRACKS else b""
-                records = configuration_record.places(described, child.content, self.metadata.tracks)
+                records = own_checks.records_in(described, child.content, self.metadata.tracks)
                 for start, end, is_record in with_records(child.content, child.end, records):
                     if is_record:
                         self.stretches.checked(Kind.RECORD, start, end, what)

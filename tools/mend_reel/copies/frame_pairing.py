@@ -6,7 +6,7 @@ import collections
 import dataclasses
 from collections.abc import Iterator, Mapping, Sequence
 
-from ..judging.frame_checks import is_uniform, share_slice
+from ..containers.own_checks import is_uniform, share_slice
 from ..model import Copy, Frame, Layout
 from .alignment import Alignment
 

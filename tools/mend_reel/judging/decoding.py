@@ -4,7 +4,7 @@ from __future__ import annotations
 
 from collections.abc import Callable, Sequence
 
-from ..containers.configuration_record import has_range_coder
+from ..containers.own_checks import GOLOMB_RICE, coder_of
 from ..containers.ffprobe import can_ask
 from ..model import Frame, Layout, Outcome, State, Stretch, Track
 from ..program.external_programs import run
@@ -28,7 +28,7 @@ class FfmpegDecoder:
 
     def __call__(self, track: Track, frame: Frame) -> bool:
         """Whether a frame of a track is decoded with those around it, and nothing complained of."""
-        if not can_ask() or not has_range_coder(track.record):
+        if not can_ask() or coder_of(track.record) in (None, GOLOMB_RICE):
             return False
         interval = f"{max(frame.time - BEFORE, 0):.3f}%{frame.time + AFTER:.3f}"
         done = run("ffprobe", "-v", "warning", "-threads", "1", "-protocol_whitelist", "file", "-select_streams", "v",

@@ -1,23 +1,17 @@
-"""Which frames of a copy pass, as the program reports it, and which slices two versions of a frame have in common."""
+"""Which frames of a copy pass, as the program reports it."""
 from __future__ import annotations
 
 import dataclasses
 import os
 import pathlib
 import tempfile
-from collections.abc import Callable, Iterator, Sequence
-import zlib
+from collections.abc import Callable, Sequence
 
 from ..model import Copy, Fault
 from ..program.external_programs import last_line, started
 
 Range = tuple[int, int]
 MOST_BYTES = 1 << 30
-FOOTER = 8
-# The parity of a slice has the polynomial of CRC-32 with the bits of each byte the other way round, and begins with zeros.
-TURNED = bytes(int(f"{byte:08b}"[::-1], 2) for byte in range(256))
-ZEROS = 0xFFFFFFFF
-FEWEST_RECORD = 6
 
 
 @dataclasses.dataclass(frozen=True)
@@ -89,52 +83,3 @@ def read_line(line: str) -> Judged:
     """A line of `scan`: `range 3 links 24 pass 23 whole`."""
     words = line.split()
     return Judged(int(words[3]), int(words[5]), words[6] == "whole")
-
-
-def slices(frame: bytes) -> Iterator[tuple[int, int]]:
-    """From where to where the slices of a frame lie, from the last one on, as far as the footers lead (RFC 9043, section 4.9)."""
-    end = len(frame)
-    while end >= FOOTER:
-        start = end - FOOTER - int.from_bytes(frame[end - 8 : end - 5], "big")
-        if start < 0:
-            return
-        yield start, end
-        end = start
-
-
-def passes(piece: bytes) -> bool:
-    """Whether a slice passes its parity. One without content says nothing."""
-    return len(piece) > FOOTER and zlib.crc32(piece.translate(TURNED), ZEROS) == ZEROS
-
-
-def passes_as_record(record: bytes) -> bool:
-    """Whether a Configuration Record passes its parity (RFC 9043, section 4.2.3). Zeros pass every parity, and are no record."""
-    return len(record) >= FEWEST_RECORD and any(record) and zlib.crc32(record.translate(TURNED), ZEROS) == ZEROS
-
-
-def share_slice(one: bytes, other: bytes) -> bool:
-    """Whether two versions of a frame are equal, or have in the same place a slice that is equal and passes. Bytes that are all the same
-    are what a lost sector leaves, so they say nothing."""
-    if len(one) != len(other) or is_uniform(one) or is_uniform(other):
-        return False
-    if one == other:
-        return True
-    for start, end in slices(one):
-        if one[end - 8 : end - 5] != other[end - 8 : end - 5]:
-            return False
-        if one[start:end] == other[start:end] and passes(one[start:end]):
-            return True
-    return False
-
-
-def is_uniform(piece: bytes) -> bool:
-    return not piece or piece.count(piece[:1]) == len(piece)
-
-
-def has_only_sizes(frame: bytes) -> bool:
-    """Whether the slices of a frame are divided by sizes of three bytes alone, as those without parities are."""
-    end, count = len(frame), 0
-    while end >= 3:
-        end -= 3 + int.from_bytes(frame[end - 3 : end], "big")
-        count += 1
-    return end == 0 and count > 0

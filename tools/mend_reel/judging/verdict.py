@@ -9,7 +9,7 @@ from ..copies.arrangement import Left, Matched
 from ..model import Because, Claims, Content, Kind, Layout, Outcome, State, Stretch
 from .completeness import Seen, find_lacks
 from .kept_digests import Compared
-from .frame_checks import passes_as_record
+from ..containers.own_checks import passes_as_record
 from .reasons import Reason, Why, join
 from .results import GUESSED, Counts, FrameResult, FrameState, Results, Sums, is_guessed
 
