@@ -5,7 +5,7 @@ import unittest
 from mend_reel.containers.frame_times import constant_step, end_of, lasts
 from mend_reel.containers.structure import Flaw, Found
 from mend_reel.copies.arrangement import Leaving, Left, Matched
-from mend_reel.judging.completeness import Excuses, Seen, misplaced
+from mend_reel.judging.completeness import Excuses, misplaced
 from mend_reel.judging.kept_digests import Compared
 from mend_reel.judging.reasons import Why
 from mend_reel.judging.results import FrameState, Results
@@ -453,7 +453,7 @@ class TimesTest(unittest.TestCase):
 
     def test_unverified_bytes(self):
         layout = plain()
-        excuses = Excuses(Seen(layout, layout, Results(layout, layout.stretches, [], (0, 1))), [])
+        excuses = Excuses([], Results(layout, layout.stretches, [], (0, 1)), [])
         self.assertEqual(excuses.unverified(layout.frames[0].end, layout.frames[1].place), 140)
 
     def test_frames_of_another_place(self):

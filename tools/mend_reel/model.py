@@ -140,6 +140,12 @@ class Claims:
         times may begin elsewhere."""
         return Claims(self.duration, {numbers[track]: count for track, count in self.counts.items() if track in numbers})
 
+    def beside(self, own: Claims) -> Claims:
+        """What is claimed here of which another file's claims say nothing."""
+        counts, index, ends = ({track: value for track, value in getattr(self, name).items() if track not in getattr(own, name)}
+                               for name in ("counts", "index", "ends"))
+        return Claims(None if own.duration else self.duration, counts, index, ends)
+
 
 class Because(enum.Enum):
     """Why a stretch in which copies differ is taken from one of them, in words that follow its number."""

@@ -4,14 +4,16 @@ from __future__ import annotations
 import bisect
 import dataclasses
 import itertools
-from collections.abc import Iterator, Sequence
+from collections.abc import Iterator, Mapping, Sequence, Set
 
 from ..containers.frame_times import THOUSANDTHS, TrackTimes, end_of, tracks_of
-from ..copies.arrangement import Matched
+from ..containers.structure import Found
+from ..copies.arrangement import Left, Matched
 from ..copies.carried_frames import longest_chain
-from ..model import Claims, Content, Frame, Layout, State
+from ..model import Claims, Content, Frame, Layout, Outcome, Stretch
+from .kept_digests import Compared
 from .reasons import Reason, Why
-from .results import Results
+from .results import VERIFIED, Results
 
 # A hidden frame is no smaller than so much of the smallest that is shown. It does not hide in the head of an element.
 SMALLER, SMALL_HEAD = 0.25, 32
@@ -19,58 +21,64 @@ MICROSECONDS = 1_000_000
 
 
 @dataclasses.dataclass
-class Seen:
-    """What OUT was made by, what lies where in it as it was read again, what became of its stretches, what containers claim of the
-    recording, and the copies that are other files."""
+class Evidence:
+    """What the verdict is judged by: what OUT was made by and its stretches as they were listed; what became of those that are not
+    undamaged; what lies where in OUT as it was read again (None where nothing can be read); what the containers of copies claim of the
+    recording; copies that are other files; copies that are left out; which copy each mark of an outcome is of; what the other files have,
+    by copy; whether damaged element headers of copies were left out; the places of frames with guessed slices that decode; what a kept
+    digest says; whether one file is checked, and no OUT is made; where the parts of OUT, or of that file, do not hang together; and the
+    numbers of frames that fail their parities in elements that pass."""
 
     layout: Layout
+    stretches: Sequence[Stretch]
+    outcomes: Sequence[Outcome]
     out: Layout | None
-    results: Results
     claims: Sequence[Claims] = ()
     matched: Sequence[Matched] = ()
+    left: Sequence[Left] = ()
+    copy_of_mark: Sequence[int] = ()
+    others: Mapping[int, Layout] = dataclasses.field(default_factory=dict)
+    has_damaged_heads: bool = False
+    decoded: Set[int] = frozenset()
+    compared: Compared | None = None
+    is_check: bool = False
+    flaws: Sequence[Found] = ()
+    rotten: Set[int] = frozenset()
 
     def all_claims(self) -> list[Claims]:
         """What OUT claims, and what lies in OUT by all its copies; and what single copies claim where OUT says nothing. Where it does,
         their bytes were compared."""
-        known = [self.out.claims] if self.out else []
-        if self.layout.claims not in known:
-            known.append(self.layout.claims)
-        own = known[0]
-        for claims in self.claims:
-            counts = {track: count for track, count in claims.counts.items() if track not in own.counts}
-            index = {track: times for track, times in claims.index.items() if track not in own.index}
-            ends = {track: end for track, end in claims.ends.items() if track not in own.ends}
-            more = Claims(None if own.duration else claims.duration, counts, index, ends)
-            if more not in known:
-                known.append(more)
-        return known
+        known = [*([self.out.claims] if self.out else []), self.layout.claims]
+        return known + [claims.beside(known[0]) for claims in self.claims]
 
 
-def find_lacks(seen: Seen) -> Iterator[Reason]:
+def find_lacks(evidence: Evidence, results: Results) -> Iterator[Reason]:
     """What OUT does not show, in the order of what is surest."""
-    if seen.out is None or not seen.out.frames:
-        if seen.layout.frames:
-            yield Reason(Why.UNREAD)
+    layout, out = evidence.layout, evidence.out
+    if out is None or not out.frames:
+        yield from [Reason(Why.UNREAD)] if layout.frames else []
     else:
-        yield from hidden(seen.layout, seen.out, seen.results)
-        yield from misplaced(seen.out)
-        tracks = tracks_of(seen.out)
-        excuses = Excuses(seen, tracks)
+        claims, tracks = evidence.all_claims(), tracks_of(out)
+        yield from hidden(layout, out, results)
+        yield from misplaced(out)
+        excuses = Excuses(claims, results, tracks)
         found = {track.number: list(holes(track, excuses)) for track in tracks}
         yield from itertools.chain.from_iterable(found.values())
-        yield from counts(seen, tracks)
-        yield from ends(seen, tracks)
+        yield from counts(layout, claims, tracks)
+        yield from ends(out, claims, tracks, evidence.matched)
         for track in tracks:
-            yield from indexed(seen, track, [reason.times for reason in found[track.number] if reason.times])
-    yield from of_others(seen)
+            yield from indexed(claims, track, [reason.times for reason in found[track.number] if reason.times])
+    for matched in evidence.matched:
+        for why, frames in ((Why.UNPLACED, matched.unplaced), (Why.CONTRARY, matched.contrary)):
+            for frame in sorted(frames, key=lambda frame: frame.time):
+                yield Reason(why, Content.FRAME, times=(frame.time, frame.time), copy=matched.number)
 
 
 def hidden(layout: Layout, out: Layout, results: Results) -> Iterator[Reason]:
     """The listed frames that OUT's container does not show at their places."""
     shown = {(frame.track, frame.place, frame.size) for frame in out.frames}
-    for number, frame in enumerate(layout.frames):
+    for order, frame in zip(results.orders, layout.frames):
         if (frame.track, frame.place, frame.size) not in shown:
-            order = results.orders[number]
             yield Reason(Why.HIDDEN, Content.FRAME, frame.track, (order, order), (frame.place, frame.end), (frame.time, frame.time))
 
 
@@ -82,26 +90,21 @@ def misplaced(out: Layout) -> Iterator[Reason]:
     for track, frames in tracks.items():
         times = [round(frame.time * MICROSECONDS) for frame in frames]
         risen = set(longest_chain([(time, time + 1) for time in times]))
-        for number, frame in enumerate(frames):
-            if number not in risen:
-                yield Reason(Why.ORDER, Content.FRAME, track, bytes=(frame.place, frame.end), times=(frame.time, frame.time))
+        for frame in (frame for number, frame in enumerate(frames) if number not in risen):
+            yield Reason(Why.ORDER, Content.FRAME, track, bytes=(frame.place, frame.end), times=(frame.time, frame.time))
 
 
 class Excuses:
     """Why a hole in the times may have been recorded: OUT has as many frames as the file counts, or the bytes between the frames on both
     sides of it are verified, so that no frame can be hidden there."""
 
-    def __init__(self, seen: Seen, tracks: Sequence[TrackTimes]) -> None:
-        claimed = [each.counts for each in seen.all_claims()]
+    def __init__(self, claims: Sequence[Claims], results: Results, tracks: Sequence[TrackTimes]) -> None:
         self.counted = {track.number for track in tracks
-                        if {each[track.number] for each in claimed if track.number in each} == {len(track.frames)}}
-        self.starts: list[int] = []
-        self.sums = [0]
-        for number, stretch in enumerate(seen.results.stretches):
-            is_small_head = stretch.what.content is Content.FRAMING and stretch.size < SMALL_HEAD
-            if not is_small_head and seen.results.state(number) not in (State.WHOLE, State.WOVEN):
-                self.starts.append(stretch.start)
-                self.sums.append(self.sums[-1] + stretch.size)
+                        if {each.counts[track.number] for each in claims if track.number in each.counts} == {len(track.frames)}}
+        unsure = [stretch for stretch, state in zip(results.stretches, results.states) if state not in VERIFIED
+                  and not (stretch.what.content is Content.FRAMING and stretch.size < SMALL_HEAD)]
+        self.starts = [stretch.start for stretch in unsure]
+        self.sums = [0, *itertools.accumulate(stretch.size for stretch in unsure)]
 
     def unverified(self, start: int, end: int) -> int:
         """How many bytes from a place to another are not verified, those of stretches that begin between them."""
@@ -113,61 +116,49 @@ class Excuses:
 
 def holes(track: TrackTimes, excuses: Excuses) -> Iterator[Reason]:
     """Times at which a frame is expected, and none is shown: between two frames, and before the first."""
-    if not track.step:
+    step, first = track.step, track.frames[0]
+    if not step:
         return
-    first = track.frames[0]
-    if first.time > 0.75 * track.step and not excuses.has(track, 0, first.place):
-        yield hole(track, 0.0, first.time - track.step, round(first.time / track.step), (0, first.place))
-    for before, after in zip(track.frames, track.frames[1:]):
-        span = after.time - before.time
-        start, end = min(before.end, after.place), max(before.end, after.place)
-        if span > 1.5 * track.step and not excuses.has(track, start, end):
-            yield hole(track, before.time + track.step, after.time - track.step, round(span / track.step) - 1, (start, end))
+    # Of each hole the times of the frames around it, and from where to where it may lie.
+    spans = [(before.time, after.time, *sorted((before.end, after.place))) for before, after in zip(track.frames, track.frames[1:])
+             if after.time - before.time > 1.5 * step]
+    if first.time > 0.75 * step:
+        spans.insert(0, (-step, first.time, 0, first.place))
+    for before, after, start, end in spans:
+        if not excuses.has(track, start, end):
+            times = before + step, max(before + step, after - step)
+            yield Reason(Why.HOLE, Content.FRAME, track.number, bytes=(start, end), times=times, count=max(round((after - before) / step) - 1, 1))
 
 
-def hole(track: TrackTimes, start: float, end: float, count: int, span: tuple[int, int]) -> Reason:
-    return Reason(Why.HOLE, Content.FRAME, track.number, bytes=span, times=(start, max(start, end)), count=max(count, 1))
-
-
-def counts(seen: Seen, tracks: Sequence[TrackTimes]) -> Iterator[Reason]:
+def counts(layout: Layout, claims: Sequence[Claims], tracks: Sequence[TrackTimes]) -> Iterator[Reason]:
     """Where fewer frames are shown than the file counts."""
-    has = {track.number: len(track.frames) for track in tracks}
-    for track in (track for track in seen.layout.tracks if track.is_ffv1):
-        count = max((claims.counts.get(track.number, 0) for claims in seen.all_claims()), default=0)
-        if count > has.get(track.number, 0):
-            yield Reason(Why.COUNT, track=track.number, has=has.get(track.number, 0), count=count)
+    shown = {track.number: len(track.frames) for track in tracks}
+    for number in (track.number for track in layout.tracks if track.is_ffv1):
+        count, has = max((each.counts.get(number, 0) for each in claims), default=0), shown.get(number, 0)
+        if count > has:
+            yield Reason(Why.COUNT, track=number, has=has, count=count)
 
 
-def ends(seen: Seen, tracks: Sequence[TrackTimes]) -> Iterator[Reason]:
+def ends(out: Layout, claims: Sequence[Claims], tracks: Sequence[TrackTimes], others: Sequence[Matched]) -> Iterator[Reason]:
     """Where OUT ends before the time that the file claims, or a track does, or a copy that is another file and is cut short itself."""
     for track in tracks:
-        claimed = [each.ends[track.number] for each in seen.all_claims() if track.number in each.ends]
-        if claimed and max(claimed) - track.end() > 0.5 * track.most_step():
-            yield Reason(Why.SHORT, track=track.number, times=(track.end(), max(claimed)))
-    if seen.out:
-        end, room = end_of(seen.out)
-        durations = [claims.duration for claims in seen.all_claims() if claims.duration]
-        if durations and max(durations) - end > room:
-            yield Reason(Why.SHORT, times=(end, max(durations)))
-        for matched in seen.matched:
-            if matched.lasts is not None and matched.lasts - end > room:
-                yield Reason(Why.SHORTER, times=(end, matched.lasts), copy=matched.number)
+        claimed = max((each.ends[track.number] for each in claims if track.number in each.ends), default=0.0)
+        if claimed - track.end() > 0.5 * track.most_step():
+            yield Reason(Why.SHORT, track=track.number, times=(track.end(), claimed))
+    end, room = end_of(out)
+    duration = max((each.duration or 0.0 for each in claims), default=0.0)
+    yield from [Reason(Why.SHORT, times=(end, duration))] if duration - end > room else []
+    for other in others:
+        if other.lasts is not None and other.lasts - end > room:
+            yield Reason(Why.SHORTER, times=(end, other.lasts), copy=other.number)
 
 
-def indexed(seen: Seen, track: TrackTimes, known: Sequence[tuple[float, float]]) -> Iterator[Reason]:
+def indexed(claims: Sequence[Claims], track: TrackTimes, known: Sequence[tuple[float, float]]) -> Iterator[Reason]:
     """The times that an index has of a track, at which no frame is shown. Those in holes are known already."""
     times, near = track.times, 0.5 * track.most_step() or THOUSANDTHS
     starts = [start for start, _ in known]
-    for time in sorted({time for claims in seen.all_claims() for time in claims.index.get(track.number, ())}):
+    for time in sorted({time for each in claims for time in each.index.get(track.number, ())}):
         at, before = bisect.bisect(times, time), bisect.bisect(starts, time + near)
         in_hole = before and time <= known[before - 1][1] + near
         if not in_hole and all(abs(other - time) > near for other in times[max(at - 1, 0) : at + 1]):
             yield Reason(Why.INDEX, Content.FRAME, track.number, times=(time, time))
-
-
-def of_others(seen: Seen) -> Iterator[Reason]:
-    """What copies that are other files have, and OUT has no place for."""
-    for matched in seen.matched:
-        for why, frames in ((Why.UNPLACED, matched.unplaced), (Why.CONTRARY, matched.contrary)):
-            for frame in sorted(frames, key=lambda frame: frame.time):
-                yield Reason(why, Content.FRAME, times=(frame.time, frame.time), copy=matched.number)

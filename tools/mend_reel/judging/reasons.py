@@ -91,6 +91,9 @@ class Reason:
     def has_only_bytes(self) -> bool:
         return self.why in OF_BYTES and self.content is Content.UNKNOWN and self.bytes is not None
 
+    def span(self) -> str:
+        return f"bytes {self.bytes[0]} to {self.bytes[1]}" if self.bytes else ""
+
     def subject(self, out: str) -> str:
         """What is in doubt."""
         track = "" if self.track is None else f" of track {self.track}"
@@ -100,25 +103,20 @@ class Reason:
         if self.why in OF_FRAMES:
             return f"{self.count} frame{'s' if self.count > 1 else ''}{track}"
         if self.why in OF_FILE:
-            return "the recording" if self.track is None else f"track {self.track}"
-        if self.bytes and self.has_only_bytes():
-            return f"bytes {self.bytes[0]} to {self.bytes[1]}"
-        return out if self.why is Why.UNREAD else self.content.value + track
+            return track[4:] or "the recording"
+        return self.span() if self.has_only_bytes() else out if self.why is Why.UNREAD else self.content.value + track
 
     def where(self) -> str:
         """When it plays, and which bytes it is: within brackets after frames, which are named by their numbers."""
-        span = f"bytes {self.bytes[0]} to {self.bytes[1]}" if self.bytes and not self.has_only_bytes() else ""
-        time = span_of_times(self.times) if self.times else ""
-        if self.frames:
-            inner = ", ".join(filter(None, (time, span)))
-            return f" ({inner})" if inner else ""
-        outer = "" if not time else f" from {time}" if " to " in time else f" at {time}"
-        return outer + (f" ({span})" if span else "")
+        span, time = "" if self.has_only_bytes() else self.span(), span_of_times(self.times) if self.times else ""
+        inner = [part for part in (time if self.frames else "", span) if part]
+        outer = "" if self.frames or not time else f" from {time}" if " to " in time else f" at {time}"
+        return outer + (f" ({', '.join(inner)})" if inner else "")
 
     def text(self, out: str = "OUT") -> str:
         """The reason in a line, in which OUT has a name."""
         why = self.why.value.format(it="them" if self.is_many() else "it", source=one_more(self.source), because=self.because.value,
-                                    copy=one_more(self.copy), has=self.has, count=self.count, out=out,
+                                    copy=one_more(self.copy), out=out, has=self.has, count=self.count,
                                     amount=f"{self.count:,} byte{'s' if self.count != 1 else ''}")
         return f"{self.subject(out)}{self.where()}: {why}"
 

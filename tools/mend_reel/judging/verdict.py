@@ -2,16 +2,15 @@
 from __future__ import annotations
 
 import dataclasses
-from collections.abc import Iterable, Iterator, Mapping, Sequence, Set
+from collections.abc import Iterable, Iterator, Sequence
 
-from ..containers.structure import Flaw, Found
-from ..copies.arrangement import Left, Matched
-from ..model import Because, Claims, Content, Kind, Layout, Outcome, State, Stretch
-from .completeness import Seen, find_lacks
-from .kept_digests import Compared
 from ..containers.own_checks import passes_as_record
+from ..containers.structure import Flaw
+from ..model import Content, Kind, Layout, SliceReport, State, Stretch
+from .completeness import Evidence, find_lacks
+from .kept_digests import Compared
 from .reasons import Reason, Why, join
-from .results import GUESSED, Counts, FrameResult, FrameState, Results, Sums, is_guessed
+from .results import GUESSED, VERIFIED, Counts, FrameResult, FrameState, Results, Sums, is_guessed
 
 # What remains of a cluster when the frames in it that are not restored are named.
 OF_CLUSTERS = (Content.CLUSTER, Content.UNKNOWN)
@@ -20,32 +19,6 @@ OF_FLAWS = {Flaw.BROKEN: Why.BROKEN, Flaw.CUT: Why.CUT, Flaw.AFTER_END: Why.AFTE
 # What copies agree on may be so.
 MAY_BE_AGREED = (Flaw.BARE, Flaw.AFTER_END, Flaw.ZEROS)
 PLAYED = (Content.SOUND, Content.VIDEO, Content.SUBTITLES)
-
-
-@dataclasses.dataclass
-class Evidence:
-    """What the verdict is judged by: what OUT was made by and its stretches as they were listed; what became of those that are not
-    undamaged; what lies where in OUT as it was read again (None where nothing can be read); what the containers of copies claim of the
-    recording; copies that are other files; copies that are left out; which copy each mark of an outcome is of; what the other files have,
-    by copy; whether damaged element headers of copies were left out; the places of frames with guessed slices that decode; what a kept
-    digest says; whether one file is checked, and no OUT is made; where the parts of OUT, or of that file, do not hang together; and the
-    numbers of frames that fail their parities in elements that pass."""
-
-    layout: Layout
-    stretches: Sequence[Stretch]
-    outcomes: Sequence[Outcome]
-    out: Layout | None
-    claims: Sequence[Claims] = ()
-    matched: Sequence[Matched] = ()
-    left: Sequence[Left] = ()
-    copy_of_mark: Sequence[int] = ()
-    others: Mapping[int, Layout] = dataclasses.field(default_factory=dict)
-    has_damaged_heads: bool = False
-    decoded: Set[int] = frozenset()
-    compared: Compared | None = None
-    is_check: bool = False
-    flaws: Sequence[Found] = ()
-    rotten: Set[int] = frozenset()
 
 
 @dataclasses.dataclass
@@ -85,11 +58,9 @@ class Verdict:
 
     def unchecked(self) -> str:
         """How much no checksum covers, and which contents no checksum covers at all."""
-        share, checked, contents = 100 * self.sums.unchecked(), set(), {}
-        for number, stretch in enumerate(self.results.stretches):
-            contents[stretch.what.content] = None
-            if self.results.state(number) in (State.WHOLE, State.WOVEN):
-                checked |= {stretch.what.content} | (set(PLAYED) if stretch.what.content is Content.CLUSTER else set())
+        share, contents = 100 * self.sums.unchecked(), dict.fromkeys(stretch.what.content for stretch in self.results.stretches)
+        checked = {stretch.what.content for stretch, state in zip(self.results.stretches, self.results.states) if state in VERIFIED}
+        checked |= set(PLAYED) if Content.CLUSTER in checked else set()
         alone = [f"all of the {content.value}" for content in contents if content in PLAYED and content not in checked]
         amount = "under 0.1" if share < 0.1 else f"{share:.1f}"
         parts = "" if self.is_walked else "; whether its parts hang together is not checked in such a container"
@@ -100,21 +71,19 @@ def judge(evidence: Evidence) -> Verdict:
     """The verdict on OUT."""
     copy_of_mark = evidence.copy_of_mark or range(max((len(stretch.places) for stretch in evidence.stretches), default=0))
     results = Results(evidence.layout, evidence.stretches, evidence.outcomes, copy_of_mark, evidence.decoded, evidence.rotten)
-    found = [*of_gaps(evidence.layout), *of_stretches(results), *of_rotten(results, evidence.rotten),
+    found = [*of_gaps(evidence.layout), *of_stretches(results), *(of_frame(Why.ROTTEN, results.frames[at]) for at in evidence.rotten),
              *(of_unchecked(results) if evidence.is_check else of_one_copy(results))]
-    found += of_flaws(evidence, found)
-    found.sort(key=lambda reason: reason.bytes or (0, 0))
-    found += find_lacks(Seen(evidence.layout, evidence.out, results, evidence.claims, evidence.matched))
-    found += [*of_other_contents(evidence), *of_records(evidence)]
+    found = sorted([*found, *of_flaws(evidence, found)], key=lambda reason: reason.bytes or (0, 0))
+    found += [*find_lacks(evidence, results), *of_other_contents(evidence), *of_records(evidence)]
     if sum(track.is_ffv1 for track in evidence.layout.tracks) == 1:
         found = [dataclasses.replace(reason, track=None) if reason.content is Content.FRAME else reason for reason in found]
     compared, counts = evidence.compared, results.counts()
-    reasons = [] if compared and compared.is_original and compared.is_of_all else join(found)
+    is_original, is_of_all = compared is not None and compared.is_original, compared is not None and compared.is_of_all
     notes = [f"copy {left.number + 1} is left out: {left.text()}" for left in evidence.left]
-    notes += [compared.text] if compared and compared.is_original and not compared.is_of_all else []
+    notes += [*([compared.text] if compared and is_original and not is_of_all else []), *of_the_rest(results), *of_tags(evidence)]
     has_damage = bool(counts.damaged or results.outcomes or evidence.has_damaged_heads or is_cut(evidence, copy_of_mark))
     is_walked = all(flaw.flaw is not Flaw.NOT_WALKED for flaw in evidence.flaws)
-    return Verdict(reasons, notes + of_the_rest(results) + of_tags(evidence), results.sums(), counts, results, has_damage, compared,
+    return Verdict([] if is_original and is_of_all else join(found), notes, results.sums(), counts, results, has_damage, compared,
                    evidence.is_check, is_walked)
 
 
@@ -125,18 +94,19 @@ def is_cut(evidence: Evidence, copy_of_mark: Sequence[int]) -> bool:
     return any(None in stretch.places and any(stretch.places[at] is None for at in own) for stretch in evidence.stretches)
 
 
+# ---- what is in doubt
+
+
 def of_other_contents(evidence: Evidence) -> Iterator[Reason]:
-    """What other files have, and OUT lacks or has less of: tracks of a kind, attachments, chapters, tags."""
-    own = evidence.layout.contents()
+    """What other files have, and OUT lacks or has less of: tracks of a kind, attachments, chapters. Whoever writes a file writes tags."""
     for copy, other in evidence.others.items():
-        yield from (Reason(Why.LACKS, content, copy=copy) for content in other.contents() - own if content is not Content.TAGS)
+        lacking = other.contents() - evidence.layout.contents()
+        yield from (Reason(Why.LACKS, content, copy=copy) for content in lacking if content is not Content.TAGS)
 
 
 def of_tags(evidence: Evidence) -> list[str]:
-    """Tags of other files: whoever writes a file writes some."""
-    own = evidence.layout.contents()
     return [f"copy {copy + 1} has tags, and OUT has none" for copy, other in evidence.others.items()
-            if Content.TAGS in other.contents() - own]
+            if Content.TAGS in other.contents() - evidence.layout.contents()]
 
 
 def of_records(evidence: Evidence) -> Iterator[Reason]:
@@ -148,8 +118,8 @@ def of_records(evidence: Evidence) -> Iterator[Reason]:
 
 def of_unchecked(results: Results) -> Iterator[Reason]:
     """That no frame of a file that is checked has a checksum."""
-    frames = [number for number, stretch in enumerate(results.stretches) if results.numbers(stretch) or stretch.what.content in OF_CLUSTERS]
-    if all(results.state(number) is State.ALONE for number in frames):
+    if all(state is State.ALONE for stretch, state in zip(results.stretches, results.states)
+           if results.numbers(stretch) or stretch.what.content in OF_CLUSTERS):
         yield Reason(Why.UNCHECKED)
 
 
@@ -157,54 +127,39 @@ def of_one_copy(results: Results) -> Iterator[Reason]:
     """What one copy alone has and no checksum covers: nothing vouches for it. Stretches of one content are one reason, up to the next one
     for which something vouches."""
     runs: dict[tuple[Content, int | None], Reason] = {}
-    for number, stretch in enumerate(results.stretches):
-        key = stretch.what.content, stretch.what.track
-        if results.state(number) is not State.ALONE:
-            yield from filter(None, [runs.pop(key, None)])
-            continue
-        reason, copy = of_bytes(Why.ALONE, stretch, results.source(stretch)), results.source(stretch)
-        reason = dataclasses.replace(reason, copy=copy, count=stretch.size)
-        before = runs.get(key)
-        if before and before.copy == copy:
-            runs[key] = before.joined_with(reason)
-        else:
-            yield from filter(None, [before])
-            runs[key] = reason
+    for stretch, state in zip(results.stretches, results.states):
+        key, copy = (stretch.what.content, stretch.what.track), results.source(stretch)
+        before = runs.pop(key, None)
+        if state is State.ALONE:
+            runs[key] = reason = dataclasses.replace(of_bytes(Why.ALONE, stretch, copy), copy=copy, count=stretch.size)
+            if before and before.copy == copy:
+                runs[key], before = before.joined_with(reason), None
+        yield from [before] if before else []
     yield from runs.values()
 
 
 def of_the_rest(results: Results) -> list[str]:
     """What lies beside frames that are not restored, in elements that are not either: nothing vouches for it."""
     lost = {result.stretch for result in results.frames.values() if result.state is FrameState.LOST}
-    around = [number for number in lost if results.stretches[number].kind is Kind.ELEMENT and not results.is_vouched(number)]
-    size = sum(results.stretches[number].size - sum(frame.size for frame in results.stretches[number].parts) for number in around)
-    if not size:
-        return []
-    return [f"beside frames that are not restored {size} bytes of sound and headers can't be verified, as one checksum is over all"]
+    around = [results.stretches[number] for number in lost if not results.is_vouched(number)]
+    size = sum(stretch.size - sum(frame.size for frame in stretch.parts) for stretch in around if stretch.kind is Kind.ELEMENT)
+    return [f"beside frames that are not restored {size} bytes of sound and headers can't be verified, as one checksum is over all"] if size else []
 
 
 def of_gaps(layout: Layout) -> Iterator[Reason]:
     """The bytes that no copy divides, and those that none has."""
     for place, size in layout.gaps:
-        why = Why.ABSENT if place >= layout.size else Why.UNDIVIDED
-        yield Reason(why, Content.UNKNOWN, bytes=(place, place + size))
+        yield Reason(Why.ABSENT if place >= layout.size else Why.UNDIVIDED, Content.UNKNOWN, bytes=(place, place + size))
 
 
-def of_flaws(evidence: Evidence, found: Iterable[Reason]) -> list[Reason]:
+def of_flaws(evidence: Evidence, found: Iterable[Reason]) -> Iterator[Reason]:
     """Where the parts of a file do not hang together, but for what is in doubt already. What copies agree on may lack a checksum, or lie
     after the end."""
-    known, made = [reason.bytes for reason in found if reason.bytes and reason.why is not Why.ALONE], []
+    known = [reason.bytes for reason in found if reason.bytes and reason.why is not Why.ALONE]
     for flaw, start, end, has, count in evidence.flaws:
-        is_agreed = not evidence.is_check and flaw in MAY_BE_AGREED
-        if flaw in OF_FLAWS and not is_agreed and not any(known_start <= start and end <= known_end for known_start, known_end in known):
-            made.append(Reason(OF_FLAWS[flaw], Content.UNKNOWN, bytes=(start, end), has=has, count=count))
-    return made
-
-
-def of_rotten(results: Results, rotten: Iterable[int]) -> Iterator[Reason]:
-    """The frames that were damaged before the file was written."""
-    for at in rotten:
-        yield of_frame(Why.ROTTEN, results.frames[at], 0)
+        is_known = any(known_start <= start and end <= known_end for known_start, known_end in known)
+        if flaw in OF_FLAWS and (evidence.is_check or flaw not in MAY_BE_AGREED) and not is_known:
+            yield Reason(OF_FLAWS[flaw], Content.UNKNOWN, bytes=(start, end), has=has, count=count)
 
 
 def of_stretches(results: Results) -> Iterator[Reason]:
@@ -228,28 +183,22 @@ def of_stretch(stretch: Stretch, state: State, lost: Sequence[FrameResult], sour
     elif state is State.DISPUTED:
         yield of_bytes(Why.DISPUTED, stretch, source)
     elif lost:
-        for frame in lost:
-            why = Why.DISPUTED if is_disputed(frame) else guess_of(frame) or damaged
-            yield of_frame(why, frame, source)
+        yield from (of_frame(why_lost(frame.slices) or damaged, frame, source) for frame in lost)
     elif stretch.kind is Kind.ELEMENT and stretch.what.content in OF_CLUSTERS and having > 1:
         yield of_bytes(Why.BESIDE, stretch)
     else:
         yield of_bytes(damaged, stretch)
 
 
-def is_disputed(frame: FrameResult) -> bool:
-    return any(place.state == "disputed" for place in frame.slices)
+def why_lost(slices: Sequence[SliceReport]) -> Why | None:
+    """Whether versions of a slice dispute it, or by what guesses a frame is put together, if by some."""
+    states = {place.state for place in slices}
+    if "disputed" in states or not is_guessed(slices):
+        return Why.DISPUTED if "disputed" in states else None
+    return Why.GUESSED if states.issuperset(GUESSED) else Why.VOTED if "voted" in states else Why.REPAIRED
 
 
-def guess_of(frame: FrameResult) -> Why | None:
-    """By what guesses a frame is put together, if it is by some."""
-    if not is_guessed(frame.slices):
-        return None
-    voted, repaired = (any(place.state == state for place in frame.slices) for state in GUESSED)
-    return Why.GUESSED if voted and repaired else Why.VOTED if voted else Why.REPAIRED
-
-
-def of_frame(why: Why, result: FrameResult, source: int) -> Reason:
+def of_frame(why: Why, result: FrameResult, source: int | None = None) -> Reason:
     frame = result.frame
     return Reason(why, Content.FRAME, frame.track, (result.order, result.order), (frame.place, frame.end), (frame.time, frame.time),
                   source if why in (Why.DIFFER, Why.DISPUTED) else None)
@@ -257,7 +206,6 @@ def of_frame(why: Why, result: FrameResult, source: int) -> Reason:
 
 def of_bytes(why: Why, stretch: Stretch, source: int | None = None) -> Reason:
     what = stretch.what
-    start, end = what.start, what.end if what.end is not None else what.start
-    times = None if start is None or end is None else (start, end)
-    because = stretch.because if why is Why.DIFFER else Because.ALONE
-    return Reason(why, what.content, what.track, None, (stretch.start, stretch.end), times, source, because=because)
+    end = what.end if what.end is not None else what.start
+    times = None if what.start is None or end is None else (what.start, end)
+    return Reason(why, what.content, what.track, None, (stretch.start, stretch.end), times, source)
