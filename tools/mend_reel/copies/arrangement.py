@@ -5,16 +5,16 @@ import dataclasses
 import enum
 import itertools
 import os
-from collections.abc import Sequence
+from collections.abc import Iterator, Sequence
 
-from ..containers import ebml, ffmpeg_files, structure
+from ..containers import ebml, ffmpeg_files, matroska, structure
 from ..containers.frame_times import lasts
 from ..judging.copy_health import CopyHealth, health, lack_parities, rotten
 from ..judging.frame_checks import Judge
-from ..model import Copy, Fault, Frame, Layout
+from ..model import Copy, Fault, Layout
 from . import displaced_frames
 from .alignment import Alignment, align
-from .frame_pairing import Pairing, Recording, pair, share
+from .frame_pairing import Matched, Recording, pair, share
 
 HEADER = 4096
 
@@ -36,26 +36,10 @@ class Left:
 
     number: int
     why: Leaving
-    other: int | None = None
+    other: int = -1
 
     def text(self) -> str:
-        return self.why.value.format(other="" if self.other is None else self.other + 1)
-
-
-@dataclasses.dataclass
-class Matched:
-    """A copy that is another file: where it has frames of OUT, by their numbers in the layout, and its frames that OUT has no place for, at
-    times of OUT: `unplaced` where OUT has no frame, `contrary` passing ones where OUT has another. `lasts` is how long it says that it
-    lasts, if it is cut short itself. `tracks` are OUT's numbers of its FFV1 tracks. Where it is OUT's file with bytes lost or added,
-    `alignment` says where its bytes lie."""
-
-    number: int
-    places: dict[int, int]
-    unplaced: list[Frame] = dataclasses.field(default_factory=list)
-    contrary: list[Frame] = dataclasses.field(default_factory=list)
-    lasts: float | None = None
-    tracks: dict[int, int] = dataclasses.field(default_factory=dict)
-    alignment: Alignment | None = None
+        return self.why.value.format(other=self.other + 1)
 
 
 @dataclasses.dataclass
@@ -73,11 +57,9 @@ class Arrangement:
         """Whose file OUT is, where there are others, and which copies have bytes after its end."""
         longer = [f"copy {number + 1} has {copies[number].size - self.layout.size:,} bytes after the end of the file, which are left out"
                   for number in self.basis if copies[number].size > self.layout.size]
-        if not self.matched:
-            return longer
-        own, others = (", ".join(str(number + 1) for number in numbers) for numbers in (self.basis, [each.number for each in self.matched]))
-        return [*longer, f"OUT is the file of {'copies' if len(self.basis) > 1 else 'copy'} {own}; what serves of "
-                f"{'copies' if len(self.matched) > 1 else 'copy'} {others} is brought into it"]
+        own, others = (("copies " if len(numbers) > 1 else "copy ") + ", ".join(str(number + 1) for number in numbers)
+                       for numbers in (self.basis, [each.number for each in self.matched]))
+        return longer + ([f"OUT is the file of {own}; what serves of {others} is brought into it"] if self.matched else [])
 
 
 # ---- copies of one file
@@ -91,10 +73,8 @@ def group(copies: Sequence[Copy]) -> tuple[list[list[int]], list[Left]]:
     for number, copy in enumerate(copies):
         state = os.fstat(copy.file)
         first = known.setdefault((state.st_dev, state.st_ino), number)
-        if first != number:
-            left.append(Left(number, Leaving.REPEATED, first))
-        elif not copy.size:
-            left.append(Left(number, Leaving.EMPTY))
+        if first != number or not copy.size:
+            left.append(Left(number, Leaving.REPEATED, first) if first != number else Left(number, Leaving.EMPTY))
         else:
             own = [file for file in files if any(is_same_file(copies[other], copy) for other in file)]
             files = [file for file in files if file not in own] + [sorted([*itertools.chain(*own), number])]
@@ -104,10 +84,9 @@ def group(copies: Sequence[Copy]) -> tuple[list[list[int]], list[Left]]:
 def is_same_file(one: Copy, other: Copy) -> bool:
     """Whether two copies are of one file: most of their bytes lie at the same places. Two that are read as different containers are not;
     nor is a shorter one whose header gives its own length, and not that of the longer one."""
-    if not may_be_same(one, other):
-        return False
     short, long = sorted((one, other), key=lambda copy: copy.size)
-    if short.size < long.size and claimed_size(short) == short.size and claimed_size(long) not in (None, short.size):
+    is_whole = short.size < long.size and claimed_size(short) == short.size and claimed_size(long) not in (None, short.size)
+    if not may_be_same(one, other) or is_whole:
         return False
     alignment = align(one, other)
     return alignment.is_same_file() and not alignment.is_shifted()
@@ -120,11 +99,9 @@ def may_be_same(one: Copy, other: Copy) -> bool:
 def aligned(basis: Sequence[Copy], other: Copy) -> Alignment | None:
     """Where the bytes of a file lie in a copy of it that lost or gained bytes, or None where it is none: its header gives the same
     length."""
-    sizes = {claimed_size(copy) for copy in basis}
-    if claimed_size(other) not in sizes | {None}:
+    if claimed_size(other) not in {None, *map(claimed_size, basis)}:
         return None
-    found = [align(copy, other) for copy in basis if may_be_same(copy, other)]
-    best = max(found, key=lambda each: each.alike, default=None)
+    best = max((align(copy, other) for copy in basis if may_be_same(copy, other)), key=lambda each: each.alike, default=None)
     return best if best and best.is_same_file() else None
 
 
@@ -158,8 +135,6 @@ def atoms_end(data: bytes) -> int | None:
 
 def describe(copies: Sequence[Copy], judge: Judge, records: bool = True) -> Layout:
     """What lies where in a file, over all its copies."""
-    from ..containers import matroska
-
     return matroska.layout(copies) if matroska.is_matroska(copies) else ffmpeg_files.layout(copies, judge, records)
 
 
@@ -170,7 +145,7 @@ class File:
     numbers: list[int]
     recording: Recording
     healths: dict[int, CopyHealth] = dataclasses.field(default_factory=dict)
-    pairings: list[tuple[File, Pairing]] = dataclasses.field(default_factory=list)
+    pairings: list[tuple[File, Matched]] = dataclasses.field(default_factory=list)
 
     @property
     def layout(self) -> Layout:
@@ -190,10 +165,9 @@ class File:
     def given(self, judge: Judge) -> set[int]:
         """The numbers of its frames that pass in another file."""
         found: set[int] = set()
-        for other, pairing in self.pairings:
-            for copy in other.recording.copies:
-                judged = judge(copy, [(place, self.layout.frames[number].size) for number, place in pairing.places.items()])
-                found.update(number for number, each in zip(pairing.places, judged) if each.is_intact())
+        for copy, pairing in ((copy, pairing) for other, pairing in self.pairings for copy in other.recording.copies):
+            judged = judge(copy, [(place, self.layout.frames[number].size) for number, place in pairing.places.items()])
+            found.update(number for number, each in zip(pairing.places, judged) if each.is_intact())
         return found
 
     def rank(self, judge: Judge) -> tuple[int, int, int, bool, int]:
@@ -204,38 +178,48 @@ class File:
         passing = set().union(*(each.passing for each in self.healths.values()))
         inside = {frame.place for at in passing for frame in self.layout.stretches[at].parts}
         verified = sum(self.layout.stretches[at].size for at in passing)
-        verified += sum(frame.size for at, frame in enumerate(self.layout.frames) if at in intact and frame.place not in inside)
+        verified += sum(self.layout.frames[at].size for at in intact if self.layout.frames[at].place not in inside)
         return (-len(rotten_ & given), verified, sum(self.layout.contents().values()),
                 any(each.is_undamaged for each in self.healths.values()), -self.numbers[0])
+
+    def why_left(self) -> Leaving:
+        if self.layout.frames:
+            return Leaving.OTHER if self.has_some() else Leaving.RUINED
+        return Leaving.NO_VIDEO if self.layout.tracks else Leaving.UNREAD
 
 
 def arrange(copies: Sequence[Copy], judge: Judge) -> Arrangement:
     """Which copies OUT is made of, and how. Frames are judged only where the copies are of several files."""
     numbers, left = group(copies)
-    files = []
-    for each in numbers:
-        own = [copies[number] for number in each]
-        files.append(File(each, Recording(own, describe(own, judge))))
+    files = [File(each, Recording(own, describe(own, judge))) for each in numbers for own in [[copies[number] for number in each]]]
     if not any(file.has_video() for file in files):
-        names = ", ".join(copy.path for copy in copies if copy.size)
-        found = [f"no FFV1 video was found in {names}"] if names else []
-        lost = [f"{copy.path} has lost what says where its frames lie" for copy in copies if lacks_table(copy)]
-        unread = [f"FFmpeg can't read {copy.path}, though its parts hang together: what describes its video to a decoder may be damaged, "
-                  "and a copy beside it may have that right" for copy in copies if is_refused(copy)]
-        raise Fault("; ".join([*found, *lost, *unread, *(f"{copy.path} is empty" for copy in copies if not copy.size)]))
+        raise Fault("; ".join(why_no_video(copies)))
     if len(files) == 1:
         return Arrangement(files[0].numbers, files[0].layout, left=left)
     basis = choose(files, copies, judge)
-    return assemble(basis, [file for file in files if file is not basis], left, judge)
+    made, pairings = Arrangement(basis.numbers, basis.layout, left=left, rotten=basis.rotten()), {id(file): each for file, each in basis.pairings}
+    for file in (file for file in files if file is not basis):
+        pairing = pairings.get(id(file))
+        if pairing is None:
+            made.left += [Left(number, file.why_left()) for number in file.numbers]
+        else:
+            made.matched += [matched(number, copy, file.layout, pairing, basis.layout, judge)
+                             for number, copy in zip(file.numbers, file.recording.copies)]
+    made.left.sort(key=lambda each: each.number)
+    made.matched.sort(key=lambda each: each.number)
+    return made
 
 
-def lacks_table(copy: Copy) -> bool:
-    return any(found.flaw is structure.Flaw.NO_TABLE for found in structure.read(copy).flaws)
-
-
-def is_refused(copy: Copy) -> bool:
-    """Whether FFmpeg was asked of a copy, and can't read it, though nothing is wrong with how its parts hang together."""
-    return copy.container is not None and not copy.container.form and not structure.read(copy).flaws
+def why_no_video(copies: Sequence[Copy]) -> Iterator[str]:
+    """Why no video was found: what of each file can be told."""
+    names, structures = [copy.path for copy in copies if copy.size], [(copy, structure.read(copy).flaws) for copy in copies]
+    yield from [f"no FFV1 video was found in {', '.join(names)}"] if names else []
+    yield from (f"{copy.path} has lost what says where its frames lie" for copy, flaws in structures
+                if any(found.flaw is structure.Flaw.NO_TABLE for found in flaws))
+    yield from (f"FFmpeg can't read {copy.path}, though its parts hang together: what describes its video to a decoder may be damaged, "
+                "and a copy beside it may have that right"
+                for copy, flaws in structures if copy.container is not None and not copy.container.form and not flaws)
+    yield from (f"{copy.path} is empty" for copy in copies if not copy.size)
 
 
 def choose(files: Sequence[File], copies: Sequence[Copy], judge: Judge) -> File:
@@ -244,55 +228,31 @@ def choose(files: Sequence[File], copies: Sequence[Copy], judge: Judge) -> File:
     shown = [file for file in files if file.has_video()]
     for file in shown:
         file.healths = {number: health(copies[number], at, file.layout, judge) for at, number in enumerate(file.numbers)}
-    for file in shown:
         file.pairings = [(other, pairing) for other in files if other is not file for pairing in [relate(file, other)] if pairing]
     some = [file for file in shown if file.has_some()]
     candidates = [file for file in shown if file.pairings or len(file.numbers) > 1 or len(shown) == 1 or some == [file]]
     if not candidates:
-        names = " and ".join(copies[file.numbers[0]].path for file in shown)
-        raise Fault(f"other recordings: {names} have no slice in common")
+        raise Fault(f"other recordings: {' and '.join(copies[file.numbers[0]].path for file in shown)} have no slice in common")
     return max(candidates, key=lambda file: file.rank(judge))
 
 
-def relate(basis: File, other: File) -> Pairing | None:
+def relate(basis: File, other: File) -> Matched | None:
     """Where another file has the frames of the basis, or None if it shares none with it. Of the basis' file with bytes lost or added all
     bytes have a place."""
-    copy = max(other.recording.copies, key=lambda each: each.size)
-    alignment = aligned(basis.recording.copies, copy)
+    alignment = aligned(basis.recording.copies, max(other.recording.copies, key=lambda each: each.size))
     if alignment:
         placed = ((number, alignment.place(frame.place, frame.end)) for number, frame in enumerate(basis.layout.frames))
-        return Pairing({number: place for number, place in placed if place is not None},
+        return Matched(-1, {number: place for number, place in placed if place is not None},
                        tracks={track.number: track.number for track in basis.layout.tracks}, alignment=alignment)
     pairing = pair(basis.recording, other.recording)
     pairing.places = displaced_frames.complete(basis.recording, other.recording.copies, pairing.places)
     return pairing if share(basis.recording, other.recording, pairing) else None
 
 
-def assemble(basis: File, others: Sequence[File], left: list[Left], judge: Judge) -> Arrangement:
-    made = Arrangement(basis.numbers, basis.layout, left=left, rotten=basis.rotten())
-    pairings = {id(file): pairing for file, pairing in basis.pairings}
-    for file in others:
-        pairing = pairings.get(id(file))
-        if pairing is None:
-            made.left += [Left(number, why_left(file)) for number in file.numbers]
-        else:
-            made.matched += [matched(number, copy, file.layout, pairing, basis.layout.frames, judge)
-                             for number, copy in zip(file.numbers, file.recording.copies)]
-    made.left.sort(key=lambda each: each.number)
-    made.matched.sort(key=lambda each: each.number)
-    return made
-
-
-def matched(number: int, copy: Copy, layout: Layout, pairing: Pairing, frames: Sequence[Frame], judge: Judge) -> Matched:
+def matched(number: int, copy: Copy, layout: Layout, pairing: Matched, basis: Layout, judge: Judge) -> Matched:
     """How a copy of another file serves."""
-    places = {each: place for each, place in pairing.places.items() if place + frames[each].size <= copy.size}
+    places = {each: place for each, place in pairing.places.items() if place + basis.frames[each].size <= copy.size}
     judged = judge(copy, [(frame.place, frame.size) for frame in pairing.contrary])
     contrary = [frame for frame, each in zip(pairing.contrary, judged) if each.is_intact()]
     unplaced = [frame for frame in pairing.unplaced if frame.end <= copy.size]
     return Matched(number, places, unplaced, contrary, None if pairing.alignment else lasts(layout), pairing.tracks, pairing.alignment)
-
-
-def why_left(file: File) -> Leaving:
-    if file.layout.frames:
-        return Leaving.OTHER if file.has_some() else Leaving.RUINED
-    return Leaving.NO_VIDEO if file.layout.tracks else Leaving.UNREAD

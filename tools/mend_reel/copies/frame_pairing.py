@@ -50,23 +50,26 @@ class Recording:
 
 
 @dataclasses.dataclass
-class Pairing:
-    """Where frames lie in another file, by their numbers. `unplaced` are frames of that file at times at which the first has none,
-    `contrary` those at the time of a frame of another size; their times are those of the first file. `tracks` are the first file's numbers
-    of its FFV1 tracks. Where it is the first file with bytes lost or added, `alignment` says where all bytes lie."""
+class Matched:
+    """A copy that is another file: where it has frames of OUT, by their numbers in the layout, and its frames that OUT has no place for, at
+    times of OUT: `unplaced` where OUT has no frame, `contrary` where OUT has another. `lasts` is how long it says that it lasts, if it is
+    cut short itself. `tracks` are OUT's numbers of its FFV1 tracks. Where it is OUT's file with bytes lost or added, `alignment` says where
+    its bytes lie."""
 
+    number: int = -1
     places: dict[int, int] = dataclasses.field(default_factory=dict)
     unplaced: list[Frame] = dataclasses.field(default_factory=list)
     contrary: list[Frame] = dataclasses.field(default_factory=list)
+    lasts: float | None = None
     tracks: dict[int, int] = dataclasses.field(default_factory=dict)
     alignment: Alignment | None = None
 
 
-def pair(ours: Recording, theirs: Recording) -> Pairing:
+def pair(ours: Recording, theirs: Recording) -> Matched:
     """Pairs the frames that end alike, then those between them by their times."""
     here, there = ours.keys(), theirs.keys()
     alike = {there[key]: here[key] for key in here.keys() & there.keys()}
-    pairing = Pairing({number: theirs.layout.frames[other].place for other, number in alike.items()})
+    pairing = Matched(places={number: theirs.layout.frames[other].place for other, number in alike.items()})
     for track, own in pair_tracks(ours.layout.frames, theirs.layout.frames, alike).items():
         numbers = [number for number, frame in enumerate(theirs.layout.frames) if frame.track == track]
         pairing.tracks.update({} if own is None else {track: own})
@@ -112,7 +115,7 @@ class TrackPairing:
                 found[number] = early if early is not None else late if late is not None else 0.0
         return found
 
-    def add_to(self, pairing: Pairing) -> None:
+    def add_to(self, pairing: Matched) -> None:
         """Adds what frames lie where, and those that find no place."""
         for number in self.numbers:
             frame, offset = self.theirs[number], self.offsets[number]
@@ -146,7 +149,7 @@ def least_step(times: Sequence[float]) -> float:
     return min((after - before for before, after in zip(times, times[1:]) if after > before), default=1.0)
 
 
-def share(ours: Recording, theirs: Recording, pairing: Pairing) -> bool:
+def share(ours: Recording, theirs: Recording, pairing: Matched) -> bool:
     """Whether two files have a slice in common: they are of one recording. Slices are looked for all over the file."""
     numbers = sorted(pairing.places)
     steps = [step for step in (1009, 101, 11, 1) if step < len(numbers) or step == 1]
