@@ -2,7 +2,7 @@
 import contextlib
 import unittest
 
-from mend_reel.copies.broken_headers import drop_broken
+from mend_reel.copies.known_wrong import drop_broken
 from mend_reel.model import Content, Kind, Stretch, What
 from . import made
 

@@ -6,7 +6,7 @@ import typing
 import unittest
 import zlib
 
-from mend_reel.copies import preferred_copy
+from mend_reel.copies import known_wrong, preferred_copy
 from mend_reel.model import Content, Kind, Stretch, What
 from . import made
 
@@ -141,7 +141,7 @@ class Rules(Case):
 class Lost(unittest.TestCase):
     def places(self, *contents: bytes) -> typing.Sequence[typing.Optional[int]]:
         with made.opened(*contents) as copies:
-            return preferred_copy.without_lost(plain(1024, 1536, len(contents)), copies).places
+            return known_wrong.without_lost(plain(1024, 1536, len(contents)), copies).places
 
     def test_where_two_others_agree_a_lost_sector_is_no_version(self) -> None:
         zero, other = made.damaged(NOISE, (1024, bytes(512))), made.damaged(NOISE, 1100)

@@ -1,7 +1,7 @@
 """What of copies could not be read."""
 import unittest
 
-from mend_reel.copies.unread_places import spans_in, without_unread
+from mend_reel.copies.known_wrong import spans_in, without_unread
 from mend_reel.model import Content, Copy, Kind, Stretch, What
 
 

@@ -192,6 +192,11 @@ class Stretch:
         """The numbers of the copies that have it."""
         return [number for number, place in enumerate(self.places) if place is not None]
 
+    def part(self, offset: int, size: int, **changes: Any) -> Stretch:
+        """A part of it, with other changes."""
+        places = tuple(None if place is None else place + offset for place in self.places)
+        return dataclasses.replace(self, start=self.start + offset, size=size, places=places, **changes)
+
     def listed_parts(self) -> list[tuple[int, int, bool]]:
         """The places and sizes of the parts as they are listed, and whether each is a frame of FLAC."""
         return sorted([*((frame.place, frame.size, False) for frame in self.parts), *((*each, True) for each in self.sound)])

@@ -9,9 +9,8 @@ from collections.abc import Callable, Sequence
 from ..containers import ffmpeg_files, ffprobe, matroska
 from ..judging.frame_checks import Judge
 from ..model import MATROSKA, Claims, Copy, Layout, Outcome, Stretch, open_copy
-from . import broken_headers, differences, preferred_copy
+from . import differences, known_wrong, preferred_copy
 from .inputs import Inputs
-from .unread_places import without_unread
 
 
 @dataclasses.dataclass
@@ -43,11 +42,11 @@ def compare(layout: Layout, inputs: Inputs, report: Callable[[float, float], Non
     own, stretches = inputs.files[: inputs.own], []
     claims = claims_of(layout, own)
     for stretch in layout.stretches:
-        for part in without_unread(stretch, inputs.files, inputs.own):
+        for part in known_wrong.without_unread(stretch, inputs.files, inputs.own):
             stretches += differences.split(part, inputs.files)
         report(stretch.end, layout.size)
-    stretches, broken = broken_headers.drop_broken(stretches, inputs.files)
-    stretches = [preferred_copy.without_lost(stretch, inputs.files) for stretch in stretches]
+    stretches, broken = known_wrong.drop_broken(stretches, inputs.files)
+    stretches = [known_wrong.without_lost(stretch, inputs.files) for stretch in stretches]
     reads = [number < inputs.own and can_be_read(copy, layout, broken[number]) for number, copy in enumerate(inputs.files)]
     notes = [f"copy {inputs.numbers[number] + 1} has damaged element headers in {f'{count} places' if count > 1 else 'one place'}, "
              "where those of another copy lead on" for number, count in sorted(broken.items())]

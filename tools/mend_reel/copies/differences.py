@@ -176,10 +176,5 @@ def cut(stretches: Iterable[Stretch], bounds: Set[int]) -> list[Stretch]:
 
 def _parts(stretch: Stretch, runs: Sequence[Run], agreed: Label | None) -> list[Stretch]:
     """Returns the parts of a stretch between the ends of runs. In those of the label `agreed` the copies are alike."""
-    parts, start = [], 0
-    for run in runs:
-        places = tuple(None if place is None else place + start for place in stretch.places)
-        parts.append(dataclasses.replace(stretch, start=stretch.start + start, size=run.end - start, places=places,
-                                         is_alike=run.label == agreed))
-        start = run.end
-    return parts
+    starts = [0, *(run.end for run in runs)]
+    return [stretch.part(start, run.end - start, is_alike=run.label == agreed) for start, run in zip(starts, runs)]

@@ -43,9 +43,7 @@ def pieces(stretch: Stretch) -> Iterator[Stretch]:
             yield stretch
         return
     for offset in range(0, stretch.size, MOST_STRETCH):
-        places = tuple(None if place is None else place + offset for place in stretch.places)
-        yield dataclasses.replace(stretch, kind=Kind.PLAIN, start=stretch.start + offset, size=min(MOST_STRETCH, stretch.size - offset),
-                                  places=places, parts=())
+        yield stretch.part(offset, min(MOST_STRETCH, stretch.size - offset), kind=Kind.PLAIN, parts=())
 
 
 def rising(stretch: Stretch, ends: Sequence[int]) -> Stretch:
