@@ -109,6 +109,11 @@ class ProbeTest(unittest.TestCase):
         self.assertEqual(layout.frames[1].place, 130)
         self.assertIn((80, 100), [(each.start, each.end) for each in layout.stretches])
 
+    def test_a_cut_copy_that_shows_most_frames(self):
+        container = self.container(packet(0, 50, 30), packet(0.04, 130, 30))
+        layout = self.layout([made.noise(1, 140), made.noise(1, 200)], [container, self.container(packet(0.04, 130, 30))])
+        self.assertEqual([each.place for each in layout.frames], [50, 130])
+
     def test_long_bytes_between_frames_are_divided(self):
         layout = self.layout([bytes(5 << 19)], [self.container(packet(0, 10, 30))])
         self.assertEqual(max(each.size for each in layout.stretches), stretch_builder.MOST_PLAIN)

@@ -53,7 +53,7 @@ def find_records(copy: Copy, tracks: Sequence[Track], frames: Sequence[Frame]) -
     """From where to where Configuration Records lie in a file: before its first frame, or after its last one."""
     if not frames:
         return []
-    around = ((0, frames[0].place), (frames[-1].end, copy.size - frames[-1].end))
+    around = ((0, frames[0].place), (frames[-1].end, max(copy.size - frames[-1].end, 0)))
     return [each for start, size in around for each in own_checks.records_in(copy.read(start, min(size, MOST_HEADER)), start, tracks)]
 
 

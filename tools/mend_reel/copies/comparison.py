@@ -28,19 +28,18 @@ class Comparison:
         """The stretches of a list for whose bytes nothing vouches and which are to be taken from another copy than they were, by their
         numbers: the program reported where copies differ."""
         doubtful = {outcome.number for outcome in outcomes if not outcome.state.is_good()}
-        unlike = {outcome.number for outcome in outcomes}
-        if not doubtful:
-            return {}
-        copies = self.inputs.files
-        chosen = preferred_copy.choose(dataclasses.replace(self.layout, stretches=list(listed)), copies, self.reads,
-                                       lambda frames: passing(frames, copies, judge), unlike)
+        chosen = preferred_copy.choose(dataclasses.replace(self.layout, stretches=list(listed)), self.inputs.files, self.reads,
+                                       lambda frames: passing(frames, self.inputs.files, judge),
+                                       {outcome.number for outcome in outcomes}) if doubtful else {}
         return {number: stretch for number, stretch in chosen.items() if number in doubtful}
 
 
 def compare(layout: Layout, inputs: Inputs, report: Callable[[float, float], None]) -> Comparison:
     """Compares the copies. `report` is called with how many bytes of how many are done."""
     own, stretches = inputs.files[: inputs.own], []
-    claims = claims_of(layout, own)
+    # What the copies of a Matroska file claim lies in the same elements.
+    claims = ([layout.claims, *matroska.claims(own, layout)] if any(copy.form == MATROSKA for copy in own)
+              else [ffprobe.contain(copy).claims for copy in own])
     for stretch in layout.stretches:
         for part in known_wrong.without_unread(stretch, inputs.files, inputs.own):
             stretches += differences.split(part, inputs.files)
@@ -53,18 +52,10 @@ def compare(layout: Layout, inputs: Inputs, report: Callable[[float, float], Non
     return Comparison(dataclasses.replace(layout, stretches=stretches), inputs, claims, reads, notes)
 
 
-def claims_of(layout: Layout, copies: Sequence[Copy]) -> list[Claims]:
-    """What the copies of one file claim of the recording: those of a Matroska file in the same elements."""
-    if any(copy.form == MATROSKA for copy in copies):
-        return [layout.claims, *matroska.claims(copies, layout)]
-    return [ffprobe.contain(copy).claims for copy in copies]
-
-
 def can_be_read(copy: Copy, layout: Layout, broken: int) -> bool:
     """Whether a copy's container leads through it, and it is not cut."""
-    if copy.size < layout.size:
-        return False
-    return not layout.gaps and not broken if copy.form == MATROSKA else bool(copy.form) and ffmpeg_files.reads(copy)
+    is_led_through = not layout.gaps and not broken if copy.form == MATROSKA else bool(copy.form) and ffmpeg_files.reads(copy)
+    return copy.size >= layout.size and is_led_through
 
 
 def passing(frames: Sequence[Stretch], copies: Sequence[Copy], judge: Judge) -> list[frozenset[int]]:
@@ -85,13 +76,9 @@ def best_shown(out: str, copies: Sequence[Copy], judge: Judge) -> int | None:
         return None
     made = open_copy(out)
     try:
-        shown = {(frame.place, frame.size) for frame in ffmpeg_files.frames(made)}
+        shown, *others = ({(frame.place, frame.size) for frame in ffmpeg_files.frames(copy)} for copy in (made, *copies))
     finally:
         os.close(made.file)
-    margins = []
-    for copy in copies:
-        own = {(frame.place, frame.size) for frame in ffmpeg_files.frames(copy)}
-        more = sum(each.is_intact() for each in judge(copy, sorted(own - shown)))
-        margins.append(more - len(shown - own))
+    margins = [sum(each.is_intact() for each in judge(copy, sorted(own - shown))) - len(shown - own) for copy, own in zip(copies, others)]
     best = max(range(len(copies)), key=margins.__getitem__)
     return best if margins[best] > 0 else None

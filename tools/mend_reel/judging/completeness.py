@@ -9,7 +9,7 @@ from collections.abc import Iterator, Mapping, Sequence, Set
 from ..containers.frame_times import THOUSANDTHS, TrackTimes, end_of, tracks_of
 from ..containers.structure import Found
 from ..copies.arrangement import Left, Matched
-from ..copies.carried_frames import longest_chain
+from ..copies.inputs import longest_chain
 from ..model import Claims, Content, Frame, Layout, Outcome, Stretch
 from .kept_digests import Compared
 from .reasons import Reason, Why

@@ -3,8 +3,9 @@ import os
 import tempfile
 import unittest
 
+from mend_reel.copies.alignment import Alignment, Span
 from mend_reel.copies.arrangement import Matched
-from mend_reel.copies.carried_frames import carry, longest_chain, rising
+from mend_reel.copies.inputs import aligned, carry, longest_chain, rising
 from mend_reel.model import Content, Fault, Frame, Kind, Layout, Stretch, What
 from . import made
 from .framed import frame, plain_file
@@ -59,6 +60,15 @@ class LiftTest(unittest.TestCase):
         self.path = "/no folder/lifted"
         with self.assertRaisesRegex(Fault, "cannot write /no folder/lifted"):
             self.lift({0: 7}, [1])
+
+
+class AlignedTest(unittest.TestCase):
+    def test_a_copy_that_lost_bytes_and_its_end_has_no_place_for_what_lies_there(self):
+        _, layout = plain_file([frame(number, 30) for number in range(5)])
+        matched = Matched(1, {}, alignment=Alignment([Span(60, layout.size, -20)], 1, 1, 1))
+        places, last = aligned(layout, matched, layout.size - 20), len(layout.stretches) - 1
+        self.assertEqual((places[last], len(places)), (layout.stretches[last].start - 20, last - 1))
+        self.assertEqual(aligned(layout, matched, layout.size - 21), {number: place for number, place in places.items() if number != last})
 
 
 class RisingTest(unittest.TestCase):
