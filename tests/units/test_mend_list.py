@@ -2,7 +2,8 @@
 from __future__ import annotations
 
 import dataclasses
-import io
+import pathlib
+import tempfile
 import typing
 import unittest
 
@@ -18,10 +19,10 @@ def stretch(kind: Kind, start: int, size: int, places: Places, source: int = 0, 
 
 
 def write(*stretches: Stretch) -> typing.Tuple[typing.List[str], mend_list.Listed]:
-    file = io.StringIO()
     listed = mend_list.list_of(iter(stretches))
-    mend_list.write(listed, file)
-    return file.getvalue().splitlines(), listed
+    with tempfile.TemporaryDirectory() as folder:
+        mend_list.write(listed, path := pathlib.Path(folder, "list"))
+        return path.read_text().splitlines(), listed
 
 
 class Lines(unittest.TestCase):

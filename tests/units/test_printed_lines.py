@@ -2,14 +2,14 @@
 import unittest
 
 from mend_reel.judging.results import Counts, Sums
-from mend_reel.reports.printed_lines import lines, of_bytes, of_frames
+from mend_reel.reports.summary import of_bytes, of_frames
 from .test_reports import DAMAGED, summary
 from .test_verdict import recording
 
 
 class PrintedLinesTest(unittest.TestCase):
     def test_the_verdict_comes_first_and_then_the_counts(self):
-        made = lines(summary(recording(), *DAMAGED, notes=["a note"]))
+        made = summary(recording(), *DAMAGED, notes=["a note"]).lines()
         self.assertEqual(made[0], "OUT is not known to be what was recorded: one place is in doubt.")
         self.assertEqual(made[1], "frames: 6, 2 damaged, 1 restored (1 woven), 1 not restored")
         self.assertRegex(made[2], r"^bytes: \d,\d+ verified \(\d\d\.\d %\), \d+ agreed, \d+ open$")

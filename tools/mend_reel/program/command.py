@@ -12,11 +12,9 @@ from typing import Any, NoReturn, TextIO
 from ..model import Fault
 from . import options, session
 from .kept_frames import refuse_kept
-from .one_line import in_one_line
-from .output_files import INTERRUPTS, Files, descriptor_of, holds_data, is_same, is_written_to, uninterrupted
+from .output_files import INTERRUPTS, Files, WorkFolder, descriptor_of, holds_data, in_one_line, is_same, is_written_to, uninterrupted
 from .progress import Progress
 from .session import Finished, Outputs
-from .work_folder import WorkFolder
 
 
 class Interrupted(BaseException):
@@ -107,7 +105,7 @@ def main() -> int:
         check(asked)
         with uninterrupted():
             work = WorkFolder()
-        outputs = Outputs.make(asked, files, work)
+        outputs = Outputs(asked, files, work)
         finished = session.run(asked, work.path, outputs, progress)
         progress.end()
         return finish(asked, outputs, finished)

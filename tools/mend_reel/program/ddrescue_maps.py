@@ -6,48 +6,40 @@ from collections.abc import Iterator
 
 from ..model import Copy, Fault, or_fault
 
-Span = tuple[int, int]
 FINISHED = "+"
-NUMBER = re.compile(r"0[xX][0-9a-fA-F]{1,16}|[0-9]{1,20}")
-STATUS = re.compile(r"[?*/+-]")
-NOW = re.compile(r"[?*/FG+-]")
+NUMBER = r"(0[xX][0-9a-fA-F]{1,16}|[0-9]{1,20})"
+STATUS = re.compile(rf"{NUMBER}\s+[?*/FG+-](?:\s+\S+)?", re.ASCII)
+BLOCK = re.compile(rf"{NUMBER}\s+{NUMBER}\s+([?*/+-])", re.ASCII)
 MOST_LINE, MOST_LINES = 4096, 1 << 22
 
 
-def unread(path: str, copy: Copy) -> list[Span]:
+def unread(path: str, copy: Copy) -> list[tuple[int, int]]:
     """From where to where a copy could not be read. What lies before the map's first block was not tried."""
     blocks = list(read(path))
     end = max((end for _, end, _ in blocks), default=0)
     if end < copy.size:
         raise Fault(f"{path} is the map of another file: it ends at {end}, and {copy.path} has {copy.size} bytes")
-    found: list[Span] = []
+    found: list[tuple[int, int]] = []
     for start, end, status in [(0, blocks[0][0] if blocks else 0, "?"), *blocks]:
         end = min(end, copy.size)
-        if status == FINISHED or start >= end:
-            continue
-        if found and found[-1][1] == start:
-            found[-1] = found[-1][0], end
-        else:
-            found.append((start, end))
+        if status != FINISHED and start < end:
+            joins = found and found[-1][1] == start
+            found[-1 if joins else len(found) :] = [(found[-1][0] if joins else start, end)]
     return found
 
 
 def read(path: str) -> Iterator[tuple[int, int, str]]:
-    """The blocks of a mapfile: from where to where, and their statuses. They follow each other."""
-    last, is_begun = None, False
-    for number, words in lines(path):
-        if not is_begun:
-            is_begun = 2 <= len(words) <= 3 and NUMBER.fullmatch(words[0]) is not None and NOW.fullmatch(words[1]) is not None
-            if not is_begun:
-                raise not_a_map(path, number)
-            continue
-        if len(words) != 3 or not NUMBER.fullmatch(words[0]) or not NUMBER.fullmatch(words[1]) or not STATUS.fullmatch(words[2]):
+    """The blocks of a mapfile: from where to where, and their statuses. They follow each other, after a line of its status."""
+    is_begun, last, number = False, None, 1
+    for number, line in lines(path):
+        block = BLOCK.fullmatch(line) if is_begun else None
+        start = number_of(block[1]) if block else None
+        if is_begun and (block is None or last is not None and start != last) or not is_begun and not STATUS.fullmatch(line):
             raise not_a_map(path, number)
-        start = number_of(words[0])
-        if last is not None and start != last:
-            raise not_a_map(path, number)
-        last = start + number_of(words[1])
-        yield start, last, words[2]
+        if block and start is not None:
+            last = start + number_of(block[2])
+            yield start, last, block[3]
+        is_begun = True
     if not is_begun:
         raise not_a_map(path, 1)
 
@@ -58,20 +50,18 @@ def not_a_map(path: str, number: int) -> Fault:
 
 def number_of(word: str) -> int:
     """A number as C++ reads it: hexadecimal after 0x, octal after 0."""
-    if word[:2] in ("0x", "0X"):
-        return int(word, 16)
-    return int(word, 8 if word[0] == "0" and not set(word) - set("01234567") else 10)
+    return int(word, 16 if word[:2] in ("0x", "0X") else 8 if word[0] == "0" and not set(word) - set("01234567") else 10)
 
 
-def lines(path: str) -> Iterator[tuple[int, list[str]]]:
-    """The words of each line that is no comment, with the line's number."""
+def lines(path: str) -> Iterator[tuple[int, str]]:
+    """The lines that are no comments, with their numbers."""
     with or_fault(f"cannot read {path}"), open(path, "rb") as file:
         for number in range(1, MOST_LINES):
             line = file.readline(MOST_LINE)
+            if len(line) == MOST_LINE and not line.endswith(b"\n"):
+                raise not_a_map(path, number)
+            text = line.decode("ascii", "replace").strip()
             if not line:
                 return
-            if not line.endswith(b"\n") and len(line) == MOST_LINE:
-                raise not_a_map(path, number)
-            words = line.decode("ascii", "replace").split()
-            if words and not words[0].startswith("#"):
-                yield number, words
+            if text and not text.startswith("#"):
+                yield number, text

@@ -1,18 +1,21 @@
 """The programs that are run: ffv1restore, and FFmpeg's where a container other than Matroska is read."""
 from __future__ import annotations
 
+import concurrent.futures
 import contextlib
+import functools
 import os
 import pathlib
 import shutil
 import signal
 import subprocess
 import sys
-from collections.abc import Iterator, Sequence
-from typing import IO, Union
+from collections.abc import Callable, Iterator, Sequence
+from typing import IO, TypeVar, Union
 
 from ..model import Fault, or_fault
 
+Item, Found = TypeVar("Item"), TypeVar("Found")
 Word = Union[str, "os.PathLike[str]"]
 
 
@@ -61,11 +64,23 @@ def need(name: str, why: str) -> None:
         raise Fault(f"there is no {name} on the PATH, and {why}")
 
 
+@functools.lru_cache(maxsize=None)
 def version_of(program: str) -> str:
     """The first line that a program prints of its version, or nothing."""
     try:
         done = run(program, "-version" if os.path.basename(program).startswith("ff") and "restore" not in program else "version")
     except Fault:
         return ""
-    lines = done.stdout.decode(errors="replace").splitlines()
-    return lines[0] if done.returncode == 0 and lines else ""
+    return next(iter(done.stdout.decode(errors="replace").splitlines()), "") if done.returncode == 0 else ""
+
+
+def of_each(jobs: int, work: Callable[[Item], Found], items: Sequence[Item]) -> list[Found]:
+    """What is found for each item, in their order, so many at a time. Other programs do the work, or the system does, so threads serve.
+    After a fault or an interrupt nothing is begun any more."""
+    if jobs == 1 or len(items) < 2:
+        return list(map(work, items))
+    pool = concurrent.futures.ThreadPoolExecutor(min(jobs, len(items)))
+    try:
+        return list(pool.map(work, items))
+    finally:
+        pool.shutdown(cancel_futures=True)

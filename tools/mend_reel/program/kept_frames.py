@@ -1,37 +1,29 @@
 """What is kept beside OUT: the list, and of each damaged frame its holding file, its report and a picture of what can be shown."""
 from __future__ import annotations
 
-import dataclasses
 import hashlib
 import os
 import pathlib
 import re
 import shutil
+import tempfile
 from collections.abc import Iterable, Sequence
+from typing import NamedTuple
 
 from ..model import Copy, Fault, Track
 from .external_programs import last_line, need, run
-from .one_line import in_one_line
-from .output_files import is_same
+from .output_files import in_one_line, is_same
 
 # How the samples of a record are named by FFmpeg: by the planes and shifts that `ffv1restore show` prints.
-PIXELS = {
-    ("1", "0", "0"): "gray",
-    ("3", "0", "0"): "yuv444p",
-    ("3", "1", "0"): "yuv422p",
-    ("3", "1", "1"): "yuv420p",
-    ("3", "0", "1"): "yuv440p",
-    ("3", "2", "0"): "yuv411p",
-    ("3", "2", "2"): "yuv410p",
-}
+PIXELS = {"1 0 0": "gray", "3 0 0": "yuv444p", "3 1 0": "yuv422p", "3 1 1": "yuv420p", "3 0 1": "yuv440p", "3 2 0": "yuv411p",
+          "3 2 2": "yuv410p"}
 # What stands for the name of samples that FFmpeg has none for.
 NO_PICTURE = "none"
 # The names of the files that are kept.
 KEPT = re.compile(r"list|copies|frames-of-copy-\d+|(?:track-\d+-)?frame-\d+\.(?:hold|report|png)")
 
 
-@dataclasses.dataclass(frozen=True)
-class Held:
+class Held(NamedTuple):
     """A damaged frame: its name among what is kept, its track, the paths of the copies that have it and what they have, and whether it is
     restored."""
 
@@ -43,9 +35,8 @@ class Held:
 
 def refuse_kept(folders: Iterable[str], copies: Sequence[str], force: bool) -> None:
     """Refuses to overwrite what an earlier call kept in some folders, and copies that have such names."""
-    found = [os.path.join(folder, name) for folder in folders if os.path.isdir(folder)
-             for name in sorted(os.listdir(folder)) if KEPT.fullmatch(name)]
-    for path in found:
+    for path in (os.path.join(folder, name) for folder in folders if os.path.isdir(folder)
+                 for name in sorted(os.listdir(folder)) if KEPT.fullmatch(name)):
         if any(is_same(path, copy) for copy in copies):
             raise Fault(f"{path} is one of the copies")
         if not force:
@@ -66,31 +57,22 @@ class Keeper:
 
     def keep_list(self, listed: pathlib.Path, copies: Sequence[Copy]) -> None:
         """Keeps the list, and the paths of its copies. A copy in the working folder is kept too, as it would be gone else."""
-        if not self.keep:
-            return
+        made = [path for path in (pathlib.Path(copy.path) for copy in copies) if path.parent == self.work]
+        paths = [os.path.join(os.path.realpath(self.keep or ""), path.name) if path in made else os.path.realpath(path)
+                 for path in (pathlib.Path(copy.path) for copy in copies)]
         try:
-            self.copy_list(listed, copies)
+            for path, name in [*((path, path.name) for path in made), (listed, "list")] if self.keep else ():
+                shutil.copyfile(path, self.work / "keep" / name)
+            if self.keep:
+                (self.work / "keep/copies").write_bytes(b"".join(os.fsencode(path) + b"\0" for path in paths))
         except OSError as error:
             self.notes.append(f"the list is not kept: {error.strerror}")
 
-    def copy_list(self, listed: pathlib.Path, copies: Sequence[Copy]) -> None:
-        paths = []
-        for copy in copies:
-            if pathlib.Path(copy.path).parent == self.work:
-                shutil.copyfile(copy.path, self.work / "keep" / pathlib.Path(copy.path).name)
-                paths.append(os.path.join(os.path.realpath(self.keep or ""), pathlib.Path(copy.path).name))
-            else:
-                paths.append(os.path.realpath(copy.path))
-        shutil.copyfile(listed, self.work / "keep/list")
-        (self.work / "keep/copies").write_bytes(b"".join(os.fsencode(path) + b"\0" for path in paths))
-
     def is_asked_for(self, track: Track) -> bool:
         """Whether a track's frames are to be held, and can be: it is in the profile of holdings."""
-        if not self.keep and not self.pictures:
-            return False
-        if track.number not in self.pixels:
+        if (self.keep or self.pictures) and track.number not in self.pixels:
             self.pixels[track.number] = self.judge(track)
-        return bool(self.pixels[track.number])
+        return bool(self.pixels.get(track.number))
 
     def judge(self, track: Track) -> str:
         """How the samples of a track in the profile are named; nothing where it is not in the profile, which a note says."""
@@ -102,7 +84,7 @@ class Keeper:
             self.notes.append(f"no frame of track {track.number} is kept or shown: the recording is not in the profile ({why})")
             return ""
         planes, shifts = done.stdout.decode().splitlines()[2].split(" shift ")
-        pixels = PIXELS.get((planes.split()[1], *shifts.split()[:2]), NO_PICTURE)
+        pixels = PIXELS.get(" ".join((planes.split()[1], *shifts.split()[:2])), NO_PICTURE)
         if self.pictures and pixels == NO_PICTURE:
             self.notes.append(f"no frame of track {track.number} is shown: its planes ({planes}, shift {shifts}) have no name in FFmpeg")
         return pixels
@@ -110,24 +92,18 @@ class Keeper:
     def hold(self, frame: Held) -> None:
         """Makes the holding file of a frame, its report, and a picture of what it has."""
         try:
-            self.hold_in(self.work / "frame", frame)
+            with tempfile.TemporaryDirectory(dir=self.work) as folder:
+                hold = self.take(frame, pathlib.Path(folder))
+                if self.keep:
+                    shutil.copyfile(hold, self.work / "keep" / f"{frame.name}.hold")
+                    self.report(frame, hold)
+                if self.pictures and not frame.is_restored and self.pixels[frame.track.number] != NO_PICTURE:
+                    self.show(frame, hold)
         except (Fault, OSError) as fault:
             self.notes.append(f"{frame.name} is not kept: {fault}")
 
-    def hold_in(self, folder: pathlib.Path, frame: Held) -> None:
-        folder.mkdir()
-        try:
-            hold = self.take(frame, folder)
-            if self.keep:
-                shutil.copyfile(hold, self.work / "keep" / f"{frame.name}.hold")
-                self.report(frame, hold)
-            if self.pictures and not frame.is_restored and self.pixels[frame.track.number] != NO_PICTURE:
-                self.show(frame, hold, folder)
-        finally:
-            shutil.rmtree(folder)
-
     def take(self, frame: Held, folder: pathlib.Path) -> pathlib.Path:
-        """The holding file of a frame."""
+        """The holding file of a frame. What several copies have alike is taken once."""
         paths = {piece: folder / f"copy.{number}" for number, (_, piece) in reversed(list(enumerate(frame.pieces)))}
         for piece, path in paths.items():
             path.write_bytes(piece)
@@ -146,12 +122,12 @@ class Keeper:
         named = [line + " " + ", ".join(givers.get(line.split()[3], [])) if " origin " in line else line for line in lines]
         (self.work / "keep" / f"{frame.name}.report").write_bytes(b"".join(os.fsencode(line) + b"\n" for line in named))
 
-    def show(self, frame: Held, hold: pathlib.Path, folder: pathlib.Path) -> None:
+    def show(self, frame: Held, hold: pathlib.Path) -> None:
         """An image of what a holding file has."""
-        if run(self.program, "picture", hold, folder / "samples").returncode in (0, 3):
-            size = f"{frame.track.width}x{frame.track.height}"
-            run("ffmpeg", "-v", "quiet", "-y", "-f", "rawvideo", "-pix_fmt", self.pixels[frame.track.number], "-s", size, "-i",
-                folder / "samples", self.work / "pictures" / f"{frame.name}.png")
+        samples = hold.parent / "samples"
+        if run(self.program, "picture", hold, samples).returncode in (0, 3):
+            run("ffmpeg", "-v", "quiet", "-y", "-f", "rawvideo", "-pix_fmt", self.pixels[frame.track.number], "-s",
+                f"{frame.track.width}x{frame.track.height}", "-i", samples, self.work / "pictures" / f"{frame.name}.png")
 
     def hand_over(self, others: Sequence[str]) -> list[str]:
         """Copies what was kept to where it is asked for, but over none of some other files. Returns what could not be, in lines."""

@@ -3,8 +3,8 @@ from __future__ import annotations
 
 import dataclasses
 import itertools
+import pathlib
 from collections.abc import Iterable, Iterator, Sequence
-from typing import TextIO
 
 from ..containers.stretch_builder import MOST_STRETCH
 from ..model import Kind, Stretch
@@ -30,10 +30,10 @@ def list_of(stretches: Iterable[Stretch]) -> list[Stretch]:
     return listed
 
 
-def write(listed: Iterable[Stretch], file: TextIO) -> None:
+def write(listed: Iterable[Stretch], path: pathlib.Path) -> None:
     """Writes the list to a file."""
-    for stretch in listed:
-        file.writelines(lines(stretch))
+    with open(path, "w", encoding="ascii") as file:
+        file.writelines(itertools.chain.from_iterable(map(lines, listed)))
 
 
 def pieces(stretch: Stretch) -> Iterator[Stretch]:

@@ -3,7 +3,7 @@ from __future__ import annotations
 
 import os
 import pathlib
-from collections.abc import Callable, Iterable, Iterator, Mapping, Sequence
+from collections.abc import Callable, Iterable, Iterator, Sequence
 
 from ..model import Copy, Fault, Outcome, SliceReport, State, Stretch
 from .external_programs import last_line, started
@@ -19,12 +19,6 @@ def link_to(copy: Copy, work: pathlib.Path) -> pathlib.Path:
     return link
 
 
-def read_place(words: list[str]) -> SliceReport:
-    """A line of a slice: `4515..6117 woven 4 00-`."""
-    start, end = map(int, words[0].split(".."))
-    return SliceReport(start, end, words[1], int(words[2]) if len(words) > 3 else 0, words[-1])
-
-
 class ReportReader:
     """Reads the lines of a pass, which come a stretch after the other."""
 
@@ -33,80 +27,61 @@ class ReportReader:
         self.words: list[str] = []
         self.next()
 
-    def next(self) -> None:
-        self.words = next(self.lines, b"").decode().split()
+    def next(self) -> list[str]:
+        """Goes on to the next line. Returns the words of the one before."""
+        words, self.words = self.words, next(self.lines, b"").decode().split()
+        return words
 
-    def read_slices(self) -> tuple[SliceReport, ...]:
-        """The slices of a frame, and what its footers do not divide."""
-        places = []
+    def read_slices(self) -> Iterator[SliceReport]:
+        """The slices of a frame, as `4515..6117 woven 4 00-`, and what its footers do not divide."""
         while self.words and self.words[0] not in ("end", "part", "stretch"):
-            places.append(read_place(self.words))
-            self.next()
-        if self.words[:2] == ["end", "broken"]:
-            places.append(SliceReport(0, int(self.words[3]), "broken"))
-        if self.words[:1] == ["end"]:
-            self.next()
-        return tuple(places)
-
-    def read_stretch(self) -> Outcome:
-        """What became of a stretch: `stretch 2 crc32 woven 2 00-`, and the slices of its parts."""
-        _, number, _, state, *count, marks = self.words
-        self.next()
-        slices = {}
-        while self.words and self.words[0] != "stretch":
-            part = 1
-            if self.words[0] == "part":
-                part = int(self.words[1])
-                self.next()
-            slices[part - 1] = self.read_slices()
-        return Outcome(int(number) - 1, State(state), int(count[0]) if count else 0, marks, slices)
+            place, state, *more = self.next()
+            start, end = map(int, place.split(".."))
+            yield SliceReport(start, end, state, int(more[0]) if len(more) > 1 else 0, more[-1])
+        words = self.next() if self.words[:1] == ["end"] else []
+        if words[:2] == ["end", "broken"]:
+            yield SliceReport(0, int(words[3]), "broken")
 
     def outcomes(self) -> Iterator[Outcome]:
-        """What became of each stretch."""
+        """What became of each stretch: `stretch 2 crc32 woven 2 00-`, and the slices of its parts."""
         while self.words:
-            yield self.read_stretch()
+            _, number, _, state, *count, marks = self.next()
+            slices = {}
+            while self.words and self.words[0] != "stretch":
+                part = int(self.next()[1]) if self.words[0] == "part" else 1
+                slices[part - 1] = tuple(self.read_slices())
+            yield Outcome(int(number) - 1, State(state), int(count[0]) if count else 0, marks, slices)
 
 
 def mend(program: str, stretches: Sequence[Stretch], listed: pathlib.Path, out: str, out_name: str, copies: Sequence[Copy],
          work: pathlib.Path, report: Callable[[int], None]) -> list[Outcome]:
     """Has the program write `out`, which a person knows by another name, by a list, and returns what became of each stretch that some copy
     has otherwise, or that is open. `report` is called with how many bytes of OUT are done."""
-    names = [link_to(copy, work) for copy in copies]
-    command = [program, "mend", str(listed), out, *map(str, names)]
-    found, done, count, is_alone, is_understood = [], 0, 0, False, True
+    links = [link_to(copy, work) for copy in copies]
+    found, count, is_good, is_understood = [], 0, True, True
     with open(work / "faults", "w+b") as faults:
-        with started(command, faults) as child:
+        with started([program, "mend", str(listed), out, *map(str, links)], faults) as child:
             try:
                 for outcome in ReportReader(child.stdout or ()).outcomes():
                     if outcome.number != count or len(outcome.marks) != len(copies):
                         raise ValueError
-                    done += stretches[count].size
+                    report(stretches[count].start + stretches[count].size)
                     count += 1
-                    is_alone |= outcome.state is State.ALONE
-                    if not outcome.is_undamaged():
-                        found.append(outcome)
-                    report(done)
+                    is_good &= outcome.state.is_good()
+                    found += [] if outcome.is_undamaged() else [outcome]
             except (ValueError, IndexError):
                 is_understood = False
                 child.kill()
-        if not is_understood:
-            raise Fault(f"{program} did not report what became of each stretch")
         faults.seek(0)
-        if child.returncode not in (0, 3):
+        if is_understood and child.returncode not in (0, 3):
             said = last_line(faults.read(), child.returncode)
             cause = f": {why_not_written(out)}" if said == f"cannot write {out}" else ""
-            raise Fault(known_by(said, {out: out_name, **{str(name): copy.path for name, copy in zip(names, copies)}}) + cause)
-    good = all(outcome.state.is_good() for outcome in found)
-    if count != len(stretches) or (child.returncode == 0) != (good and not is_alone):
+            for name, known in ((out, out_name), *((str(link), copy.path) for link, copy in zip(links, copies))):
+                said = said.replace(name, known)
+            raise Fault(said + cause)
+    if not is_understood or count != len(stretches) or (child.returncode == 0) != is_good:
         raise Fault(f"{program} did not report what became of each stretch")
     return found
-
-
-def known_by(line: str, names: Mapping[str, str]) -> str:
-    """A line with the names of files that a person knows."""
-    for name, known in names.items():
-        line = line.replace(name, known)
-    return line
 
 
 def why_not_written(out: str) -> str:

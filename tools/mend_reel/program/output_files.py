@@ -1,9 +1,10 @@
 """The files that are made: each as a part beside its name until it is done, so that what is there stays as it is. What names a device, a
-pipe or an open file is written to at the end, and not replaced."""
+pipe or an open file is written to at the end, and not replaced. Working files lie in a folder that is removed at the end."""
 from __future__ import annotations
 
 import contextlib
 import dataclasses
+import fcntl
 import glob
 import os
 import pathlib
@@ -24,6 +25,13 @@ STANDARD_OUTPUT = "-"
 OPEN_FILES = {"/dev/stdin": 0, "/dev/stdout": 1, "/dev/stderr": 2}
 NUMBERED_FILE = re.compile(r"(?:/dev/fd|/proc/(?:self|thread-self)/fd)/([0-9]{1,9})")
 MOST_LINKS, PIECE = 40, 1 << 20
+FOLDER, LOCK = "mend-reel.", "lock"
+CONTROLS = re.compile(r"[\x00-\x1f\x7f]")
+
+
+def in_one_line(text: str) -> str:
+    """A line in which control characters, as names may have, stand as digits."""
+    return CONTROLS.sub(lambda match: f"\\x{ord(match.group()):02x}", text)
 
 
 @contextlib.contextmanager
@@ -70,10 +78,9 @@ def is_written_to(path: str) -> bool:
 
 def holds_data(path: str) -> bool:
     """Whether something lies at a path that would be overwritten: a file, a link, a disk."""
-    if not is_written_to(path):
-        return os.path.lexists(path)
     state = state_of(path)
-    return descriptor_of(path) is None and state is not None and stat.S_ISBLK(state.st_mode)
+    is_disk = descriptor_of(path) is None and state is not None and stat.S_ISBLK(state.st_mode)
+    return is_disk if is_written_to(path) else os.path.lexists(path)
 
 
 def is_same(path: str, other: str) -> bool:
@@ -92,8 +99,7 @@ def front_of(path: str) -> str:
 
 def leftovers(path: str) -> list[str]:
     """What runs that were killed left of a file."""
-    folder = os.path.dirname(path)
-    return sorted(glob.glob(os.path.join(glob.escape(folder), glob.escape(front_of(path)) + "????????" + PART)))
+    return sorted(glob.glob(os.path.join(glob.escape(os.path.dirname(path)), glob.escape(front_of(path)) + "????????" + PART)))
 
 
 def check_room(part: str, path: str, size: int) -> None:
@@ -118,16 +124,12 @@ class Output:
         with or_fault(f"cannot write {self.path}"):
             if self.replaced is not None:
                 os.replace(self.part, self.replaced)
-            else:
-                self.write_on()
-                os.unlink(self.part)
-
-    def write_on(self) -> None:
-        """Writes the part to the device, the pipe or the open file."""
-        descriptor = descriptor_of(self.path)
-        target = os.open(self.path, os.O_WRONLY) if descriptor is None else os.dup(descriptor)
-        with open(self.part, "rb") as made, os.fdopen(target, "wb") as written:
-            shutil.copyfileobj(made, written, PIECE)
+                return
+            descriptor = descriptor_of(self.path)
+            target = os.open(self.path, os.O_WRONLY) if descriptor is None else os.dup(descriptor)
+            with open(self.part, "rb") as made, os.fdopen(target, "wb") as written:
+                shutil.copyfileobj(made, written, PIECE)
+            os.unlink(self.part)
 
 
 class Files:
@@ -156,8 +158,7 @@ class Files:
 
     def make_folder(self, path: str) -> None:
         """Makes a folder, and those that it lies in."""
-        missing = [folder for folder in [pathlib.Path(path), *pathlib.Path(path).parents] if not folder.exists()]
-        self.folders += map(str, missing)
+        self.folders += [str(folder) for folder in (pathlib.Path(path), *pathlib.Path(path).parents) if not folder.exists()]
         with or_fault(f"cannot make {path}"):
             os.makedirs(path, exist_ok=True)
 
@@ -170,9 +171,36 @@ class Files:
 
     def remove(self) -> None:
         """Removes what was made and has no place of its own yet."""
-        for output in self.outputs:
+        for remove, path in [*((os.unlink, output.part) for output in self.outputs), *((os.rmdir, folder) for folder in self.folders)]:
             with contextlib.suppress(OSError):
-                os.unlink(output.part)
-        for folder in self.folders:
-            with contextlib.suppress(OSError):
-                os.rmdir(folder)
+                remove(path)
+
+
+# ---- working files
+
+
+class WorkFolder:
+    """A folder of this run's own. Whoever makes it has interrupts wait until it is known. Its lock tells one that was left by a run that
+    was killed from one that is in use."""
+
+    def __init__(self) -> None:
+        self.path = pathlib.Path(tempfile.mkdtemp(prefix=FOLDER))
+        self.lock = os.open(self.path / LOCK, os.O_WRONLY | os.O_CREAT, 0o600)
+        with contextlib.suppress(OSError):
+            fcntl.flock(self.lock, fcntl.LOCK_EX | fcntl.LOCK_NB)
+
+    def remove(self) -> None:
+        shutil.rmtree(self.path, ignore_errors=True)
+        os.close(self.lock)
+
+
+def left_folders() -> list[str]:
+    """The folders that runs left that were killed: their locks can be had."""
+    return sorted(filter(is_left, glob.glob(os.path.join(glob.escape(tempfile.gettempdir()), FOLDER + "????????"))))
+
+
+def is_left(folder: str) -> bool:
+    with contextlib.suppress(OSError), open(os.open(os.path.join(folder, LOCK), os.O_WRONLY | getattr(os, "O_NOFOLLOW", 0)), "w") as lock:
+        fcntl.flock(lock, fcntl.LOCK_EX | fcntl.LOCK_NB)
+        return True
+    return False

@@ -1,10 +1,12 @@
-"""The way from copies to OUT: what lies where, which copy serves for what, the list, the mending, and the verdict."""
+"""The way from copies to OUT: what lies where, which copy serves for what, the list, the mending, the verdict, and the reports."""
 from __future__ import annotations
 
 import dataclasses
+import datetime
 import os
 import pathlib
 import stat
+import sys
 from collections.abc import Iterable, Mapping, Sequence
 
 from ..containers import ffprobe, matroska, structure
@@ -13,27 +15,24 @@ from ..copies.comparison import Comparison, best_shown, compare
 from ..copies.inputs import Inputs, gather
 from ..copies.preferred_copy import follow
 from ..judging import copy_health, decoding, kept_digests
-from ..judging.kept_digests import Compared
 from ..judging.frame_checks import Scan
 from ..judging.results import FrameState
 from ..judging.verdict import Evidence, Verdict, judge
-from ..model import MATROSKA, Copy, Fault, Frame, Layout, Outcome, State, Stretch, open_copy
-from ..reports import printed_lines
-from ..reports.summary import Summary
-from ..reports.writer import Reporter
-from . import ddrescue_maps, mend_list, output_files, work_folder
-from .external_programs import find_ffv1restore
+from ..model import MATROSKA, Copy, Fault, Frame, Layout, Outcome, State, Stretch, open_copy, or_fault
+from ..reports import json_document, page
+from ..reports.summary import CopySummary, Role, Summary
+from . import ddrescue_maps, mend_list, output_files
+from .external_programs import find_ffv1restore, of_each, version_of
 from .kept_frames import Held, Keeper
 from .mend_run import mend
-from .options import Options
-from .output_files import Files, Output, check_room, is_written_to
-from .parallel import of_each
+from .options import VERSION, Options
+from .output_files import Files, Output, WorkFolder, check_room, is_written_to
 from .progress import Progress
-from .work_folder import WorkFolder
 
 NOWHERE = "/dev/null"
 PIECE = 1 << 20
 SUFFIXES = {MATROSKA: {".mkv", ".webm", ".mka"}, "avi": {".avi"}, "mov": {".mov", ".mp4", ".m4v", ".qt"}, "nut": {".nut"}, "mxf": {".mxf"}}
+WRITERS = {"report": page.write, "json": json_document.write}
 
 
 @dataclasses.dataclass
@@ -50,34 +49,39 @@ class Made:
     decoded: frozenset[int] = frozenset()
 
 
-@dataclasses.dataclass
 class Outputs:
     """The files that a call makes, whose parts are there before the work begins; what runs that were killed left of OUT and of working
     files; and whether OUT is made."""
 
-    files: Files
-    out: Output | None = None
-    report: Output | None = None
-    json: Output | None = None
-    left: Sequence[str] = ()
-    is_out_made: bool = False
-
-    @classmethod
-    def make(cls, options: Options, files: Files, work: WorkFolder) -> Outputs:
-        """Makes the parts of all files that are asked for, and the folders."""
-        left = [f"a run that was killed left {path}; remove it if no other run makes {options.out} now"
-                for path in (output_files.leftovers(options.out) if options.out is not None else [])]
-        left += [f"a run that was killed left {path}; remove it" for path in work_folder.leftovers()]
+    def __init__(self, options: Options, files: Files, work: WorkFolder) -> None:
+        self.files, self.is_out_made = files, False
+        self.left = [f"a run that was killed left {path}; remove it if no other run makes {options.out} now"
+                     for path in (output_files.leftovers(options.out) if options.out is not None else [])]
+        self.left += [f"a run that was killed left {path}; remove it" for path in output_files.left_folders()]
         for folder in filter(None, (options.keep, options.pictures)):
             files.make_folder(folder)
-        parts = [None if path is None else files.make(path, str(work.path)) for path in (options.out, options.report, options.json)]
-        return cls(files, *parts, left)
+        self.out, self.report, self.json = (None if path is None else files.make(path, str(work.path))
+                                            for path in (options.out, options.report, options.json))
 
     def settle_out(self) -> None:
         """Gives OUT its place."""
         if self.out is not None:
             self.files.settle(self.out)
             self.is_out_made = True
+
+    def write_reports(self, summaries: Sequence[Summary]) -> list[Fault]:
+        """Writes the page and the document, if they are asked for, and returns why one can't be written."""
+        faults = []
+        for name, write in WRITERS.items():
+            output: Output | None = getattr(self, name)
+            try:
+                if output is not None:
+                    with or_fault(f"cannot write {output.path}"), open(output.part, "w", encoding="utf-8") as made:
+                        write(made, summaries)
+                    self.files.settle(output)
+            except Fault as fault:
+                faults.append(fault)
+        return faults
 
 
 @dataclasses.dataclass(frozen=True)
@@ -91,21 +95,21 @@ class Finished:
 
 def run(options: Options, work: pathlib.Path, outputs: Outputs, progress: Progress) -> Finished:
     """Makes OUT, or judges each file by itself. OUT has its place before anything else is written."""
-    reporter, summaries, faults = Reporter(options, find_ffv1restore(), progress), [], []
+    summaries: list[Summary] = []
+    faults: list[Fault] = []
     if options.out is not None:
-        summaries.append(Session(options, work, outputs, progress).run(reporter))
+        summaries.append(Session(options, work, outputs, progress).run())
     for number, path in enumerate(options.copies if options.out is None else ()):
-        folder = work / str(number)
-        folder.mkdir()
+        (work / str(number)).mkdir()
+        maps = {0: options.maps[number]} if number in options.maps else {}
         try:
-            summaries.append(Session(dataclasses.replace(options, copies=(path,)), folder, outputs, progress).run(reporter))
+            summaries.append(Session(dataclasses.replace(options, copies=(path,), maps=maps), work / str(number), outputs, progress).run())
         except Fault as fault:
             faults.append(fault)
     if not summaries:
         raise faults[0]
-    faults += reporter.write(summaries, outputs.files, outputs.report, outputs.json)
-    lines = [line for summary in summaries for line in printed_lines.lines(summary)]
-    return Finished(lines, max(summary.verdict.status for summary in summaries), faults)
+    faults += outputs.write_reports(summaries)
+    return Finished([line for summary in summaries for line in summary.lines()], max(each.verdict.status for each in summaries), faults)
 
 
 def patch(source: pathlib.Path, out: str, stretches: Iterable[Stretch]) -> None:
@@ -115,6 +119,16 @@ def patch(source: pathlib.Path, out: str, stretches: Iterable[Stretch]) -> None:
             made.seek(stretch.start)
             for place in range(0, stretch.size, PIECE):
                 made.write(file.read(min(PIECE, stretch.size - place)))
+
+
+def form_of(copy: Copy) -> str:
+    """The name of a copy's container; nothing where it can't be read."""
+    return MATROSKA if matroska.is_matroska([copy]) else ffprobe.contain(copy).form if ffprobe.can_ask() else ""
+
+
+def flaws_of(copy: Copy, form: str, layout: Layout) -> list[structure.Found]:
+    """Where the parts of a file do not hang together."""
+    return list(matroska.flaws(copy, layout) if form == MATROSKA else structure.read(copy).flaws)
 
 
 class Session:
@@ -127,22 +141,22 @@ class Session:
         self.keeper = Keeper(self.program, work, options.keep, options.pictures)
         self.notes: list[str] = list(outputs.left)
 
-    def run(self, reporter: Reporter) -> Summary:
+    def run(self) -> Summary:
         """Does the work."""
         copies = [open_copy(path) for path in self.options.copies]
         for number, path in self.options.maps.items():
             copies[number].unread = ddrescue_maps.unread(path, copies[number])
         self.progress.watch(copies)
         try:
-            return self.judged(copies, reporter)
+            return self.judged(copies)
         finally:
             for copy in copies:
                 os.close(copy.file)
 
-    def judged(self, copies: Sequence[Copy], reporter: Reporter) -> Summary:
+    def judged(self, copies: Sequence[Copy]) -> Summary:
         """What becomes of some copies."""
         self.progress.begin("reading the copies")
-        for copy, form in zip(copies, of_each(self.options.jobs, self.form, copies)):
+        for copy, form in zip(copies, of_each(self.options.jobs, form_of, copies)):
             copy.form = form
         self.refuse_recording(copies)
         arrangement = arrange(copies, self.judge)
@@ -156,13 +170,13 @@ class Session:
         others = {matched.number: describe([copies[matched.number]], self.judge, False) for matched in arrangement.matched}
         claims = [*comparison.claims, *(others[matched.number].claims.of_tracks(matched.tracks) for matched in arrangement.matched)]
         made = self.make(comparison)
-        self.notes += [*arrangement.notes(copies), *comparison.notes, *self.names_otherwise(inputs)]
+        self.notes += [*arrangement.notes(copies), *comparison.notes, *self.names_otherwise(inputs.form())]
         verdict = judge(Evidence(
             layout, made.stretches, made.outcomes, made.out, claims, arrangement.matched, arrangement.left, inputs.numbers, others,
             bool(comparison.notes), made.decoded, self.compared(made.part or self.options.copies[0]), self.options.out is None, made.flaws,
             self.rotten(arrangement, layout, inputs)))
         self.keep_frames(layout, inputs, made, verdict)
-        summary = reporter.summary(copies, arrangement, layout, verdict, made.part, self.notes)
+        summary = self.summary(copies, arrangement, layout, verdict, made.part)
         self.outputs.settle_out()
         self.notes += self.keeper.hand_over([*self.options.copies, *self.options.read(), *self.options.made()])
         return summary
@@ -175,33 +189,24 @@ class Session:
             return
         there = open_copy(path)
         try:
-            there.form = self.form(there)
-            found = arrange([there, *copies], self.judge)
+            there.form = form_of(there)
+            left = {left.number for left in arrange([there, *copies], self.judge).left}
         except Fault:
             return
         finally:
             os.close(there.file)
-        left = {left.number for left in found.left}
         if 0 not in left and len(left) < len(copies):
             raise Fault(f"{path} is a recording of the same video as the copies (-o {path} overwrites it)")
 
-    def compared(self, path: str) -> Compared | None:
+    def compared(self, path: str) -> kept_digests.Compared | None:
         """What a kept digest says of OUT, or of the file that is checked."""
         if self.options.digest is None:
             return None
         self.progress.begin("comparing with the digest")
         return kept_digests.compare(self.options.digest, path, self.options.out or path, self.options.copies, self.progress.at)
 
-    @staticmethod
-    def form(copy: Copy) -> str:
-        """The name of a copy's container; nothing where it can't be read."""
-        if matroska.is_matroska([copy]):
-            return MATROSKA
-        return ffprobe.contain(copy).form if ffprobe.can_ask() else ""
-
-    def names_otherwise(self, inputs: Inputs) -> list[str]:
+    def names_otherwise(self, form: str) -> list[str]:
         """That the name of OUT is one of another container."""
-        form = next((copy.form for copy in inputs.files[: inputs.own] if copy.form), "")
         suffix = os.path.splitext(self.options.out or "")[1].lower()
         named = {each for each, suffixes in SUFFIXES.items() if suffix in suffixes}
         return [f"OUT is a file of {form}, though its name ends with {suffix}"] if named and form and form not in named else []
@@ -219,10 +224,9 @@ class Session:
         """Has OUT made, and reads it again."""
         inputs, layout = comparison.inputs, comparison.layout
         if self.outputs.out is None or self.options.out is None:
-            return Made(*self.mend(comparison, NOWHERE), layout, self.flaws(inputs.files[0], inputs.files[0].form, layout))
-        part, form = self.outputs.out.part, next((copy.form for copy in inputs.files[: inputs.own] if copy.form), "")
+            return Made(*self.mend(comparison, NOWHERE), layout, flaws_of(inputs.files[0], inputs.files[0].form, layout))
+        part, link = self.outputs.out.part, self.work / "out"
         check_room(part, self.options.out, layout.size)
-        link = self.work / "out"
         link.symlink_to(os.path.abspath(part))
         mended = self.followed(comparison, *self.mend(comparison, str(link)), str(link))
         with open(part, "rb") as made:
@@ -234,61 +238,49 @@ class Session:
             self.progress.begin("reading OUT again")
             decoded = decoding.decoded(layout, *mended, decoding.FfmpegDecoder(os.path.abspath(part)))
             read = describe([out], self.judge)
-            return Made(*mended, read, self.flaws(out, form, read), part, decoded)
+            return Made(*mended, read, flaws_of(out, inputs.form(), read), part, decoded)
         finally:
             os.close(out.file)
 
-    @staticmethod
-    def flaws(copy: Copy, form: str, layout: Layout) -> list[structure.Found]:
-        """Where the parts of a file do not hang together."""
-        return list(matroska.flaws(copy, layout) if form == MATROSKA else structure.read(copy).flaws)
-
     def mend(self, comparison: Comparison, out: str) -> tuple[list[Stretch], list[Outcome]]:
         """Has the program make OUT. Returns the stretches in the order of OUT, and what became of those that are not undamaged."""
-        listed = self.write_list("list", comparison.layout.stretches)
-        outcomes = self.mend_listed("list", listed, out, comparison)
+        listed, outcomes = self.mend_listed("list", comparison.layout.stretches, out, comparison)
         return self.mend_anew(comparison, listed, outcomes, comparison.sources(listed, outcomes, self.judge), out)
 
-    def followed(self, comparison: Comparison, listed: list[Stretch], outcomes: list[Outcome],
-                 out: str) -> tuple[list[Stretch], list[Outcome]]:
+    def followed(self, comparison: Comparison, listed: list[Stretch], outcomes: list[Outcome], out: str
+                 ) -> tuple[list[Stretch], list[Outcome]]:
         """OUT as it is, or with the container of the copy that shows more right frames than OUT does, where copies differ in it."""
         ways = {outcome.number: listed[outcome.number] for outcome in outcomes if outcome.state is State.OPEN}
-        if not any(follow(stretch, stretch.source) is not stretch for stretch in ways.values()):
-            return listed, outcomes
-        best = best_shown(os.path.realpath(out), comparison.inputs.files[: comparison.inputs.own], self.judge)
+        is_of_container = any(follow(stretch, stretch.source) is not stretch for stretch in ways.values())
+        best = best_shown(os.path.realpath(out), comparison.inputs.files[: comparison.inputs.own], self.judge) if is_of_container else None
         if best is None:
             return listed, outcomes
         return self.mend_anew(comparison, listed, outcomes, {number: follow(stretch, best) for number, stretch in ways.items()}, out)
 
-    def mend_anew(self, comparison: Comparison, listed: list[Stretch], outcomes: list[Outcome], chosen: Mapping[int, Stretch],
-                  out: str) -> tuple[list[Stretch], list[Outcome]]:
+    def mend_anew(self, comparison: Comparison, listed: list[Stretch], outcomes: list[Outcome], chosen: Mapping[int, Stretch], out: str
+                  ) -> tuple[list[Stretch], list[Outcome]]:
         """OUT with those stretches of which another copy is followed than before made anew: nothing else is read a second time."""
         changed = {number: stretch for number, stretch in chosen.items() if stretch.source != listed[number].source}
         listed = [chosen.get(number, stretch) for number, stretch in enumerate(listed)]
         if changed:
             again = self.work / "again"
-            few = self.mend_listed("few", self.write_list("few", list(changed.values())), str(again), comparison)
-            patch(again, out, list(changed.values()))
+            _, few = self.mend_listed("few", list(changed.values()), str(again), comparison)
+            patch(again, out, changed.values())
             anew = [dataclasses.replace(outcome, number=list(changed)[outcome.number]) for outcome in few]
-            kept = [outcome for outcome in outcomes if outcome.number not in changed]
-            outcomes = sorted([*kept, *anew], key=lambda outcome: outcome.number)
-            self.write_list("list", listed)
+            outcomes = sorted([*(each for each in outcomes if each.number not in changed), *anew], key=lambda outcome: outcome.number)
+            mend_list.write(listed, self.work / "list")
         self.keeper.keep_list(self.work / "list", comparison.inputs.files)
         return listed, outcomes
 
-    def write_list(self, name: str, stretches: Sequence[Stretch]) -> list[Stretch]:
+    def mend_listed(self, name: str, stretches: Sequence[Stretch], out: str, comparison: Comparison) -> tuple[list[Stretch], list[Outcome]]:
+        """Has the program make a file by a list of stretches. Returns them as they are listed, and what became of them."""
         listed = mend_list.list_of(stretches)
-        with open(self.work / name, "w", encoding="ascii") as text:
-            mend_list.write(listed, text)
-        return listed
-
-    def mend_listed(self, name: str, listed: Sequence[Stretch], out: str, comparison: Comparison) -> list[Outcome]:
-        """Has the program make a file by a list."""
+        mend_list.write(listed, self.work / name)
         self.progress.begin("mending")
-        return mend(self.program, listed, self.work / name, out, self.options.out or out, comparison.inputs.files, self.work,
-                    lambda done: self.progress.at(done, comparison.layout.size))
+        return listed, mend(self.program, listed, self.work / name, out, self.options.out or out, comparison.inputs.files, self.work,
+                            lambda done: self.progress.at(done, comparison.layout.size))
 
-    # ---- what is kept
+    # ---- what is kept and reported
 
     def keep_frames(self, layout: Layout, inputs: Inputs, made: Made, verdict: Verdict) -> None:
         """Keeps what was asked for of each damaged frame."""
@@ -304,8 +296,24 @@ class Session:
 
     def versions(self, frame: Frame, stretch: Stretch, inputs: Inputs) -> list[tuple[str, bytes]]:
         """What the copies have of a frame, each by its path."""
-        found = []
-        for file, number, place in zip(inputs.files, inputs.numbers, stretch.places):
-            if place is not None:
-                found.append((self.options.copies[number], file.read(place + frame.place - stretch.start, frame.size)))
-        return found
+        return [(self.options.copies[number], file.read(place + frame.place - stretch.start, frame.size))
+                for file, number, place in zip(inputs.files, inputs.numbers, stretch.places) if place is not None]
+
+    def summary(self, copies: Sequence[Copy], arrangement: Arrangement, layout: Layout, verdict: Verdict, part: str | None) -> Summary:
+        """What is to be said of OUT, or of a file that was checked. `part` is where OUT lies while it is made."""
+        digests, out = self.options.digests, None
+        if digests:
+            self.progress.begin("taking digests")
+        sums = of_each(self.options.jobs, kept_digests.sha256, copies) if digests else [None] * len(copies)
+        left, others = {left.number: left.text() for left in arrangement.left}, {matched.number for matched in arrangement.matched}
+        summaries = [CopySummary(copy.path, copy.size, copy.form,
+                                 Role.LEFT if number in left else Role.OTHER if number in others else Role.BASIS, left.get(number, ""),
+                                 None if number in left else verdict.results.verified_in(number), sum_)
+                     for number, (copy, sum_) in enumerate(zip(copies, sums))]
+        if part is not None and self.options.out is not None:
+            form = next((copies[number].form for number in arrangement.basis if copies[number].form), "")
+            sum_ = kept_digests.digest(part, "sha256", self.progress.at) if digests else None
+            out = CopySummary(self.options.out, os.stat(part).st_size, form, sha256=sum_)
+        versions = {"mend-reel": VERSION, "ffv1restore": version_of(self.program), "ffprobe": version_of("ffprobe")}
+        date = datetime.datetime.now(datetime.timezone.utc).isoformat(timespec="seconds")
+        return Summary(date, versions, ["mend-reel", *sys.argv[1:]], summaries, out, layout, verdict, arrangement.matched, self.notes)

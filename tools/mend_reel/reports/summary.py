@@ -1,4 +1,4 @@
-"""What the reports for people and for machines are made of."""
+"""What the reports for people and for machines are made of, and the lines that are printed."""
 from __future__ import annotations
 
 import dataclasses
@@ -7,6 +7,8 @@ import os
 from collections.abc import Mapping, Sequence
 
 from ..copies.arrangement import Matched
+from ..judging import reasons
+from ..judging.results import Counts, Sums
 from ..judging.verdict import Verdict
 from ..model import Layout
 
@@ -62,3 +64,27 @@ class Summary:
     def out_name(self) -> str:
         """What OUT is called within sentences, where there may be none."""
         return "OUT" if self.out else self.title()
+
+    def lines(self) -> list[str]:
+        """What is printed: first the verdict, then the counts, what is in doubt, and notes."""
+        return [self.sentence(), of_frames(self.verdict.counts), of_bytes(self.verdict.sums),
+                *reasons.lines(self.verdict.reasons, self.out_name()), *self.notes, *self.verdict.notes]
+
+
+def of_frames(counts: Counts) -> str:
+    """`frames: 50, 3 damaged, 2 restored (1 woven), 1 not restored`."""
+    woven = f" ({counts.woven:,} woven)" if counts.woven else ""
+    found = [f"frames: {counts.frames:,}", f"{counts.damaged:,} damaged", f"{counts.restored:,} restored{woven}" if counts.restored else "",
+             f"{counts.lost:,} not restored" if counts.lost else ""]
+    return ", ".join(filter(None, found))
+
+
+def of_bytes(sums: Sums) -> str:
+    """`bytes: 881,357 verified (99.9 %), 521 agreed`: of what is not verified only what there is. A share is cut and not rounded: 100 is
+    all."""
+    named = sums.named()
+    whole = sum(named.values())
+    tenths = 1000 * sums.verified // max(whole, 1)
+    share = "100" if sums.verified == whole else f"{tenths // 10}.{tenths % 10}"
+    others = [f"{size:,} {name}" for name, size in named.items() if size and name != "verified"]
+    return ", ".join([f"bytes: {sums.verified:,} verified ({share} %)", *others])
