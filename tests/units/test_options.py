@@ -32,6 +32,7 @@ class OptionsTest(unittest.TestCase):
     def test_maps_are_of_copies(self):
         options = read(["-o", "out", "a", "a=b", "c", "--map", "a=b=x", "--map", "c=y=z", "--digest", "d"])
         self.assertEqual((options.maps, options.read()), ({1: "x", 2: "y=z"}, ["d", "x", "y=z"]))
+        self.assertEqual(read(["--check", "a", "b", "--map", "b=x"]).maps, {1: "x"})
 
     def test_check_has_no_out(self):
         options = read(["--check", "a", "--report", "page"])
@@ -56,7 +57,7 @@ class OptionsTest(unittest.TestCase):
             (["-o", "", "a"], "a name is empty"),
             (["-o", "out", "a", ""], "a name is empty"),
             (["--check", "-o", "x", "a"], "argument -o: not allowed with argument --check"),
-            (["--check", "--map", "a=x", "a"], "argument --map: not allowed with argument --check"),
+            (["--check", "--map", "b=x", "a"], "argument --map: b=x is not the name of a copy, =, and its map"),
             (["--check", "--digest", "x", "a", "b"], "argument --digest: with --check there must be one copy"),
             (["-o", "out", "a", "--map", "b=x"], "argument --map: b=x is not the name of a copy, =, and its map"),
             (["-o", "out", "a", "--map", "a="], "argument --map: a= is not the name of a copy, =, and its map"),

@@ -33,26 +33,23 @@ def interrupted(*_: Any) -> NoReturn:
 
 
 def check(asked: options.Options) -> None:
-    """Refuses to write over a file that is read, and over what is there. Files are compared, and not their names."""
-    made = asked.made()
-    for path in made:
+    """Refuses to write over a file that is read, over what is there, and two files to one place. Files are compared, and not their names. A
+    device takes several."""
+    places: list[int | str] = []
+    for path in asked.made():
+        descriptor = descriptor_of(path)
+        place = os.path.realpath(path) if descriptor is None else descriptor
         for read in (*asked.copies, *asked.read()):
             if is_same(path, read):
                 raise Fault(f"{path} is {'one of the copies' if read in asked.copies else f'read: it is {read}'}")
-        if os.path.isdir(path) and descriptor_of(path) is None:
+        if os.path.isdir(path) and descriptor is None:
             raise Fault(f"cannot write {path}: it is a folder")
         if holds_data(path) and not asked.force:
             raise Fault(f"{path} is there (--force overwrites it)")
-    refuse_repeated(made)
+        if place in places and (descriptor is not None or not is_written_to(path)):
+            raise Fault(f"{path} is named twice")
+        places.append(place)
     refuse_kept(filter(None, (asked.keep, asked.pictures)), asked.copies, asked.force)
-
-
-def refuse_repeated(made: Sequence[str]) -> None:
-    """Refuses to write two files to one place. A device takes several."""
-    places = [os.path.realpath(path) if descriptor is None else descriptor for path in made for descriptor in [descriptor_of(path)]]
-    for number, place in enumerate(places):
-        if place in places[:number] and (isinstance(place, int) or not is_written_to(made[number])):
-            raise Fault(f"{made[number]} is named twice")
 
 
 def write_out(lines: Iterable[str], stream: TextIO) -> None:
@@ -65,18 +62,13 @@ def write_out(lines: Iterable[str], stream: TextIO) -> None:
             raise Fault(f"cannot write standard {'output' if stream is sys.stdout else 'error'}: {error.strerror}") from None
 
 
-def say(fault: str) -> None:
-    """Reports a fault on standard error, if there is one."""
-    line = f"mend-reel: {in_one_line(fault)}".encode(errors="surrogateescape").decode(errors="replace")
+def say(fault: BaseException, asked: options.Options, outputs: Outputs | None) -> None:
+    """Reports a fault on standard error, if there is one, and whether OUT was made before it where that is to be said."""
+    is_made = outputs is not None and outputs.is_out_made
+    more = f"; {asked.out} was made" if is_made else ", and no OUT was made" if isinstance(fault, Interrupted) else ""
+    line = f"mend-reel: {in_one_line(f'{fault}{more}')}".encode(errors="surrogateescape").decode(errors="replace")
     with contextlib.suppress(OSError):
         print(line, file=sys.stderr or io.StringIO(), flush=True)
-
-
-def made_or_not(fault: BaseException, asked: options.Options, outputs: Outputs | None) -> str:
-    """A fault, and whether OUT was made before it where that is to be said."""
-    if outputs is not None and outputs.is_out_made:
-        return f"{fault}; {asked.out} was made"
-    return f"{fault}, and no OUT was made" if isinstance(fault, Interrupted) else str(fault)
 
 
 def finish(asked: options.Options, outputs: Outputs, finished: Finished) -> int:
@@ -88,7 +80,7 @@ def finish(asked: options.Options, outputs: Outputs, finished: Finished) -> int:
     except Fault as fault:
         faults.append(fault)
     for fault in faults:
-        say(made_or_not(fault, asked, outputs))
+        say(fault, asked, outputs)
     return 1 if faults else finished.status
 
 
@@ -111,7 +103,7 @@ def main() -> int:
         return finish(asked, outputs, finished)
     except (Fault, OSError, Interrupted) as fault:
         progress.end()
-        say(made_or_not(fault, asked, outputs))
+        say(fault, asked, outputs)
         return 1
     finally:
         ignore_interrupts()

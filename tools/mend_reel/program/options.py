@@ -26,13 +26,13 @@ class Options:
     out: str | None
     is_named: bool
     copies: tuple[str, ...]
+    maps: Mapping[int, str]
     force: bool
     keep: str | None
     pictures: str | None
     report: str | None
     json: str | None
     digest: str | None
-    maps: Mapping[int, str]
     digests: bool
     jobs: int
     quiet: bool
@@ -85,25 +85,19 @@ def read(words: Sequence[str]) -> Options:
     end = words.index(END_OF_OPTIONS) if END_OF_OPTIONS in words else len(words)
     asked = made.parse_intermixed_args(words[:end])
     paths, is_named = [*asked.paths, *words[end + 1 :]], asked.out is not None
-    if asked.check:
-        refuse_with_check(asked, made)
-    elif not is_named and paths:
+    for option, given in (("-o", asked.out), ("--keep", asked.keep), ("--pictures", asked.pictures)):
+        if asked.check and given:
+            made.error(f"argument {option}: not allowed with argument --check")
+    if not asked.check and not is_named and paths:
         asked.out = paths.pop(0)
     if not paths:
         made.error(f"the following arguments are required: {'COPY' if asked.check or asked.out is not None else 'OUT, COPY'}")
     if asked.check and asked.digest is not None and len(paths) > 1:
         made.error("argument --digest: with --check there must be one copy")
-    if "" in (asked.out, asked.report, asked.json, asked.digest, asked.keep, asked.pictures, *paths):
+    named = {name: getattr(asked, name) for name in ("out", "report", "json", "digest", "keep", "pictures", "force", "digests", "jobs", "quiet")}
+    if "" in (*named.values(), *paths):
         made.error("a name is empty")
-    return Options(asked.out, is_named, tuple(paths), asked.force, asked.keep, asked.pictures, asked.report, asked.json, asked.digest,
-                   maps_of(asked.map, paths, made), asked.digests, asked.jobs, asked.quiet)
-
-
-def refuse_with_check(asked: argparse.Namespace, made: argparse.ArgumentParser) -> None:
-    """Ends the program where an option is given that says something of OUT, and there is none."""
-    for option, given in (("-o", asked.out), ("--keep", asked.keep), ("--pictures", asked.pictures), ("--map", asked.map)):
-        if given:
-            made.error(f"argument {option}: not allowed with argument --check")
+    return Options(is_named=is_named, copies=tuple(paths), maps=maps_of(asked.map, paths, made), **named)
 
 
 def maps_of(words: Sequence[str], copies: Sequence[str], made: argparse.ArgumentParser) -> dict[int, str]:

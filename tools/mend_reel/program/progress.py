@@ -21,10 +21,9 @@ class Progress:
     """Reports on standard error how much of each step is done, and how long the rest of it takes at the pace so far."""
 
     def __init__(self, quiet: bool = False, stream: TextIO | None = None) -> None:
-        self.stream: TextIO | None = stream or sys.stderr
+        self.stream = stream or sys.stderr
         self.quiet, self.terminal = quiet or self.stream is None, self.stream is not None and self.stream.isatty()
-        self.step, self.begun, self.last, self.shown = "", 0.0, 0.0, False
-        self.share = 0.0
+        self.step, self.begun, self.last, self.share, self.shown = "", 0.0, 0.0, 0.0, False
 
     def begin(self, step: str) -> None:
         """Begins a step, which is named in what is shown of it."""
@@ -37,22 +36,18 @@ class Progress:
         now = time.monotonic()
         if self.quiet or now - self.last < EACH_SECONDS[self.terminal]:
             return
-        self.last = now
         share = min(done / whole, 1.0) if whole else 1.0
-        if share < self.share / 2:
-            self.begun = now
-        self.share = share
+        self.begun = now if share < self.share / 2 else self.begun
+        self.last, self.share = now, share
         left = f", {clock((now - self.begun) * (1 - share) / share)} left" if share > 0 else ""
-        self.show(f"{self.step}: {100 * share:.0f} %{left}")
+        text = f"{self.step}: {100 * share:.0f} %{left}"
+        self.write(f"\r\033[K{text}" if self.terminal else f"mend-reel: {text}\n")
+        self.shown = True
 
     def watch(self, copies: Iterable[Copy]) -> None:
         """Has it reported how far each copy is read."""
         for copy in copies:
             copy.watch = lambda place, size=copy.size: self.at(place, size)  # type: ignore[misc]
-
-    def show(self, text: str) -> None:
-        self.write(f"\r\033[K{text}" if self.terminal else f"mend-reel: {text}\n")
-        self.shown = True
 
     def end(self) -> None:
         """Takes the line away from a terminal."""
