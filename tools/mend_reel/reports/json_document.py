@@ -12,7 +12,6 @@ from typing import Any, TextIO
 
 from ..judging.reasons import Reason
 from ..judging.results import FrameResult, Results
-from ..model import Outcome, SliceReport, Stretch, Track
 from .summary import CopySummary, Role, Summary
 
 FORMAT, FORMAT_VERSION = "mend-reel", 2
@@ -22,10 +21,16 @@ ROLES = {Role.BASIS: "basis", Role.OTHER: "other file", Role.LEFT: "left out"}
 
 def write(file: TextIO, summaries: Sequence[Summary]) -> None:
     """Writes the document: OUT, or each file that was checked."""
-    write_open(file, call_of(summaries[0]), "files")
+    first = summaries[0]
+    write_open(file, {"format": FORMAT, "format_version": FORMAT_VERSION, "date": first.date, "programs": dict(first.versions),
+                      "command": [text_of(word) for word in first.command]}, "files")
     for number, summary in enumerate(summaries):
         file.write(",\n" if number else "\n")
-        write_file(file, summary)
+        write_open(file, document(summary), "stretches")
+        # They come last, one in a line.
+        for at, stretch in enumerate(listed(summary.verdict.results)):
+            file.write((",\n  " if at else "\n  ") + json.dumps(stretch))
+        file.write("\n ]\n}")
     file.write("\n ]\n}\n")
 
 
@@ -35,27 +40,16 @@ def write_open(file: TextIO, made: Made, last: str) -> None:
     file.write(head[: head.rindex("\n}")] + f',\n "{last}": [')
 
 
-def write_file(file: TextIO, summary: Summary) -> None:
-    """Writes what is known of OUT or of a file. The stretches come last, one in a line: those that are not whole in every copy."""
-    write_open(file, document(summary), "stretches")
-    comma = "\n"
-    for number in listed(summary.verdict.results):
-        file.write(comma + "  " + json.dumps(stretch_of(summary.verdict.results, number)))
-        comma = ",\n"
-    file.write("\n ]\n}")
-
-
-def call_of(summary: Summary) -> Made:
-    return {"format": FORMAT, "format_version": FORMAT_VERSION, "date": summary.date, "programs": dict(summary.versions),
-            "command": [text_of(word) for word in summary.command]}
-
-
 def document(summary: Summary) -> Made:
+    """What is known of OUT or of a file, but for its stretches."""
     verdict, counts = summary.verdict, summary.verdict.counts
     return {
-        "copies": [{"copy": number, **file_of(copy), **role_of(copy)} for number, copy in enumerate(summary.copies, 1)],
+        "copies": [{"copy": number, **file_of(copy), "role": ROLES[copy.role], "left_out_because": text_of(copy.why) or None,
+                    "verified_size": copy.verified} for number, copy in enumerate(summary.copies, 1)],
         "out": file_of(summary.out) if summary.out else None,
-        "tracks": [track_of(track) for track in summary.layout.tracks],
+        "tracks": [{"track": track.number, "content": track.content.value, "codec": track.codec, "is_ffv1": track.is_ffv1,
+                    "width": track.width or None, "height": track.height or None, "seconds_per_frame": track.step}
+                   for track in summary.layout.tracks],
         "frame_counts": {"all": counts.frames, "damaged": counts.damaged, "restored": counts.restored, "woven": counts.woven,
                          "not_restored": counts.lost},
         "sizes": verdict.sums.named(),
@@ -76,15 +70,6 @@ def file_of(copy: CopySummary) -> Made:
     is_text = copy.name() == copy.path
     return {"path": copy.name(), "path_hex": None if is_text else os.fsencode(copy.path).hex(), "size": copy.size,
             "container": copy.form or None, "sha256": copy.sha256}
-
-
-def role_of(copy: CopySummary) -> Made:
-    return {"role": ROLES[copy.role], "left_out_because": text_of(copy.why) or None, "verified_size": copy.verified}
-
-
-def track_of(track: Track) -> Made:
-    return {"track": track.number, "content": track.content.value, "codec": track.codec, "is_ffv1": track.is_ffv1,
-            "width": track.width or None, "height": track.height or None, "seconds_per_frame": track.step}
 
 
 def reason_of(reason: Reason, out: str) -> Made:
@@ -108,39 +93,31 @@ def times_of(times: Iterable[float | None]) -> list[float | None] | None:
 # ---- stretches
 
 
-def listed(results: Results) -> Iterator[int]:
-    """The numbers of the stretches that are not whole in every copy."""
-    for number in range(len(results.stretches)):
-        if number in results.outcomes or not results.state(number).is_good():
-            yield number
+def listed(results: Results) -> Iterator[Made]:
+    """The stretches that are not whole in every copy."""
+    for number, state in enumerate(results.states):
+        if number in results.outcomes or not state.is_good():
+            yield stretch_of(results, number)
 
 
 def stretch_of(results: Results, number: int) -> Made:
     stretch, outcome, state = results.stretches[number], results.outcomes.get(number), results.state(number)
-    what = stretch.what
+    what, marks = stretch.what, outcome.marks if outcome else "-" * len(stretch.places)
     return {
         "stretch": number + 1, "content": what.content.value, "track": what.track, "checksum": stretch.kind.value, "state": state.value,
         "is_open": not state.is_good(), "combinations": outcome.count if outcome else 0, "times": times_of((what.start, what.end)),
         "range": [stretch.start, stretch.end], "taken_from": counted(results.source(stretch)),
-        "places": places_of(stretch, outcome, results.copy_of_mark),
+        # Where each copy has it, and whether it has there what OUT has.
+        "places": [{"copy": results.copy_of_mark[at] + 1, "range": None if place is None else [place, place + stretch.size],
+                    "is_alike": {"1": True, "0": False}.get(mark)} for at, (place, mark) in enumerate(zip(stretch.places, marks))],
         "frames": [frame_of(result, results) for result in results.within(number)],
     }
 
 
-def places_of(stretch: Stretch, outcome: Outcome | None, copy_of_mark: Sequence[int]) -> list[Made]:
-    """Where each copy has a stretch, and whether it has what OUT has."""
-    marks = outcome.marks if outcome else "-" * len(stretch.places)
-    return [{"copy": copy_of_mark[at] + 1, "range": None if place is None else [place, place + stretch.size],
-             "is_alike": {"1": True, "0": False}.get(mark)} for at, (place, mark) in enumerate(zip(stretch.places, marks))]
-
-
 def frame_of(result: FrameResult, results: Results) -> Made:
+    """A frame that some copy has damaged, and its slices by their bytes in it, each with the copies that gave what OUT has."""
     return {"frame": result.order, "track": result.frame.track, "time": round(result.frame.time, 6),
             "range": [result.frame.place, result.frame.end], "state": result.state.value,
-            "damaged_in": [copy + 1 for copy in result.damaged], "slices": [slice_of(each, results.copy_of_mark) for each in result.slices]}
-
-
-def slice_of(place: SliceReport, copy_of_mark: Sequence[int]) -> Made:
-    """A slice of a frame, by its bytes in the frame, and the copies that gave what OUT has."""
-    givers = [copy_of_mark[at] + 1 for at, mark in enumerate(place.marks) if mark == "1"]
-    return {"range_in_frame": [place.start, place.end], "state": place.state, "combinations": place.count, "given_by": sorted(set(givers))}
+            "damaged_in": [copy + 1 for copy in result.damaged],
+            "slices": [{"range_in_frame": [place.start, place.end], "state": place.state, "combinations": place.count,
+                        "given_by": sorted(copy + 1 for copy in results.copies_with(place.marks, "1"))} for place in result.slices]}

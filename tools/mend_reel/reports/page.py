@@ -8,8 +8,8 @@ from typing import Any, TextIO
 
 from ..judging.reasons import lines, span_of_times, time_code
 from ..judging.results import FrameResult, FrameState
-from ..model import Kind, SliceReport, State
-from .json_document import listed, text_of
+from ..model import Kind
+from .json_document import Made, frame_of, listed, text_of
 from .summary import CopySummary, Summary
 from .timeline import COLOURS, OF_COPY, OF_OUT, WORDS, Shade, Timeline
 
@@ -29,8 +29,10 @@ tr,svg{break-inside:avoid}@media print{body{margin:0;max-width:none;font-size:11
 SUMS = {"verified": "pass a checksum", "agreed": "have none, and several copies agree",
         "read": "have none, and only that copy could be read there", "alone": "have none, and one copy alone has them",
         "open": "are damaged, or differ and nothing decides"}
-STANDS = {State.WHOLE: "whole", State.WOVEN: "woven", State.AGREED: "agreed", State.ALONE: "alone", State.DISPUTED: "disputed",
-          State.MISSING: "not restored", State.OPEN: "open", State.READ: "read"}
+STANDS = {"missing": "not restored"}
+HOW = {"settled": "that of {many} {givers}", "woven": "woven from several copies, one of {count} combinations",
+       "voted": "what most copies have, one of {count} combinations", "repaired": "one wrong bit inverted, one of {count} repairs",
+       "disputed": "different ones pass", "missing": "none passes"}
 
 
 def text(words: Any) -> str:
@@ -52,29 +54,20 @@ def write(file: TextIO, summaries: Sequence[Summary]) -> None:
 def verdict(summary: Summary) -> str:
     """What is to be known first: the verdict, and what a kept digest says."""
     judged, compared = summary.verdict, summary.verdict.compared
-    made = banner(judged.status == 0, summary.sentence())
-    return made + (banner(compared.is_original, compared.text) if compared and compared.text != summary.sentence() else "")
-
-
-def banner(is_good: bool, sentence: str) -> str:
-    return f'<p class="verdict {"good" if is_good else "bad"}">{text(sentence)}</p>'
+    told = [(judged.status == 0, summary.sentence()), *([(compared.is_original, compared.text)] if compared else [])]
+    return "".join(f'<p class="verdict {"good" if is_good else "bad"}">{text(sentence)}</p>'
+                   for at, (is_good, sentence) in enumerate(told) if not at or sentence != told[0][1])
 
 
 def doubts(summary: Summary) -> str:
     """Why OUT may not be what was recorded, and what else is to be said."""
-    reasons, notes = summary.verdict.reasons, [*summary.notes, *summary.verdict.notes]
-    made = "<h2>What is in doubt</h2>" + items(lines(reasons, summary.out_name())) if reasons else ""
-    return made + ("<h2>Notes</h2>" + items(notes) if notes else "")
-
-
-def items(entries: Iterable[str]) -> str:
-    return "<ul>" + "".join(f"<li>{text(line)}</li>" for line in entries) + "</ul>"
+    parts = (("What is in doubt", lines(summary.verdict.reasons, summary.out_name())), ("Notes", [*summary.notes, *summary.verdict.notes]))
+    return "".join(f"<h2>{head}</h2><ul>{''.join(f'<li>{text(line)}</li>' for line in entries)}</ul>" for head, entries in parts if entries)
 
 
 def counts(summary: Summary) -> str:
-    frames = summary.verdict.counts.named()
     sums = summary.verdict.sums.named()
-    first = "".join(f'<tr><th scope="row">{name}</th><td class="n">{count:,}</td></tr>' for name, count in frames.items())
+    first = "".join(f'<tr><th scope="row">{name}</th><td class="n">{count:,}</td></tr>' for name, count in summary.verdict.counts.named().items())
     second = "".join(f'<tr><th scope="row">{name}</th><td class="n">{sums[name]:,}</td><td>{meaning}</td></tr>'
                      for name, meaning in SUMS.items())
     return (f'<div class="side"><div><h2>Frames</h2><table>{first}</table></div><div><h2>Bytes of {summary.out_name()}</h2>'
@@ -84,17 +77,16 @@ def counts(summary: Summary) -> str:
 def copies(summary: Summary) -> str:
     """A table of the copies and OUT, and the tracks."""
     heads = "".join(f"<th>{head}</th>" for head in ("", "File", "Container", "Bytes", "Verified", "Serves as"))
-    named = [*((f"copy {number}", copy) for number, copy in enumerate(summary.copies, 1)), *([("OUT", summary.out)] if summary.out else [])]
-    rows = "".join(copy_row(name, copy) for name, copy in named)
+    rows = "".join(copy_row(f"copy {number}", copy, copy.role.value + (f": {copy.why}" if copy.why else ""))
+                   for number, copy in enumerate(summary.copies, 1)) + (copy_row("OUT", summary.out, "") if summary.out else "")
     tracks = "".join(f'<li>track {track.number}: {track.content.value}, {text(track.codec)}'
                      + (f", {track.width} × {track.height}" if track.width else "") + "</li>" for track in summary.layout.tracks)
     return f'<h2>Files</h2><table class="wide"><thead><tr>{heads}</tr></thead><tbody>{rows}</tbody></table><ul>{tracks}</ul>'
 
 
-def copy_row(name: str, copy: CopySummary) -> str:
+def copy_row(name: str, copy: CopySummary, role: str) -> str:
     digest = f'<br><code class="sha">SHA-256 {copy.sha256}</code>' if copy.sha256 else ""
     verified = "" if copy.verified is None else f"{100 * copy.verified / copy.size if copy.size else 0:.1f} %"
-    role = "" if name == "OUT" else copy.role.value + (f": {copy.why}" if copy.why else "")
     return (f'<tr><th scope="row">{name}</th><td class="w">{text(copy.name())}{digest}</td><td>{text(copy.form or "unknown")}</td>'
             f'<td class="n">{copy.size:,}</td><td class="n">{verified}</td><td>{text(role)}</td></tr>')
 
@@ -123,7 +115,7 @@ def frames(summary: Summary) -> str:
     several = sum(track.is_ffv1 for track in summary.layout.tracks) > 1
     heads = ("Frame", *(("Track",) if several else ()), "Time", "Damaged in copy", "Mended",
              "Damaged slices, by bytes of the frame, and how they are mended")
-    rows = "".join(frame_row(result, results.copy_of_mark, several) for result in damaged[:MOST_ROWS])
+    rows = "".join(frame_row(result, frame_of(result, results), several) for result in damaged[:MOST_ROWS])
     return "<h2>Damaged frames</h2><p>Those that are not restored come first.</p>" + table(heads, rows, len(damaged))
 
 
@@ -133,53 +125,44 @@ def table(heads: Sequence[str], rows: str, count: int) -> str:
     return f'{more}<table class="wide"><thead><tr>{cells}</tr></thead><tbody>{rows}</tbody></table>'
 
 
-def frame_row(result: FrameResult, copy_of_mark: Sequence[int], several: bool) -> str:
-    damaged = [place for place in result.slices if place.state != "settled" or "0" in place.marks]
-    spans = [f"{', '.join(f'{place.start} to {place.end}' for place in group)}: {how}"
-             for how, group in itertools.groupby(damaged[:MOST_SLICES], key=lambda place: how_slice(place, copy_of_mark))]
+def frame_row(result: FrameResult, frame: Made, several: bool) -> str:
+    """A row of a frame, which the document has so."""
+    damaged = [place for each, place in zip(result.slices, frame["slices"]) if each.state != "settled" or "0" in each.marks]
+    spans = [f"{', '.join('{} to {}'.format(*place['range_in_frame']) for place in group)}: {how}"
+             for how, group in itertools.groupby(damaged[:MOST_SLICES], key=how_slice)]
     spans += [f"and {len(damaged) - MOST_SLICES} more slices"] if len(damaged) > MOST_SLICES else []
-    track = f'<td class="n">{result.frame.track}</td>' if several else ""
-    return (f'<tr><td class="n">{result.order}</td>{track}<td class="n">{time_code(result.frame.time)}</td>'
-            f"<td>{numbers(result.damaged)}</td><td class=\"k\">{result.state.value}</td><td>{'<br>'.join(map(text, spans))}</td></tr>")
+    track = f'<td class="n">{frame["track"]}</td>' if several else ""
+    return (f'<tr><td class="n">{frame["frame"]}</td>{track}<td class="n">{time_code(frame["time"])}</td>'
+            f"<td>{numbers(frame['damaged_in'])}</td><td class=\"k\">{frame['state']}</td><td>{'<br>'.join(map(text, spans))}</td></tr>")
 
 
-def how_slice(place: SliceReport, copy_of_mark: Sequence[int]) -> str:
+def how_slice(place: Made) -> str:
     """What OUT has in place of a slice that is damaged in some copy."""
-    givers = sorted({copy_of_mark[at] for at, mark in enumerate(place.marks) if mark == "1"})
-    if place.state == "settled":
-        return ("that of copy " if len(givers) == 1 else "that of copies ") + numbers(givers)
-    if place.state == "woven":
-        return f"woven from several copies, one of {place.count} combinations"
-    if place.state == "voted":
-        return f"what most copies have, one of {place.count} combinations"
-    if place.state == "repaired":
-        return f"one wrong bit inverted, one of {place.count} repairs"
-    return {"disputed": "different ones pass", "missing": "none passes"}.get(place.state, "the footers do not lead there")
+    many = "copies" if len(place["given_by"]) != 1 else "copy"
+    how = HOW.get(place["state"], "the footers do not lead there")
+    return how.format(many=many, givers=numbers(place["given_by"]), count=place["combinations"])
 
 
 def numbers(copies_of: Iterable[int]) -> str:
-    return ", ".join(str(number + 1) for number in copies_of)
+    return ", ".join(map(str, copies_of))
 
 
 def others(summary: Summary) -> str:
     """What else is damaged in some copy: sound, headers, index and so on."""
-    results, rows, count = summary.verdict.results, [], 0
-    for number in listed(results):
-        stretch, outcome = results.stretches[number], results.outcomes.get(number)
-        if stretch.kind is Kind.FRAME or results.within(number):
-            continue
-        count += 1
-        if count <= MOST_ROWS:
-            marks = outcome.marks if outcome else ""
-            what, start = stretch.what, stretch.what.start
-            track = "" if what.track is None else f" of track {what.track}"
-            time = "" if start is None else span_of_times((start, start if what.end is None else what.end))
-            other = sorted({results.copy_of_mark[at] for at, mark in enumerate(marks) if mark == "0"})
-            rows.append(f"<tr><td>{what.content.value}{track}</td><td>{time}</td><td class=\"n\">{stretch.start:,} to {stretch.end:,}</td>"
-                        f"<td>{numbers(other)}</td><td>{STANDS[results.state(number)]}</td></tr>")
-    if not count:
-        return ""
-    return "<h2>Other damage</h2>" + table(("What", "Time", "Bytes", "Damaged in copy", "Mended"), "".join(rows), count)
+    damaged = (stretch for stretch in listed(summary.verdict.results) if stretch["checksum"] != Kind.FRAME.value and not stretch["frames"])
+    rows = list(map(other_row, itertools.islice(damaged, MOST_ROWS)))
+    count = len(rows) + sum(1 for _ in damaged)
+    heads = ("What", "Time", "Bytes", "Damaged in copy", "Mended")
+    return "<h2>Other damage</h2>" + table(heads, "".join(rows), count) if rows else ""
+
+
+def other_row(stretch: Made) -> str:
+    track = "" if stretch["track"] is None else f" of track {stretch['track']}"
+    start, end = stretch["times"] or (None, None)
+    time = "" if start is None else span_of_times((start, start if end is None else end))
+    other = sorted({place["copy"] for place in stretch["places"] if place["is_alike"] is False})
+    return (f"<tr><td>{stretch['content']}{track}</td><td>{time}</td><td class=\"n\">{stretch['range'][0]:,} to {stretch['range'][1]:,}</td>"
+            f"<td>{numbers(other)}</td><td>{STANDS.get(stretch['state'], stretch['state'])}</td></tr>")
 
 
 def foot(summary: Summary) -> str:
