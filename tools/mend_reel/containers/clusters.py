@@ -6,7 +6,7 @@ import re
 from collections.abc import Callable, Iterable, Iterator, Sequence
 from typing import NamedTuple
 
-from ..model import Content, Frame, Track
+from ..model import Content, Copy, Frame, Track
 from . import ebml, elements, own_checks
 from .aligned_copies import NONE, AlignedCopies, Budget, Numbers
 from .metadata import NANOSECONDS, Metadata
@@ -65,14 +65,11 @@ def block_signs(tracks: Iterable[int]) -> Callable[[bytes], Iterable[int]]:
     return lambda piece: (match.start() for match in pattern.finditer(piece))
 
 
-def framing(child: elements.Child, track: int | None = None, time: float | None = None) -> Iterator[Item]:
-    """Yields the items of an element's head: its ID and its size apart where different copies are right about them."""
-    if child.identified == child.sized:
-        yield Item(child.place, child.content, Content.FRAMING, track, time, child.vouched)
-        return
-    sized = child.place + (child.identity.bit_length() + 7) // 8
-    yield Item(child.place, sized, Content.FRAMING, track, time, child.identified)
-    yield Item(sized, child.content, Content.FRAMING, track, time, child.sized)
+def framing(child: elements.Child, track: int | None = None, time: float | None = None) -> list[Item]:
+    """Returns the items of an element's head: its ID and its size apart where different copies are right about them."""
+    sized = child.content if child.identified == child.sized else child.place + (child.identity.bit_length() + 7) // 8
+    parts = [(child.place, sized, child.identified), (sized, child.content, child.sized)]
+    return [Item(start, end, Content.FRAMING, track, time, vouched) for start, end, vouched in parts if start < end]
 
 
 class Clusters:
@@ -82,6 +79,7 @@ class Clusters:
         self.aligned, self.scale, self.tracks, self.budget = aligned, metadata.scale, metadata.by_number(), budget
         self.schema = elements.Schema(IN_CLUSTER, signs=block_signs(self.tracks), reach=32, longest=NUMBERS, confirms=self._is_frame)
         self.steps = {track.number: track.step for track in metadata.tracks if track.step}
+        self.ffv1 = [track.number for track in metadata.tracks if track.is_ffv1]
         self._last: dict[int, float] = {}
         self._expected: dict[int, float] = {}
         self._doubtful = False
@@ -127,7 +125,7 @@ class Clusters:
                 if track.is_ffv1 or track.is_flac:
                     items.append(Item(place, block.payload, Content.FRAMING, block.track, time))
                     place = block.payload
-                items.append(self._payload(block, head.end, track, time, bool(block.flags & KEY))._replace(start=place))
+                items.append(self._payload(block, head.end, time, bool(block.flags & KEY))._replace(start=place))
             elif head.identity in (CRC, TIMESTAMP) and head.end - place <= len(data):
                 start = ebml.number(data[head.content - place : head.end - place]) if head.identity == TIMESTAMP else start
                 items.append(Item(place, head.end, Content.FRAMING))
@@ -143,13 +141,6 @@ class Clusters:
             head = self._head(child, None) if child.identity == SIMPLE_BLOCK else None
             if head:
                 yield head.track, head.payload, child.end
-
-    def _is_frame(self, aligned: AlignedCopies, child: elements.Child) -> bool | None:
-        """Reports whether footers lead through the payload of a block of an FFV1 track in some copy."""
-        copies = [aligned.copies[number] for number in aligned.numbers if child.identity == SIMPLE_BLOCK]
-        heads = [(copy, head) for copy in copies for head in [read_block_head(copy.read(child.content, LONGEST_BLOCK_HEAD), child.content)]
-                 if head and head.track in self.tracks and self.tracks[head.track].is_ffv1]
-        return any(own_checks.is_frame(copy, head.payload, child.end) for copy, head in heads) if heads else None
 
     def items(self, children: Sequence[elements.Child]) -> list[Item]:
         """Returns the items of some children of a cluster."""
@@ -169,6 +160,21 @@ class Clusters:
                 items.append(Item(child.place, child.end, Content.PADDING if child.identity == VOID else Content.FRAMING))
         return items
 
+    # ---- what the copies have
+
+    def _copies(self) -> list[Copy]:
+        return [self.aligned.copies[number] for number in self.aligned.numbers]
+
+    def _has_footers(self, payload: int, end: int) -> bool:
+        return any(own_checks.is_frame(copy, payload, end) for copy in self._copies())
+
+    def _is_frame(self, aligned: AlignedCopies, child: elements.Child) -> bool | None:
+        """Reports whether footers lead through the payload of a block of an FFV1 track in some copy."""
+        heads = [(copy, read_block_head(copy.read(child.content, LONGEST_BLOCK_HEAD), child.content))
+                 for number in aligned.numbers for copy in [aligned.copies[number]] if child.identity == SIMPLE_BLOCK]
+        of_frames = [(copy, head.payload) for copy, head in heads if head and head.track in self.ffv1]
+        return any(own_checks.is_frame(copy, payload, child.end) for copy, payload in of_frames) if of_frames else None
+
     def _versions(self, place: int, size: int) -> list[tuple[bool, bytes]]:
         """Returns what the copies have at a place, each with whether it is in doubt: it is not what more than half of them have."""
         pieces = [self.aligned.peek(number, place, size) for number in self.aligned.reaching(place + size - 1)]
@@ -177,54 +183,18 @@ class Clusters:
         self._doubtful = True
         return [(2 * count <= len(pieces), piece) for piece, count in collections.Counter(pieces).most_common()]
 
+    # ---- times
+
     def _seconds(self, time: int) -> float:
         return time * self.scale / NANOSECONDS
 
     def _start(self, child: elements.Child) -> int | None:
         """Returns a cluster's time: that of most copies, or the one next to what is expected."""
-        frames = [self._expected[number] for number, track in self.tracks.items() if track.is_ffv1 and number in self._expected]
+        frames = [self._expected[number] for number in self.ffv1 if number in self._expected]
         expected = min(frames or self._expected.values(), default=0.0)
         times = [(is_doubtful, ebml.number(version))
                  for is_doubtful, version in self._versions(child.content, min(child.end - child.content, 8))]
         return min(times, key=lambda each: (each[0], abs(self._seconds(each[1]) - expected)), default=(True, None))[1]
-
-    def _heads(self, place: int, size: int, end: int, start: int | None) -> list[BlockHead]:
-        """Returns the heads that the copies have of a block which ends at a place, the likeliest first: that of a known track, which is of
-        FFV1 if footers lead through its payload, without lacing, that most copies have, of a time next to what is expected."""
-        heads = [(is_doubtful, head) for is_doubtful, version in self._versions(place, size)
-                 for head in (read_block_head(version, place),) if head]
-        if len(heads) < 2:
-            return [head for _, head in heads]
-        is_frame = {head.payload: self._has_footers(head.payload, end) for _, head in heads}
-
-        def doubt(each: tuple[bool, BlockHead]) -> tuple[bool, bool, int, bool, float]:
-            is_doubtful, head = each
-            time, track = self._seconds((start or 0) + head.time), self.tracks.get(head.track)
-            is_odd = is_frame[head.payload] and not (track and track.is_ffv1)
-            return track is None, is_odd, head.flags & LACING, is_doubtful, abs(time - self._expected.get(head.track, 0.0))
-
-        return [head for _, head in sorted(heads, key=doubt)]
-
-    def _has_footers(self, payload: int, end: int) -> bool:
-        return any(own_checks.is_frame(self.aligned.copies[number], payload, end) for number in self.aligned.numbers)
-
-    def _head(self, child: elements.Child, start: int | None) -> BlockHead | None:
-        """Returns the likeliest head of a block."""
-        size = child.end - child.content
-        for most in (SHORT_BLOCK_HEAD, LONGEST_BLOCK_HEAD):
-            heads = self._heads(child.content, min(size, most), child.end, start)
-            if heads:
-                return self._by_payload(heads[0], child.end)
-        return None
-
-    def _by_payload(self, head: BlockHead, end: int) -> BlockHead:
-        """Returns a head, as that of an FFV1 frame where it is of no track, or laced, and footers lead through its payload all the same."""
-        track = self.tracks.get(head.track)
-        numbers = [track.number for track in self.tracks.values() if track.is_ffv1]
-        if not numbers or track and not (track.is_ffv1 and head.flags & LACING) or not self._has_footers(head.payload, end):
-            return head
-        number = head.track if head.track in numbers else min(numbers, key=lambda each: self._expected.get(each, 0.0))
-        return head._replace(track=number, flags=head.flags & ~LACING)
 
     def _time(self, head: BlockHead, start: int | None) -> float:
         """Returns the time of a block, and keeps when the next one of its track is expected: after the time from a frame to the next, or
@@ -234,48 +204,70 @@ class Clusters:
         self._last[head.track], self._expected[head.track] = time, round(time + step, DIGITS)
         return time
 
-    def _block(self, child: elements.Child, start: int | None, key: bool | None = None) -> Iterator[Item]:
-        """Yields the items of a block: its head and its payload, in one if copies agree on the head and it is no FFV1. A Block in a group
+    # ---- blocks
+
+    def _heads(self, place: int, size: int, end: int, start: int | None) -> list[BlockHead]:
+        """Returns the heads that the copies have of a block which ends at a place, the likeliest first: that of a known track, which is of
+        FFV1 if footers lead through its payload, without lacing, that most copies have, of a time next to what is expected."""
+        heads = [(is_doubtful, head) for is_doubtful, version in self._versions(place, size)
+                 for head in (read_block_head(version, place),) if head]
+        is_frame = {head.payload: self._has_footers(head.payload, end) for _, head in heads} if len(heads) > 1 else {}
+
+        def doubt(each: tuple[bool, BlockHead]) -> tuple[bool, bool, int, bool, float]:
+            is_doubtful, head = each
+            is_odd, time = is_frame[head.payload] and head.track not in self.ffv1, self._seconds((start or 0) + head.time)
+            return head.track not in self.tracks, is_odd, head.flags & LACING, is_doubtful, abs(time - self._expected.get(head.track, 0.0))
+
+        return [head for _, head in (sorted(heads, key=doubt) if is_frame else heads)]
+
+    def _head(self, child: elements.Child, start: int | None) -> BlockHead | None:
+        """Returns the likeliest head of a block. It is that of an FFV1 frame where it is of no track, or laced, and footers lead through its
+        payload all the same."""
+        size = child.end - child.content
+        found = (self._heads(child.content, min(size, most), child.end, start) for most in (SHORT_BLOCK_HEAD, LONGEST_BLOCK_HEAD))
+        head = next((heads[0] for heads in found if heads), None)
+        is_odd = head and (head.track not in self.tracks or head.track in self.ffv1 and head.flags & LACING)
+        if head is None or not self.ffv1 or not is_odd or not self._has_footers(head.payload, child.end):
+            return head
+        return head._replace(track=head.track if head.track in self.ffv1 else self._next(), flags=head.flags & ~LACING)
+
+    def _next(self) -> int:
+        """The FFV1 track of which a frame is expected first."""
+        return min(self.ffv1, key=lambda each: self._expected.get(each, 0.0))
+
+    def _block(self, child: elements.Child, start: int | None, key: bool | None = None) -> list[Item]:
+        """Returns the items of a block: its head and its payload, in one if copies agree on the head and it is no FFV1. A Block in a group
         has no flag of its own that it is a keyframe."""
         head = self._head(child, start)
         if head is None or child.is_cut:
-            yield Item(child.place, child.end, Content.UNKNOWN, is_gap=child.is_cut)
-            return
+            return [Item(child.place, child.end, Content.UNKNOWN, is_gap=child.is_cut)]
         time, track = self._time(head, start), self.tracks.get(head.track)
-        is_ffv1 = track is not None and track.is_ffv1
-        if not is_ffv1 and not (track and track.is_flac) and len(child.vouched) >= len(self.aligned.reaching(child.content - 1)):
-            yield Item(child.place, child.end, track.content if track else Content.UNKNOWN, head.track, time)
-            return
-        yield from framing(child, head.track, time)
-        yield Item(child.content, head.payload, Content.FRAMING, head.track, time)
-        if head.payload < child.end:
-            yield self._payload(head, child.end, track, time, bool(head.flags & KEY) if key is None else key)
+        has_frames = track is not None and (track.is_ffv1 or track.is_flac)
+        if not has_frames and len(child.vouched) >= len(self.aligned.reaching(child.content - 1)):
+            return [Item(child.place, child.end, track.content if track else Content.UNKNOWN, head.track, time)]
+        payload = self._payload(head, child.end, time, bool(head.flags & KEY) if key is None else key)
+        return [*framing(child, head.track, time), Item(child.content, head.payload, Content.FRAMING, head.track, time),
+                *([payload] if head.payload < child.end else [])]
 
-    def _undivided(self, child: elements.Child, start: int | None) -> Iterator[Item]:
-        """Yields the items of bytes that no copy divides, or of an element of an unknown ID. Where footers lead from their end to where a
+    def _undivided(self, child: elements.Child, start: int | None) -> list[Item]:
+        """Returns the items of bytes that no copy divides, or of an element of an unknown ID. Where footers lead from their end to where a
         block's payload would begin, they are a frame but for the block's head."""
         first, last = child.place + 2 + BLOCK_FIELDS, child.place + 9 + BLOCK_FIELDS
-        tracks = [track for track in self.tracks.values() if track.is_ffv1]
-        copies = [self.aligned.copies[number] for number in self.aligned.numbers]
-        payload = own_checks.first_within(copies, first, last, child.end) if tracks and not child.is_cut else None
+        payload = own_checks.first_within(self._copies(), first, last, child.end) if self.ffv1 and not child.is_cut else None
         if payload is None:
-            yield Item(child.place, child.end, Content.UNKNOWN, is_gap=True)
-            return
-        numbers = [track.number for track in tracks]
-        named = [head.track for head in self._heads(payload - BLOCK_FIELDS, BLOCK_FIELDS, child.end, start) if head.track in numbers]
-        number = named[0] if named else min(numbers, key=lambda each: self._expected.get(each, 0.0))
-        head = BlockHead(number, 0, KEY, payload)
-        time, track = self._time(head, None), self.tracks[number]
-        yield Item(child.place, payload, Content.FRAMING, number, time, is_gap=True)
-        yield self._payload(head, child.end, track, time, True)
+            return [Item(child.place, child.end, Content.UNKNOWN, is_gap=True)]
+        named = [head.track for head in self._heads(payload - BLOCK_FIELDS, BLOCK_FIELDS, child.end, start) if head.track in self.ffv1]
+        head = BlockHead(named[0] if named else self._next(), 0, KEY, payload)
+        time = self._time(head, None)
+        return [Item(child.place, payload, Content.FRAMING, head.track, time, is_gap=True), self._payload(head, child.end, time, True)]
 
-    @staticmethod
-    def _payload(head: BlockHead, end: int, track: Track | None, time: float, key: bool) -> Item:
-        content = track.content if track else Content.UNKNOWN
-        if track and track.is_ffv1 and not head.flags & LACING:
+    def _payload(self, head: BlockHead, end: int, time: float, key: bool) -> Item:
+        track, is_laced = self.tracks.get(head.track), bool(head.flags & LACING)
+        if track and track.is_ffv1 and not is_laced:
             frame = Frame(head.track, time, head.payload, end - head.payload, key)
             return Item(head.payload, end, Content.FRAME, head.track, time, frame=frame)
-        return Item(head.payload, end, content, head.track, time, is_flac=bool(track and track.is_flac and not head.flags & LACING))
+        is_flac = bool(track and track.is_flac and not is_laced)
+        return Item(head.payload, end, track.content if track else Content.UNKNOWN, head.track, time, is_flac=is_flac)
 
     def _group(self, child: elements.Child, start: int | None) -> Iterator[Item]:
         """Yields the items of a BlockGroup."""

@@ -10,7 +10,7 @@ import bisect
 import dataclasses
 import heapq
 from collections.abc import Callable, Iterable, Iterator, Mapping, Sequence
-from typing import NamedTuple
+from typing import Any, NamedTuple
 
 from . import ebml
 from .aligned_copies import NONE, AlignedCopies, Budget, Numbers
@@ -65,6 +65,12 @@ class Schema:
     reach: int = 4
     longest: Mapping[int, int] = dataclasses.field(default_factory=dict)
     confirms: Callable[[AlignedCopies, Child], bool | None] = lambda aligned, child: None
+
+
+def by_value(found: Mapping[int, Any]) -> list[tuple[Any, Numbers]]:
+    """The values that copies have, but for none, each with the copies that have it."""
+    values = sorted({value for value in found.values() if value}, key=lambda value: (value[0] or 0, value[1]))
+    return [(value, frozenset(number for number, other in found.items() if other == value)) for value in values]
 
 
 class Walk:
@@ -122,8 +128,8 @@ class Walk:
         if end is None or content > self.end or end - content > self.schema.longest.get(identity, end):
             return None
         if end > self.end:
-            strong = identity in self.schema.strong
-            return Child(identity, place, content, self.end, is_cut=True) if strong or self.is_cut else None
+            may_be_cut = self.is_cut or identity in self.schema.strong
+            return Child(identity, place, content, self.end, is_cut=True) if may_be_cut else None
         return Child(identity, place, content, end, identified, sized)
 
     # ---- where they do not
@@ -131,33 +137,20 @@ class Walk:
     def _candidates(self, place: int, live: bool, known: bool = True) -> list[Child]:
         """Returns the children that may begin at a place: the ID that any copy has there with the size that any has after it."""
         data = {number: self.aligned.peek(number, place, ebml.LONGEST_HEAD) for number in self.aligned.numbers}
-        identities: dict[tuple[int, int], set[int]] = {}
-        for number, each in data.items():
-            identity = ebml.read_identity(each, 0)
-            if identity and self._is_known(identity[0], live) == known:
-                identities.setdefault(identity, set()).add(number)
         found = []
-        for (value, length), identified in sorted(identities.items()):
-            sizes: dict[tuple[int | None, int], set[int]] = {}
-            for number, each in data.items():
-                size = ebml.read_size(each, length)
-                if size:
-                    sizes.setdefault(size, set()).add(number)
-            for (size_, more), sized in sorted(sizes.items(), key=lambda each: (each[0][0] or 0, each[0][1])):
+        for (value, length), identified in by_value({number: ebml.read_identity(each, 0) for number, each in data.items()}):
+            sizes = by_value({number: ebml.read_size(each, length) for number, each in data.items()})
+            for (size, more), sized in sizes if self._is_known(value, live) == known else ():
                 content = place + length + more
-                head = ebml.Head(value, place + length, content, None if size_ is None else content + size_)
-                child = self._child(place, head, frozenset(identified), frozenset(sized))
-                if child:
-                    found.append(child)
-        return found
+                head = ebml.Head(value, place + length, content, None if size is None else content + size)
+                found.append(self._child(place, head, identified, sized))
+        return [child for child in found if child]
 
     def _leads_on(self, child: Child, live: bool, depth: int = 0) -> bool:
         """Reports whether a child ends where the master does, or where something known begins: an element with a strong ID, or several."""
-        if child.is_cut:
-            return False
         place, live = child.end, self._stays_live(child, live)
-        if place == self.end:
-            return True
+        if child.is_cut or place == self.end:
+            return not child.is_cut
         if (place, live, depth) not in self._leads:
             self._leads[place, live, depth] = any(
                 each.identity in self.schema.strong or depth + 1 >= MOST_STEPS or self._leads_on(each, live, depth + 1)
@@ -179,8 +172,8 @@ class Walk:
         candidates, reach = self._candidates(place, live), len(self.aligned.reaching(place))
         is_known = bool(candidates)
         if not is_known:
-            candidates = [child for child in self._candidates(place, live, known=False)
-                          if self._leads_on(child, live) and not self._hides(child)]
+            unknown = self._candidates(place, live, known=False)
+            candidates = [child for child in unknown if self._leads_on(child, live) and not self._hides(child)]
         if len(candidates) == 1 and len(candidates[0].vouched) == reach and self._leads_on(candidates[0], live):
             return [((0, 0, 0), candidates[0])]
         # A known ID with a wrong bit leads on too.
@@ -204,22 +197,25 @@ class Walk:
 
     def careful(self) -> list[Child]:
         """Returns the children on the path with the fewest doubtful bytes. A place's way past bytes that no copy divides is looked for
-        only once no cheaper path is left."""
+        only once no cheaper path is left. Where no steps are left, what comes after the last place is not divided."""
         best: dict[int, tuple[Cost, Child | None, bool]] = {self.start: ((0, 0, 0), None, False)}
         heap: list[tuple[Cost, int, bool]] = [((0, 0, 0), self.start, False)]
         done: set[int] = set()
+        last, rest = self.end, []
         while heap:
-            (doubtful, undivided, doubts), place, is_search = heapq.heappop(heap)
+            _, place, is_search = heapq.heappop(heap)
             cost, _, live = best[place]
+            if place == self.end and not is_search:
+                break
+            if place in done and not is_search:
+                continue
             if is_search:
                 after = self._next_sign(place)
                 edges = [((after - place, after - place, 0), Child(UNDIVIDED, place, place, after))]
-            elif place in done:
-                continue
-            elif place == self.end:
-                break
             elif not self.aligned.steps.take(CAREFUL_STEPS):
-                return self._up_to(max(done, default=self.start), best)
+                last = max(done, default=self.start)
+                rest = [Child(UNDIVIDED, last, last, self.end)]
+                break
             else:
                 done.add(place)
                 edges = self._edges(place, live)
@@ -230,19 +226,11 @@ class Walk:
                 if child.end not in best or total < best[child.end][0]:
                     best[child.end] = total, child, self._stays_live(child, live)
                     heapq.heappush(heap, (total, child.end, False))
-        return self._path(best, self.end)
-
-    def _up_to(self, place: int, best: Mapping[int, tuple[Cost, Child | None, bool]]) -> list[Child]:
-        """Returns the children up to a place, and what comes after it as bytes that are not divided."""
-        return [*self._path(best, place), Child(UNDIVIDED, place, place, self.end)]
-
-    def _path(self, best: Mapping[int, tuple[Cost, Child | None, bool]], end: int) -> list[Child]:
-        children: list[Child] = []
-        child = best[end][1]
+        child = best[last][1]
         while child is not None:
-            children.append(child)
+            rest.append(child)
             child = best[child.place][1]
-        return children[::-1]
+        return sorted(rest, key=lambda each: each.place)
 
     # ---- past what no copy divides
 

@@ -77,17 +77,23 @@ class MatroskaReader:
         self.gaps: list[tuple[int, int]] = []
         top = elements.divide(self.aligned, 0, self.aligned.end, TOP, self.budget, is_cut=True)
         self.top = [self._without_head(child) or child for child in top]
-        self.metadata = self._read_metadata()
+        contents: dict[int, bytes] = {}
+        for child in (child for child in self.top if child.identity in metadata.READ):
+            contents[child.identity] = contents.get(child.identity, b"") + self._content(child)
+        self.metadata = metadata.read(contents)
         self.clusters = clusters.Clusters(self.aligned, self.metadata, self.budget)
-        if not any(track.is_ffv1 for track in self.metadata.tracks):
-            guessed = {track.number: track for track in self._guessed_tracks()}
-            self.metadata = dataclasses.replace(self.metadata, tracks=list({**self.metadata.by_number(), **guessed}.values()))
+        if not self.clusters.ffv1:
+            tracks = {**self.metadata.by_number(), **{track.number: track for track in self._guessed_tracks()}}
+            self.metadata = dataclasses.replace(self.metadata, tracks=list(tracks.values()))
             self.clusters = clusters.Clusters(self.aligned, self.metadata, self.budget)
 
     def layout(self) -> Layout:
         segment = next((child for child in self.top if child.identity == SEGMENT), None)
         claimed_end, sized = self._read_end(segment) if segment else (None, NONE)
-        size = self._size(claimed_end)
+        strong = [child for child in self.top if child.identity in STRONG]
+        # OUT ends where the Segment does, if a copy ends there and nothing goes on, or else with the longest copy.
+        is_whole = claimed_end in {copy.size for copy in self.copies} and max((child.end for child in strong), default=0) <= (claimed_end or 0)
+        size = claimed_end if claimed_end is not None and is_whole else self.aligned.end
         live: list[elements.Child] = []
         for child in self.top:
             if child.identity in STRONG or child.identity == elements.UNDIVIDED:
@@ -102,23 +108,21 @@ class MatroskaReader:
         self._add_live(live)
         if claimed_end is not None and claimed_end > size:
             self.gaps.append((size, claimed_end - size))
-        strong = [child for child in self.top if child.identity in STRONG]
         if segment and claimed_end is not None and any(child.place < claimed_end < child.end for child in strong):
             self.gaps.insert(0, (segment.place, segment.content - segment.place))
         return Layout(size, list(self.metadata.tracks), self.stretches.frames, self.stretches.made, self.metadata.claims, self.gaps,
                       rises=True, end=claimed_end, bare=list(self._bare()))
 
+    # ---- the file as a whole
+
     def _bare(self) -> Iterator[tuple[int, int]]:
         """Yields where elements lie that have no CRC-32, though others of the same ID have one, or most others."""
         kinds = [(child, self._has_crc(child)) for child in self.top
                  if child.identity in STRONG - {EBML, SEGMENT} and child.content < child.end and not child.is_cut]
-        mostly = 2 * sum(has_crc for _, has_crc in kinds) > len(kinds)
-        checked = {child.identity for child, has_crc in kinds if has_crc}
+        mostly, checked = 2 * sum(has_crc for _, has_crc in kinds) > len(kinds), {child.identity for child, has_crc in kinds if has_crc}
         for child, has_crc in kinds:
             if not has_crc and (child.identity in checked or mostly) and child.end - child.content <= MOST_STRETCH:
                 yield child.place, child.end
-
-    # ---- the file as a whole
 
     def _read_end(self, segment: elements.Child) -> tuple[int | None, Numbers]:
         """Returns where the Segment ends by its head, and the copies that are right: where its last element ends or a copy does, or what
@@ -128,19 +132,10 @@ class MatroskaReader:
             size = ebml.read_size(self.aligned.peek(number, segment.place + 4, 8), 0)
             if size and segment.place + 4 + size[1] == segment.content:
                 ends.setdefault(None if size[0] is None else segment.content + size[0], set()).add(number)
-        if not ends:
-            return None, NONE
-        last = max((child.end for child in self.top if child.identity != elements.UNDIVIDED), default=0)
+        sure = {max((child.end for child in self.top if child.identity != elements.UNDIVIDED), default=0)}
         sizes = {copy.size for copy in self.copies}
-        end = max(ends, key=lambda each: (each == last, each in sizes, len(ends[each])))
-        return end, frozenset(ends[end]) if end == last or end in sizes else NONE
-
-    def _size(self, claimed_end: int | None) -> int:
-        """Returns the size of OUT: up to the Segment's end where a copy ends there, or that of the longest copy."""
-        if claimed_end is not None and any(copy.size == claimed_end for copy in self.copies):
-            last = max((child.end for child in self.top if child.identity in STRONG), default=0)
-            return claimed_end if last <= claimed_end else self.aligned.end
-        return self.aligned.end
+        end = max(ends, key=lambda each: (each in sure, each in sizes, len(ends[each])), default=None)
+        return end, frozenset(ends[end]) if ends and end in sure | sizes else NONE
 
     def _without_head(self, child: elements.Child) -> elements.Child | None:
         """Returns the element that bytes which no copy divides are but for its head, if its children cover all the rest; or what an element
@@ -150,18 +145,10 @@ class MatroskaReader:
         heads = [self.aligned.peek(number, child.place, 4) for number in self.aligned.numbers]
         named = [identity for identity in CHILDREN if identity.to_bytes(4, "big") in heads] or list(CHILDREN)
         first, last = (child.place + 5, child.place + 13) if child.identity == elements.UNDIVIDED else (child.content, child.content + 1)
-        for content in range(first, min(last, child.end)):
-            for identity in named:
-                if elements.divides(self.aligned, content, child.end, CHILDREN[identity]):
-                    return elements.Child(identity, child.place, content, child.end, is_headless=True)
+        for content, identity in itertools.product(range(first, min(last, child.end)), named):
+            if elements.divides(self.aligned, content, child.end, CHILDREN[identity]):
+                return elements.Child(identity, child.place, content, child.end, is_headless=True)
         return None
-
-    def _read_metadata(self) -> metadata.Metadata:
-        contents: dict[int, bytes] = {}
-        for child in self.top:
-            if child.identity in metadata.READ:
-                contents[child.identity] = contents.get(child.identity, b"") + self._content(child)
-        return metadata.read(contents)
 
     def _guessed_tracks(self) -> list[Track]:
         """Returns the tracks whose blocks are FFV1 frames by the footers of their slices, for files whose own description is lost."""
@@ -196,55 +183,51 @@ class MatroskaReader:
     def _add(self, child: elements.Child, claimed_end: int | None) -> None:
         """Adds a top-schema element, or bytes that no copy divides: after the Segment's end they are no gap."""
         if child.identity == elements.UNDIVIDED:
-            if claimed_end is not None and child.place >= claimed_end:
-                self.stretches.plain(child.place, child.end, What(Content.UNKNOWN))
-            else:
-                self._add_items(self.clusters.read(child.place, child.end))
+            is_after = claimed_end is not None and child.place >= claimed_end
+            unknown = [clusters.Item(child.place, child.end, Content.UNKNOWN)]
+            self._add_items(unknown if is_after else self.clusters.read(child.place, child.end))
             return
-        if child.is_headless:
-            self.gaps.append((child.place, child.content - child.place))
+        self.gaps += [(child.place, child.content - child.place)] if child.is_headless else []
         self._add_head(child)
+        what, has_crc = What(CONTENTS.get(child.identity, Content.UNKNOWN)), self._has_crc(child)
         if child.identity == CLUSTER:
-            self._add_cluster(child)
+            self._add_cluster(child, has_crc)
+        elif has_crc:
+            self.stretches.add(Kind.ELEMENT, child.content, child.end, what)
         elif child.content < child.end:
-            what = What(CONTENTS.get(child.identity, Content.UNKNOWN))
-            if self._has_crc(child):
-                self.stretches.element(child.content, child.end, what)
-            else:
-                vouched = self._sound_headers(child) if child.identity == EBML else NONE
-                described = self._content(child) if child.identity == metadata.TRACKS else b""
-                records = own_checks.records_in(described, child.content, self.metadata.tracks)
-                for start, end, is_record in with_records(child.content, child.end, records):
-                    if is_record:
-                        self.stretches.checked(Kind.RECORD, start, end, what)
-                    else:
-                        self.stretches.plain(start, end, what, vouched)
+            self._add_plain(child, what)
+
+    def _add_plain(self, child: elements.Child, what: What) -> None:
+        """Adds an element without a CRC-32, and the Configuration Records in it."""
+        vouched, place = self._sound_headers(child) if child.identity == EBML else NONE, child.content
+        described = self._content(child) if child.identity == metadata.TRACKS else b""
+        for start, end in own_checks.records_in(described, child.content, self.metadata.tracks):
+            if place <= start:
+                self.stretches.plain(place, start, what, vouched)
+                self.stretches.add(Kind.RECORD, start, end, what)
+                place = end
+        self.stretches.plain(place, child.end, what, vouched)
 
     def _has_crc(self, child: elements.Child) -> bool:
         """Reports whether an element's content begins with a CRC-32 in some copy."""
-        size = child.end - child.content
-        return not child.is_cut and ebml.CRC_SIZE < size <= MOST_STRETCH and any(
+        return not child.is_cut and ebml.CRC_SIZE < child.end - child.content <= MOST_STRETCH and any(
             self.aligned.peek(number, child.content, 2) == ebml.CRC_HEAD for number in self.aligned.numbers)
 
     def _sound_headers(self, child: elements.Child) -> Numbers:
         """Returns the copies whose EBML header has known children alone, and a document type that is known."""
-        sound = set()
-        for number in self.aligned.numbers:
-            data = self.copies[number].read(child.content, min(child.end - child.content, WINDOW))
-            fields = dict(ebml.children(data))
-            if ebml.divides(data) and IN_HEADER.issuperset(fields) and ebml.text(fields.get(DOCUMENT_TYPE, b"")) in DOCUMENT_TYPES:
-                sound.add(number)
-        return frozenset(sound)
+        contents = {number: self.copies[number].read(child.content, min(child.end - child.content, WINDOW)) for number in self.aligned.numbers}
+        return frozenset(number for number, data in contents.items() for fields in [dict(ebml.children(data))]
+                         if ebml.divides(data) and IN_HEADER.issuperset(fields) and ebml.text(fields.get(DOCUMENT_TYPE, b"")) in DOCUMENT_TYPES)
 
-    def _add_cluster(self, child: elements.Child) -> None:
+    def _add_cluster(self, child: elements.Child, has_crc: bool) -> None:
         items = self.clusters.read(child.content, child.end, child.is_cut)
-        if not self._has_crc(child):
+        if not has_crc:
             self._add_items(items)
             return
         timed = [item for item in items if item.time is not None]
         what = What(Content.CLUSTER, None, min((item.time for item in timed), default=None), max(map(self._end, timed), default=None))
-        sound = [(item.start, item.end - item.start) for item in items if item.is_flac]
-        self.stretches.element(child.content, child.end, what, [item.frame for item in items if item.frame], sound)
+        self.stretches.add(Kind.ELEMENT, child.content, child.end, what, [item.frame for item in items if item.frame],
+                           [(item.start, item.end - item.start) for item in items if item.is_flac])
 
     def _end(self, item: clusters.Item) -> float:
         track = self.clusters.tracks.get(item.track or 0)
@@ -262,25 +245,11 @@ class MatroskaReader:
         """Adds what no CRC-32 of an element covers."""
         for item in items:
             what = What(item.content, item.track, item.time, None if item.time is None else self._end(item))
-            if item.is_gap:
-                self.gaps.append((item.start, item.end - item.start))
-            if item.frame:
-                self.stretches.frame(item.frame, what)
-            elif item.is_flac:
-                self.stretches.checked(Kind.FLAC, item.start, item.end, what)
+            self.gaps += [(item.start, item.end - item.start)] if item.is_gap else []
+            if item.frame or item.is_flac:
+                self.stretches.add(Kind.FRAME if item.frame else Kind.FLAC, item.start, item.end, what, (item.frame,) if item.frame else ())
             else:
                 self.stretches.plain(item.start, item.end, what, item.vouched)
-
-
-def with_records(start: int, end: int, records: Iterable[tuple[int, int]]) -> Iterator[tuple[int, int, bool]]:
-    """Yields the parts of a range, and whether each is a Configuration Record."""
-    for first, last in records:
-        if start <= first:
-            yield from [(start, first, False)] if start < first else []
-            yield first, last, True
-            start = last
-    if start < end:
-        yield start, end, False
 
 
 def layout(copies: Sequence[Copy]) -> Layout:
@@ -294,12 +263,12 @@ def flaws(copy: Copy, layout: Layout) -> Iterator[structure.Found]:
     what lies after its end. A last sector that is shorter than others may be lost within a text: nothing else shows it."""
     for content, stretches in itertools.groupby(layout.stretches, key=lambda stretch: stretch.what.content):
         pieces = list(stretches) if content in MASTERS else []
-        size = pieces[-1].end - pieces[0].start if pieces else 0
-        data = copy.read(pieces[0].start, size) if 0 < size <= MOST_METADATA else b""
+        start, end = (pieces[0].start, pieces[-1].end) if pieces else (0, 0)
+        data = copy.read(start, end - start) if end - start <= MOST_METADATA else b""
         if data and not structure.divides(data):
-            yield structure.Found(structure.Flaw.BROKEN, pieces[0].start, pieces[-1].end)
-        elif data and pieces[-1].kind is Kind.PLAIN and pieces[-1].end == layout.size and structure.has_lost_text(data):
-            yield structure.Found(structure.Flaw.ZEROS, pieces[0].start, pieces[-1].end)
+            yield structure.Found(structure.Flaw.BROKEN, start, end)
+        elif data and pieces[-1].kind is Kind.PLAIN and end == layout.size and structure.has_lost_text(data):
+            yield structure.Found(structure.Flaw.ZEROS, start, end)
     yield from (structure.Found(structure.Flaw.BARE, *each) for each in layout.bare)
     if layout.end is not None and layout.end < copy.size:
         yield structure.Found(structure.Flaw.AFTER_END, layout.end, copy.size)
@@ -308,12 +277,13 @@ def flaws(copy: Copy, layout: Layout) -> Iterator[structure.Found]:
 def claims(copies: Sequence[Copy], layout: Layout) -> Iterator[Claims]:
     """Yields what each copy of the file that a layout describes claims of the recording."""
     identities = {content: identity for identity, content in CONTENTS.items() if identity in metadata.READ}
+    described = [stretch for stretch in layout.stretches if stretch.what.content in identities]
     known: dict[tuple[tuple[int, bytes], ...], Claims] = {}
     for number, copy in enumerate(copies):
         contents: dict[int, bytes] = {}
-        for stretch in layout.stretches:
-            identity, place = identities.get(stretch.what.content), stretch.places[number]
-            if identity is not None and place is not None:
+        for stretch, place in ((stretch, stretch.places[number]) for stretch in described):
+            if place is not None:
+                identity = identities[stretch.what.content]
                 contents[identity] = contents.get(identity, b"") + copy.read(place, min(stretch.size, MOST_METADATA))
         key = tuple(sorted(contents.items()))
         if key not in known:
