@@ -4,10 +4,11 @@ from __future__ import annotations
 import bisect
 import collections
 import dataclasses
-from collections.abc import Container, Iterable, Iterator, Sequence
+from collections.abc import Iterable, Iterator, Sequence
+from typing import NamedTuple
 
 from ..judging.frame_checks import Judge, Judged
-from ..model import Claims, Content, Copy, Frame, Kind, Layout, Stretch, Track, What
+from ..model import Content, Copy, Frame, Kind, Layout, Stretch, Track, What
 from . import own_checks, structure
 from .ffprobe import Container, Packet, contain, with_records
 from .stretch_builder import Stretches
@@ -36,32 +37,14 @@ def layout(copies: Sequence[Copy], judge: Judge | None = None, records: bool = T
     containers = [contain(copy) for copy in copies]
     base = max(containers, key=lambda container: (len(container.found()), len(container.tracks), len(container.packets)))
     shown = Shown(copies, containers, base)
-    found = shown.frames(judge)
-    structures = [structure.read(copy) for copy in copies]
-    size, end = ends_at([copy.size for copy in copies], [each.end for each in structures])
-    found = [frame for frame in found if frame.end <= size]
-    copy = copies[containers.index(base)]
+    size, end = ends_at([copy.size for copy in copies], [structure.read(copy).end for copy in copies])
+    found, copy = [frame for frame in shown.frames(judge) if frame.end <= size], copies[containers.index(base)]
     tracks = with_records(copy, base.tracks) if records else base.tracks
-    described = find_records(copy, tracks, found)
-    others = shown.others(found)
-    flac = find_flac(copies, [spot for spot, _ in others], base)
-    stretches = cover(copies, found, others, base.tracks, size, described, flac)
-    return Layout(size, tracks, found, stretches, common_claims(containers, base), end=end)
-
-
-def find_records(copy: Copy, tracks: Sequence[Track], frames: Sequence[Frame]) -> list[tuple[int, int]]:
-    """From where to where Configuration Records lie in a file: before its first frame, or after its last one."""
-    if not frames:
-        return []
-    around = ((0, frames[0].place), (frames[-1].end, max(copy.size - frames[-1].end, 0)))
-    return [each for start, size in around for each in own_checks.records_in(copy.read(start, min(size, MOST_HEADER)), start, tracks)]
-
-
-def find_flac(copies: Sequence[Copy], spots: Iterable[Spot], base: Container) -> frozenset[Spot]:
-    """The packets that are frames of FLAC: some copy has the head of one there."""
-    tracks = {track.number for track in base.tracks if track.is_flac and base.form in GIVE_SIZES}
-    return frozenset(spot for spot in spots if spot[2] in tracks and any(
-        own_checks.is_flac(copy.read(spot[0], min(spot[1], own_checks.LONGEST_FLAC_HEAD))) for copy in copies))
+    pieces = [*of_packets(copies, shown.others(found), base), *find_records(copy, tracks, found)]
+    # What most of the containers claim, or else the base.
+    claims = [container.claims for container in containers if container.form == base.form]
+    return Layout(size, tracks, found, cover(copies, found, pieces, base.tracks, size),
+                  max(claims, key=lambda each: (claims.count(each), each == base.claims)), end=end)
 
 
 def ends_at(sizes: Sequence[int], ends: Sequence[int | None]) -> tuple[int, int | None]:
@@ -72,32 +55,58 @@ def ends_at(sizes: Sequence[int], ends: Sequence[int | None]) -> tuple[int, int 
     return (min(reaching) if reaching else max(sizes)), end
 
 
-def cover(copies: Sequence[Copy], frames: Sequence[Frame], others: Sequence[tuple[Spot, Packet]],
-          tracks: Sequence[Track], size: int, records: Iterable[tuple[int, int]],
-          flac: Container[Spot] = frozenset()) -> list[Stretch]:
-    """The stretches that cover a file: its frames, other packets (those of `flac` are frames of FLAC), Configuration Records, and what lies
-    between them."""
-    steps, contents = {track.number: track.step or 0.0 for track in tracks}, {track.number: track.content for track in tracks}
-    pieces: list[tuple[int, int, Kind, What, Frame | None]] = [
-        (frame.place, frame.end, Kind.FRAME, What(Content.FRAME, frame.track, frame.time, frame.time + steps.get(frame.track, 0.0)), frame)
-        for frame in frames]
-    pieces += [(place, place + length, Kind.FLAC if (place, length, stream) in flac else Kind.PLAIN,
-                What(contents.get(stream, Content.UNKNOWN), stream, packet.time, packet.time + packet.lasts), None)
-               for (place, length, stream), packet in others if place + length <= size]
-    first, last = min((piece[0] for piece in pieces), default=0), max((piece[1] for piece in pieces), default=size)
-    pieces += [(start, stop, Kind.RECORD, What(Content.TRACKS), None) for start, stop in records if stop <= size]
+# ---- what covers a file
+
+
+class Piece(NamedTuple):
+    """What lies between two places: how it is checked, and what it is."""
+
+    start: int
+    end: int
+    kind: Kind
+    what: What
+    parts: Sequence[Frame] = ()
+
+
+def find_records(copy: Copy, tracks: Sequence[Track], frames: Sequence[Frame]) -> list[Piece]:
+    """The Configuration Records in a file: before its first frame, or after its last one."""
+    around = ((0, frames[0].place), (frames[-1].end, max(copy.size - frames[-1].end, 0))) if frames else ()
+    return [Piece(first, last, Kind.RECORD, What(Content.TRACKS)) for start, size in around
+            for first, last in own_checks.records_in(copy.read(start, min(size, MOST_HEADER)), start, tracks)]
+
+
+def of_packets(copies: Sequence[Copy], packets: Iterable[tuple[Spot, Packet]], base: Container) -> Iterator[Piece]:
+    """The packets as pieces. Those are frames of FLAC of which some copy has the head."""
+    contents = {track.number: track.content for track in base.tracks}
+    flac = {track.number for track in base.tracks if track.is_flac and base.form in GIVE_SIZES}
+    for (place, size, stream), packet in packets:
+        heads = (copy.read(place, min(size, own_checks.LONGEST_FLAC_HEAD)) for copy in (copies if stream in flac else ()))
+        kind = Kind.FLAC if any(map(own_checks.is_flac, heads)) else Kind.PLAIN
+        what = What(contents.get(stream, Content.UNKNOWN), stream, packet.time, packet.time + packet.lasts)
+        yield Piece(place, place + size, kind, what)
+
+
+def cover(copies: Sequence[Copy], frames: Sequence[Frame], others: Sequence[Piece], tracks: Sequence[Track], size: int) -> list[Stretch]:
+    """The stretches that cover a file: its frames, other packets, Configuration Records, and what lies between them."""
+    steps = {track.number: track.step or 0.0 for track in tracks}
+    pieces = [Piece(frame.place, frame.end, Kind.FRAME, What(Content.FRAME, frame.track, frame.time, frame.time + steps.get(frame.track, 0.0)),
+                    (frame,)) for frame in frames]
+    pieces += [piece for piece in others if piece.end <= size]
+    played = [piece for piece in pieces if piece.kind is not Kind.RECORD]
+    first, last = min((piece.start for piece in played), default=0), max((piece.end for piece in played), default=size)
     made, end = Stretches(copies), 0
-    for start, stop, kind, what, frame in sorted(pieces, key=lambda piece: piece[0]):
-        made.plain(end, start, What(Content.HEADER if start <= first else Content.INDEX if end >= last else Content.UNKNOWN))
-        if frame:
-            made.frame(frame, what)
-        elif kind is Kind.PLAIN:
-            made.plain(start, stop, what)
+    for piece in sorted(pieces, key=lambda piece: piece.start):
+        made.plain(end, piece.start, What(Content.HEADER if piece.start <= first else Content.INDEX if end >= last else Content.UNKNOWN))
+        if piece.kind is Kind.PLAIN:
+            made.plain(piece.start, piece.end, piece.what)
         else:
-            made.checked(kind, start, stop, what)
-        end = stop
+            made.add(piece.kind, piece.start, piece.end, piece.what, piece.parts)
+        end = piece.end
     made.plain(end, size, What(Content.INDEX if end else Content.UNKNOWN))
     return made.made
+
+
+# ---- what containers show
 
 
 class Shown:
@@ -112,24 +121,15 @@ class Shown:
                     self.spots.setdefault((packet.place, packet.size, packet.stream), []).append(packet)
 
     def frames(self, judge: Judge | None) -> list[Frame]:
-        """The frames, in the order of their places. Each has the time that the base shows, if it shows the frame."""
-        spots = sorted(spot for spot in self.spots if spot[2] in self.video)
-        clear = self.without_overlaps(spots, judge)
-        frames = []
-        for place, size, stream in clear:
-            packet = self.spots[place, size, stream][0]
-            frames.append(Frame(stream, packet.time, place, size, packet.key))
-        return self.with_counted_times(frames) if self.base.form == "avi" else frames
-
-    def without_overlaps(self, spots: Sequence[Spot], judge: Judge | None) -> list[Spot]:
-        """The spots, of which those that overlap are judged: the worthiest stand."""
-        clear: list[Spot] = []
-        for cluster in overlapping(spots):
-            if len(cluster) > 1:
-                worth = self.worth(cluster, judge)
-                cluster = sorted(chosen_without_overlaps(sorted(cluster, key=lambda spot: worth[spot], reverse=True)))
-            clear += cluster
-        return clear
+        """The frames, in the order of their places. Each has the time that the base shows, if it shows the frame. Of spots that overlap the
+        worthiest stand."""
+        found = []
+        for cluster in overlapping(sorted(spot for spot in self.spots if spot[2] in self.video)):
+            worth = self.worth(cluster, judge) if len(cluster) > 1 else {}
+            for place, size, stream in chosen_without_overlaps(sorted(cluster, key=worth.__getitem__, reverse=True) if worth else cluster):
+                packet = self.spots[place, size, stream][0]
+                found.append(Frame(stream, packet.time, place, size, packet.key))
+        return self.with_counted_times(found) if self.base.form == "avi" else found
 
     def worth(self, spots: Sequence[Spot], judge: Judge | None) -> dict[Spot, tuple[bool, int, int]]:
         """Whether a spot has a passing frame in some copy, how many slices of it pass at most, and how many containers show it."""
@@ -141,17 +141,15 @@ class Shown:
     def with_counted_times(self, frames: list[Frame]) -> list[Frame]:
         """The frames of an AVI file have the times of their numbers, so where a container hides one those after it seem to come too early.
         Where times do not rise, frames are counted anew."""
-        steps = {track.number: track.step for track in self.base.tracks}
+        steps = {track.number: track.step or 0.0 for track in self.base.tracks}
         counts: collections.Counter[int] = collections.Counter()
-        last: dict[int, float] = {}
-        rising = all(frame.time > last.get(frame.track, float("-inf")) and not last.update({frame.track: frame.time}) for frame in frames)
-        if rising or not all(steps.get(frame.track) for frame in frames):
-            return frames
-        counted = []
+        counted, last, is_rising = [], {}, True
         for frame in frames:
-            counted.append(dataclasses.replace(frame, time=counts[frame.track] * (steps[frame.track] or 0.0)))
+            is_rising &= frame.time > last.get(frame.track, float("-inf"))
+            last[frame.track] = frame.time
+            counted.append(dataclasses.replace(frame, time=counts[frame.track] * steps.get(frame.track, 0.0)))
             counts[frame.track] += 1
-        return counted
+        return frames if is_rising or not all(steps.get(track) for track in counts) else counted
 
     def others(self, frames: Sequence[Frame]) -> list[tuple[Spot, Packet]]:
         """The packets of other tracks, in the order of their places: those that overlap no frame and none before."""
@@ -177,12 +175,11 @@ def overlapping(spots: Iterable[Spot]) -> Iterator[list[Spot]]:
             cluster = []
         cluster.append(spot)
         end = max(end, spot[0] + spot[1])
-    if cluster:
-        yield cluster
+    yield from [cluster] if cluster else []
 
 
 def chosen_without_overlaps(spots: Iterable[Spot]) -> list[Spot]:
-    """Of spots in the order of their worth those that overlap none before them."""
+    """Of spots in the order of their worth those that overlap none before them, in the order of their places."""
     chosen: list[Spot] = []
     for spot in spots:
         at = bisect.bisect(chosen, spot)
@@ -190,9 +187,3 @@ def chosen_without_overlaps(spots: Iterable[Spot]) -> list[Spot]:
         if not (before and before[0][0] + before[0][1] > spot[0]) and not (after and after[0][0] < spot[0] + spot[1]):
             chosen.insert(at, spot)
     return chosen
-
-
-def common_claims(containers: Sequence[Container], base: Container) -> Claims:
-    """What most of the containers claim, or else the base."""
-    claims = [container.claims for container in containers if container.form == base.form]
-    return max(claims, key=lambda each: (claims.count(each), each == base.claims))

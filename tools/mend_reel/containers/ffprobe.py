@@ -99,15 +99,10 @@ def read_packet(values: Mapping[str, str]) -> Packet | None:
 
 def read_track(values: Mapping[str, str]) -> Track:
     codec, rate = values.get("codec_name", ""), values.get("avg_frame_rate", "0/0").split("/")
-    frames, seconds = (number(rate[0]), number(rate[-1]))
-    step = seconds / frames if frames and seconds and codec == "ffv1" else None
+    frames, seconds = number(rate[0]), number(rate[-1])
     return Track(int(values["index"]), CONTENTS.get(values.get("codec_type", ""), Content.UNKNOWN), codec, codec == "ffv1",
-                 int(number(values.get("width")) or 0), int(number(values.get("height")) or 0), step=step, is_flac=codec == "flac")
-
-
-def read_end(values: Mapping[str, str]) -> float | None:
-    duration = number(values.get("duration"))
-    return None if duration is None else duration + (number(values.get("start_time")) or 0.0)
+                 int(number(values.get("width")) or 0), int(number(values.get("height")) or 0),
+                 step=seconds / frames if frames and seconds and codec == "ffv1" else None, is_flac=codec == "flac")
 
 
 def read_lines(lines: Iterable[str]) -> Container:
@@ -115,20 +110,15 @@ def read_lines(lines: Iterable[str]) -> Container:
     container, duration = Container(), None
     ends: dict[int, float] = {}
     counts: dict[int, int] = {}
-    for line in lines:
-        kind, values = fields(line)
-        if kind == "packet":
-            packet = read_packet(values)
-            if packet:
-                container.packets.append(packet)
+    for kind, values in map(fields, lines):
+        packet = read_packet(values) if kind == "packet" else None
+        if packet:
+            container.packets.append(packet)
         elif kind == "stream" and whole(values.get("index")) is not None:
-            track, end = read_track(values), read_end(values)
+            track, count, end = read_track(values), whole(values.get("nb_frames")), number(values.get("duration"))
             container.tracks.append(track)
-            count = whole(values.get("nb_frames"))
-            if count is not None:
-                counts[track.number] = count
-            if end is not None:
-                ends[track.number] = end
+            counts.update({} if count is None else {track.number: count})
+            ends.update({} if end is None else {track.number: end + (number(values.get("start_time")) or 0.0)})
         elif kind == "format":
             container.form, duration = values.get("format_name", "").split(",")[0], number(values.get("duration"))
     if container.form in GIVE_DURATION:
@@ -138,6 +128,13 @@ def read_lines(lines: Iterable[str]) -> Container:
 
 def can_ask() -> bool:
     return shutil.which("ffprobe") is not None
+
+
+def contain(copy: Copy) -> Container:
+    """What ffprobe reports of a copy. It is asked once."""
+    if copy.container is None:
+        copy.container = ask(copy) if copy.size else Container()
+    return copy.container
 
 
 def ask(copy: Copy) -> Container:
@@ -161,8 +158,7 @@ def ask_for(copy: Copy, more: Sequence[str], entries: str) -> Container:
              "compact", "file:" + copy.path]
     with or_fault("cannot run ffprobe"), subprocess.Popen(words, stdin=subprocess.DEVNULL, stdout=subprocess.PIPE,
                                                           stderr=subprocess.DEVNULL, encoding="utf-8", errors="replace") as process:
-        assert process.stdout
-        return read_lines(watched(copy, process.stdout))
+        return read_lines(watched(copy, process.stdout or ()))
 
 
 def watched(copy: Copy, lines: Iterable[str]) -> Iterator[str]:
@@ -177,22 +173,14 @@ def with_records(copy: Copy, tracks: Sequence[Track]) -> list[Track]:
     """The tracks with their Configuration Records, which ffprobe prints in hexadecimal digits beside their places and characters."""
     made = []
     for track in tracks:
-        if track.is_ffv1:
-            done = run("ffprobe", "-v", "quiet", "-protocol_whitelist", "file", "-select_streams", str(track.number), "-show_entries",
-                       "stream=extradata", "-show_data", "-of", "default=nk=1:nw=1", "file:" + copy.path)
-            lines = done.stdout.decode(errors="replace").splitlines()
-            digits = "".join(line[10:50] for line in lines if line[8:10] == ": ")
-            with contextlib.suppress(ValueError):
-                track = dataclasses.replace(track, record=bytes.fromhex(digits))
+        done = run("ffprobe", "-v", "quiet", "-protocol_whitelist", "file", "-select_streams", str(track.number), "-show_entries",
+                   "stream=extradata", "-show_data", "-of", "default=nk=1:nw=1", "file:" + copy.path) if track.is_ffv1 else None
+        lines = done.stdout.decode(errors="replace").splitlines() if done else []
+        with contextlib.suppress(ValueError):
+            record = bytes.fromhex("".join(line[10:50] for line in lines if line[8:10] == ": "))
+            track = dataclasses.replace(track, record=record) if done else track
         made.append(track)
     return made
-
-
-def contain(copy: Copy) -> Container:
-    """What ffprobe reports of a copy. It is asked once."""
-    if copy.container is None:
-        copy.container = ask(copy) if copy.size else Container()
-    return copy.container
 
 
 # ---- where the bytes of packets lie
