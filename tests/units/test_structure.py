@@ -1,7 +1,7 @@
 """How the parts of one file hang together."""
 import unittest
 
-from mend_reel.containers import matroska, structure
+from mend_reel.containers import ffprobe, matroska, structure
 from mend_reel.containers.structure import Flaw, Found
 from mend_reel.containers.own_checks import passes_as_record
 from . import made
@@ -82,6 +82,14 @@ class StructureTest(unittest.TestCase):
         self.assertIn((Flaw.BROKEN, place), [each[:2] for each in self.flaws(made.damaged(avi(), (place, bytes(4))))])
         place = MOV.index(b"mdat") - 4
         self.assertIn((Flaw.BROKEN, place + 512), [each[:2] for each in self.flaws(made.damaged(MOV, (place, (512).to_bytes(4, "big"))))])
+
+    def test_more_parts_than_are_walked(self):
+        content = MOV + atom(b"free", b"") * 40000
+        with made.opened(content, MOV) as (copy, good):
+            stop = structure.read(copy).stop
+            self.assertTrue(len(MOV) < stop < len(content))
+            self.assertEqual([each[:3] for each in structure.read(copy).flaws], [(Flaw.BROKEN, stop, len(content))])
+            self.assertEqual((ffprobe.address(copy), ffprobe.address(good)), (f"subfile,,start,0,end,{stop},,:{copy.path}", f"file:{good.path}"))
 
     def test_what_an_avi_file_counts(self):
         self.assertEqual(self.read(avi(entries=5)).flaws[0][0::3], (Flaw.COUNT, 4))

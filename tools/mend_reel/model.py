@@ -233,7 +233,7 @@ def unwatched(place: int) -> None:
 class Copy:
     """A copy: its path, its open file, and its length in bytes. `form` is the container's name: `matroska`, one of FFmpeg's, or empty.
     `unread` is from where to where it could not be read when it was made, by a map. `watch` is called with each place that is read.
-    `container` is what ffprobe reported of it, once it was asked."""
+    `container` is what ffprobe reported of it, once it was asked, and `structure` how its parts hang together, once they were walked."""
 
     path: str
     file: int
@@ -242,6 +242,7 @@ class Copy:
     unread: Sequence[tuple[int, int]] = ()
     watch: Callable[[int], None] = unwatched
     container: Any = dataclasses.field(default=None, repr=False, compare=False)
+    structure: Any = dataclasses.field(default=None, repr=False, compare=False)
 
     def read(self, place: int, size: int) -> bytes:
         """Bytes of the file; fewer where it ends."""

@@ -14,16 +14,19 @@ NONE: Numbers = frozenset()
 
 
 class Steps:
-    """How many heads of elements may still be read, so that a file of heads alone takes no longer than one of frames. A good file has far
-    fewer than it may have; what lies after the last head that may be read is not divided."""
+    """How many heads of elements may be read up to a place in one pass over a file, so that a file of heads alone takes no longer than one of
+    frames. A good file has far fewer than it may have; what lies after the last head that may be read is not divided."""
 
-    def __init__(self, size: int) -> None:
-        self.left = FEWEST_STEPS + size // BYTES_PER_STEP
+    def __init__(self) -> None:
+        self.used = 0
 
-    def take(self, count: int = 1) -> bool:
-        """Takes some steps, and reports whether they were left."""
-        self.left -= count
-        return self.left >= 0
+    def take(self, place: int, count: int = 1) -> bool:
+        """Takes some steps at a place, and reports whether they were left."""
+        self.used += count
+        return self.are_left(place)
+
+    def are_left(self, place: int) -> bool:
+        return self.used <= FEWEST_STEPS + place // BYTES_PER_STEP
 
 
 class AlignedCopies:
@@ -35,7 +38,7 @@ class AlignedCopies:
         self.end = max((copies[number].size for number in self.numbers), default=0)
         self.everyone = frozenset(self.numbers)
         self._least = min((copies[number].size for number in self.numbers), default=0)
-        self.steps = steps or Steps(self.end)
+        self.steps = steps or Steps()
         self._windows: list[tuple[int, bytes]] = [(0, b"")] * len(copies)
 
     def reaching(self, place: int) -> Sequence[int]:

@@ -61,7 +61,8 @@ def read_block_head(data: bytes, place: int) -> BlockHead | None:
 def block_signs(tracks: Iterable[int]) -> Callable[[bytes], Iterable[int]]:
     """Returns what finds the offsets in some bytes at which a block of one of some tracks seems to begin."""
     numbers = b"|".join(re.escape(bytes([0x80 | number])) for number in tracks if number < 127) or rb"[\x81-\xfe]"
-    pattern = re.compile(rb"(?=(?:\xa3|\xa0" + SIZE + rb"\xa1)" + SIZE + rb"(?:" + numbers + rb")..[\x00-\xff])", re.DOTALL)
+    block = SIZE + rb"(?:" + numbers + rb")..[\x00-\xff])"
+    pattern = re.compile(rb"\xa3(?=" + block + rb"|\xa0(?=" + SIZE + rb"\xa1" + block, re.DOTALL)
     return lambda piece: (match.start() for match in pattern.finditer(piece))
 
 
@@ -97,7 +98,7 @@ class Clusters:
         passing = self.budget.passing(self.aligned, content, end) if self._doubtful and len(self.aligned.copies) > 1 else NONE
         if passing:
             self._last, self._expected = before
-            whole, self.aligned = self.aligned, AlignedCopies(self.aligned.copies, sorted(passing)[:1])
+            whole, self.aligned = self.aligned, AlignedCopies(self.aligned.copies, sorted(passing)[:1], self.aligned.steps)
             try:
                 return self.items(elements.divide(self.aligned, content, end, self.schema, self.budget))
             finally:
@@ -112,7 +113,7 @@ class Clusters:
         while place < end:
             data = self.aligned.agreed(place, SHORT_HEAD)
             head = ebml.read_head(data, 0, place)
-            if not self.aligned.steps.take() or head is None or head.end is None or head.end > end or head.identity not in IN_CLUSTER:
+            if not self.aligned.steps.take(place) or head is None or head.end is None or head.end > end or head.identity not in IN_CLUSTER:
                 return None
             if head.identity == SIMPLE_BLOCK:
                 block = read_block_head(data[head.content - place :], head.content)

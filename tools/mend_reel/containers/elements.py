@@ -92,7 +92,7 @@ class Walk:
         children, place, live = [], self.start, False
         while place < self.end:
             child = self._agreed(place, live)
-            if child is None or not self.aligned.steps.take():
+            if child is None or not self.aligned.steps.take(place):
                 return None
             children.append(child)
             place, live = child.end, self._stays_live(child, live)
@@ -212,7 +212,7 @@ class Walk:
             if is_search:
                 after = self._next_sign(place)
                 edges = [((after - place, after - place, 0), Child(UNDIVIDED, place, place, after))]
-            elif not self.aligned.steps.take(CAREFUL_STEPS):
+            elif not self.aligned.steps.take(place, CAREFUL_STEPS):
                 last = max(done, default=self.start)
                 rest = [Child(UNDIVIDED, last, last, self.end)]
                 break
@@ -247,7 +247,7 @@ class Walk:
 
     def _signs(self, place: int, stop: int) -> Iterator[int]:
         """Yields the places in a range at which an element seems to begin in some copy."""
-        while place < stop and self.aligned.steps.left > 0:
+        while place < stop and self.aligned.steps.are_left(place):
             size, signs = min(PIECE, stop - place), set()
             for number in self.aligned.numbers:
                 piece = self.aligned.copies[number].read(place, size + self.schema.reach - 1)
@@ -256,7 +256,7 @@ class Walk:
             place += size
 
     def _is_sure(self, place: int) -> bool:
-        if not self.aligned.steps.take(CAREFUL_STEPS):
+        if not self.aligned.steps.take(place, CAREFUL_STEPS):
             return False
         candidates = [child for child in self._candidates(place, False) if not self.schema.strong or child.identity in self.schema.strong]
         return any(self._leads_on(child, False) or self._confirms(child) or self._passes(child) for child in candidates)

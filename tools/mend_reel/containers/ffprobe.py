@@ -153,9 +153,18 @@ def ask(copy: Copy) -> Container:
     return container
 
 
+def probe() -> list[str]:
+    return ["ffprobe", "-v", "quiet", "-protocol_whitelist", "file,subfile"]
+
+
+def address(copy: Copy) -> str:
+    """How FFmpeg is told of a copy: up to where there are more parts than are walked, as it would walk them all."""
+    stop = structure.read(copy).stop
+    return "file:" + copy.path if stop is None else f"subfile,,start,0,end,{stop},,:{copy.path}"
+
+
 def ask_for(copy: Copy, more: Sequence[str], entries: str) -> Container:
-    words = ["ffprobe", "-v", "quiet", "-protocol_whitelist", "file", *more, "-show_entries", ENTRIES.format(more=entries), "-of",
-             "compact", "file:" + copy.path]
+    words = [*probe(), *more, "-show_entries", ENTRIES.format(more=entries), "-of", "compact", address(copy)]
     with or_fault("cannot run ffprobe"), subprocess.Popen(words, stdin=subprocess.DEVNULL, stdout=subprocess.PIPE,
                                                           stderr=subprocess.DEVNULL, encoding="utf-8", errors="replace") as process:
         return read_lines(watched(copy, process.stdout or ()))
@@ -173,8 +182,8 @@ def with_records(copy: Copy, tracks: Sequence[Track]) -> list[Track]:
     """The tracks with their Configuration Records, which ffprobe prints in hexadecimal digits beside their places and characters."""
     made = []
     for track in tracks:
-        done = run("ffprobe", "-v", "quiet", "-protocol_whitelist", "file", "-select_streams", str(track.number), "-show_entries",
-                   "stream=extradata", "-show_data", "-of", "default=nk=1:nw=1", "file:" + copy.path) if track.is_ffv1 else None
+        done = run(*probe(), "-select_streams", str(track.number), "-show_entries", "stream=extradata", "-show_data", "-of",
+                   "default=nk=1:nw=1", address(copy)) if track.is_ffv1 else None
         lines = done.stdout.decode(errors="replace").splitlines() if done else []
         with contextlib.suppress(ValueError):
             record = bytes.fromhex("".join(line[10:50] for line in lines if line[8:10] == ": "))

@@ -7,7 +7,7 @@ from collections.abc import Iterable, Iterator, Sequence
 
 from ..model import Claims, Content, Copy, Kind, Layout, Track, What
 from . import clusters, ebml, elements, metadata, own_checks, structure
-from .aligned_copies import NONE, WINDOW, AlignedCopies, Budget, Numbers, Steps
+from .aligned_copies import NONE, WINDOW, AlignedCopies, Budget, Numbers
 from .stretch_builder import MOST_STRETCH, Stretches
 
 EBML, SEGMENT, CLUSTER = 0x1A45DFA3, 0x18538067, 0x1F43B675
@@ -56,8 +56,7 @@ def is_matroska(copies: Sequence[Copy]) -> bool:
     if any(copy.read(0, 4) == header and document_type(copy) in DOCUMENT_TYPES for copy in copies):
         return True
     end = min(max((copy.size for copy in copies), default=0), FIRST_BYTES)
-    aligned = AlignedCopies(copies, steps=Steps(end))
-    children = elements.divide(aligned, 0, end, TOP, Budget(end), is_cut=True)
+    children = elements.divide(AlignedCopies(copies), 0, end, TOP, Budget(end), is_cut=True)
     return sum(child.identity in STRONG and bool(child.vouched) for child in children) > 1
 
 
@@ -81,11 +80,12 @@ class MatroskaReader:
         for child in (child for child in self.top if child.identity in metadata.READ):
             contents[child.identity] = contents.get(child.identity, b"") + self._content(child)
         self.metadata = metadata.read(contents)
-        self.clusters = clusters.Clusters(self.aligned, self.metadata, self.budget)
+        # The clusters are read in a pass of their own.
+        self.clusters = clusters.Clusters(AlignedCopies(copies), self.metadata, self.budget)
         if not self.clusters.ffv1:
             tracks = {**self.metadata.by_number(), **{track.number: track for track in self._guessed_tracks()}}
             self.metadata = dataclasses.replace(self.metadata, tracks=list(tracks.values()))
-            self.clusters = clusters.Clusters(self.aligned, self.metadata, self.budget)
+            self.clusters = clusters.Clusters(AlignedCopies(copies), self.metadata, self.budget)
 
     def layout(self) -> Layout:
         segment = next((child for child in self.top if child.identity == SEGMENT), None)
@@ -140,7 +140,7 @@ class MatroskaReader:
     def _without_head(self, child: elements.Child) -> elements.Child | None:
         """Returns the element that bytes which no copy divides are but for its head, if its children cover all the rest; or what an element
         of an unknown ID is by its children."""
-        if child.identity in TOP.known or not self.aligned.steps.take(elements.CAREFUL_STEPS):
+        if child.identity in TOP.known or not self.aligned.steps.take(child.place, elements.CAREFUL_STEPS):
             return None
         heads = [self.aligned.peek(number, child.place, 4) for number in self.aligned.numbers]
         named = [identity for identity in CHILDREN if identity.to_bytes(4, "big") in heads] or list(CHILDREN)

@@ -51,12 +51,13 @@ class Found(NamedTuple):
 
 @dataclasses.dataclass
 class Structure:
-    """What was read: flaws, where the file ends by its own account (None where it does not say), and how many frames its tables have of
-    each track, in the order of tracks."""
+    """What was read: flaws, where the file ends by its own account (None where it does not say), how many frames its tables have of each
+    track, in the order of tracks, and from where on a MOV file has more parts than are walked."""
 
     flaws: list[Found] = dataclasses.field(default_factory=list)
     end: int | None = None
     counts: dict[int, int] = dataclasses.field(default_factory=dict)
+    stop: int | None = None
 
     def close(self, place: int, size: int) -> Structure:
         """Notes where the last part ends, and what follows it or is cut."""
@@ -67,15 +68,14 @@ class Structure:
 
 
 def read(copy: Copy) -> Structure:
-    """The structure of a file, by its first bytes. Of a container that is not known here nothing is walked."""
-    head = copy.read(0, len(NUT_ID))
-    if head[:4] == b"RIFF":
-        return read_avi(copy)
-    if head[4:8] in (b"ftyp", b"moov", b"mdat", b"wide", b"free", b"skip"):
-        return read_mov(copy)
-    if head[:4] == MXF_KEY:
-        return read_mxf(copy)
-    return read_nut(copy) if head == NUT_ID else Structure([Found(Flaw.NOT_WALKED, 0, copy.size)])
+    """The structure of a file, by its first bytes. It is read once. Of a container that is not known here nothing is walked."""
+    if copy.structure is None:
+        head = copy.read(0, len(NUT_ID))
+        is_mov = head[4:8] in (b"ftyp", b"moov", b"mdat", b"wide", b"free", b"skip")
+        reader = (read_avi if head[:4] == b"RIFF" else read_mov if is_mov else read_mxf if head[:4] == MXF_KEY
+                  else read_nut if head == NUT_ID else None)
+        copy.structure = reader(copy) if reader else Structure([Found(Flaw.NOT_WALKED, 0, copy.size)])
+    return copy.structure
 
 
 def is_uniform(copy: Copy, place: int) -> bool:
@@ -102,12 +102,15 @@ class Walk:
     def __init__(self, copy: Copy, head: Callable[[Copy, int, int, int], Part | None], masters: Set[bytes] = frozenset(), last: bytes = b"",
                  least: int = 1) -> None:
         self.copy, self.head, self.masters, self.last, self.least = copy, head, masters, last, least
-        self.made, self.steps, self.has_last = Structure(), Steps(copy.size), False
+        self.made, self.steps, self.has_last, self.stop = Structure(), Steps(), False, None
 
     def parts(self, place: int, end: int, depth: int = 0) -> Iterator[Part]:
         """Yields the parts between two places, each before those within it."""
         while place + self.least <= end:
-            part = self.head(self.copy, place, end, depth) if depth <= MOST_DEPTH and self.steps.take() else None
+            is_left = self.steps.take(place)
+            part = self.head(self.copy, place, end, depth) if is_left and depth <= MOST_DEPTH else None
+            if not is_left and self.stop is None:
+                self.stop = place
             if part is None and not depth and self.has_last and (self.last != b"moov" or is_uniform(self.copy, place)):
                 break
             if part is None:
@@ -167,7 +170,7 @@ def read_mov(copy: Copy) -> Structure:
         elif name in (b"stsz", b"trun"):
             samples[track] += int.from_bytes(copy.read(content + (8 if name == b"stsz" else 4), 4), "big")
     walk.made.flaws += [] if walk.has_last else [Found(Flaw.NO_TABLE, 0, copy.size)]
-    walk.made.counts = {number: samples[track] for number, track in enumerate(tracks)}
+    walk.made.counts, walk.made.stop = {number: samples[track] for number, track in enumerate(tracks)}, walk.stop
     return walk.made
 
 
