@@ -1,4 +1,6 @@
 """How the parts of one file hang together."""
+import contextlib
+import pathlib
 import unittest
 
 from mend_reel.containers import ffprobe, matroska, structure
@@ -89,7 +91,20 @@ class StructureTest(unittest.TestCase):
             stop = structure.read(copy).stop
             self.assertTrue(len(MOV) < stop < len(content))
             self.assertEqual([each[:3] for each in structure.read(copy).flaws], [(Flaw.BROKEN, stop, len(content))])
-            self.assertEqual((ffprobe.address(copy), ffprobe.address(good)), (f"subfile,,start,0,end,{stop},,:{copy.path}", f"file:{good.path}"))
+            self.assertEqual(tuple(contextlib.ExitStack().enter_context(ffprobe.address(each)) for each in (copy, good)), (f"subfile,,start,0,end,{stop},,:{copy.path}", f"file:{good.path}"))
+
+    def test_tables_to_which_no_part_leads(self):
+        """As where bytes of the media before them were lost, or come twice."""
+        table, place = MOV[MOV.index(b"moov") - 4 :], MOV.index(b"moov") - 4
+        for content in (MOV[:200] + MOV[300:], MOV[:200] + MOV[100:], MOV[:200] + MOV[600:]):
+            with made.opened(content) as (copy,), ffprobe.address(copy) as name:
+                found = structure.read(copy)
+                self.assertEqual(found.table, (place, len(content) - len(table), len(table)))
+                self.assertTrue({each.flaw for each in found.flaws} < {Flaw.BROKEN, Flaw.CUT} and found.flaws)
+                seen = pathlib.Path(name.removeprefix("file:")).read_bytes()
+                self.assertEqual((seen[:60], seen[place:]), (MOV[:60], table))
+        with made.opened(MOV, MOV[:500]) as copies:
+            self.assertEqual([structure.read(copy).table for copy in copies], [None, None])
 
     def test_what_an_avi_file_counts(self):
         self.assertEqual(self.read(avi(entries=5)).flaws[0][0::3], (Flaw.COUNT, 4))

@@ -8,9 +8,10 @@ import dataclasses
 import math
 import shutil
 import subprocess
-from collections.abc import Container, Iterable, Iterator, Mapping, Sequence
-from typing import NamedTuple
+import tempfile
 import zlib
+from collections.abc import Iterable, Iterator, Mapping, Sequence, Set
+from typing import NamedTuple
 
 from ..judging.frame_checks import MOST_BYTES
 from ..model import Claims, Content, Copy, Fault, Track, or_fault
@@ -20,7 +21,7 @@ from . import own_checks, structure
 # How far after the place that ffprobe reports a packet's bytes are looked for, and after how many misses they no longer are.
 FARTHEST, MOST_MISSES = 64, 16
 # How far away a frame is looked for by its footers where bytes were lost before it, and how often.
-AROUND, MOST_SEARCHES = 1 << 15, 8
+AROUND, MOST_SEARCHES, HEADER = 1 << 15, 8, 1 << 12
 # Who watches a copy is told how far ffprobe is once in so many lines.
 LINES_BETWEEN = 64
 ENTRIES = ("packet=stream_index,pts_time,dts_time,duration_time,size,pos,flags{more}:"
@@ -147,7 +148,7 @@ def ask(copy: Copy) -> Container:
         container.claims = dataclasses.replace(container.claims, counts=structure.read(copy).counts)
     video = container.video()
     container.packets = locate(copy, container.packets, video)
-    if any(packet.place is None for packet in container.packets if packet.stream in video):
+    if not structure.read(copy).table and any(packet.place is None for packet in container.packets if packet.stream in video):
         hashed = locate(copy, ask_for(copy, ["-show_data_hash", "crc32"], ",data_hash").packets, video)
         container.packets = [one if one.place is not None else other for one, other in zip(container.packets, hashed)]
     return container
@@ -157,16 +158,27 @@ def probe() -> list[str]:
     return ["ffprobe", "-v", "quiet", "-protocol_whitelist", "file,subfile"]
 
 
-def address(copy: Copy) -> str:
-    """How FFmpeg is told of a copy: up to where there are more parts than are walked, as it would walk them all."""
-    stop = structure.read(copy).stop
-    return "file:" + copy.path if stop is None else f"subfile,,start,0,end,{stop},,:{copy.path}"
+@contextlib.contextmanager
+def address(copy: Copy) -> Iterator[str]:
+    """How FFmpeg is told of a copy: up to where there are more parts than are walked, as it would walk them all; and where no part leads to
+    its tables, of a file without media in which these lie where they are expected."""
+    made = structure.read(copy)
+    if made.table is None:
+        yield "file:" + copy.path if made.stop is None else f"subfile,,start,0,end,{made.stop},,:{copy.path}"
+        return
+    expected, place, size = made.table
+    with or_fault("cannot write a working file"), tempfile.NamedTemporaryFile() as view:
+        view.write(copy.read(0, min(HEADER, expected)))
+        view.seek(expected)
+        view.write(copy.read(place, size))
+        view.flush()
+        yield "file:" + view.name
 
 
 def ask_for(copy: Copy, more: Sequence[str], entries: str) -> Container:
-    words = [*probe(), *more, "-show_entries", ENTRIES.format(more=entries), "-of", "compact", address(copy)]
-    with or_fault("cannot run ffprobe"), subprocess.Popen(words, stdin=subprocess.DEVNULL, stdout=subprocess.PIPE,
-                                                          stderr=subprocess.DEVNULL, encoding="utf-8", errors="replace") as process:
+    words = [*probe(), *more, "-show_entries", ENTRIES.format(more=entries), "-of", "compact"]
+    with address(copy) as name, or_fault("cannot run ffprobe"), subprocess.Popen([*words, name], stdin=subprocess.DEVNULL, stdout=subprocess.PIPE,
+                                                                                 stderr=subprocess.DEVNULL, encoding="utf-8", errors="replace") as process:
         return read_lines(watched(copy, process.stdout or ()))
 
 
@@ -182,12 +194,13 @@ def with_records(copy: Copy, tracks: Sequence[Track]) -> list[Track]:
     """The tracks with their Configuration Records, which ffprobe prints in hexadecimal digits beside their places and characters."""
     made = []
     for track in tracks:
-        done = run(*probe(), "-select_streams", str(track.number), "-show_entries", "stream=extradata", "-show_data", "-of",
-                   "default=nk=1:nw=1", address(copy)) if track.is_ffv1 else None
-        lines = done.stdout.decode(errors="replace").splitlines() if done else []
-        with contextlib.suppress(ValueError):
-            record = bytes.fromhex("".join(line[10:50] for line in lines if line[8:10] == ": "))
-            track = dataclasses.replace(track, record=record) if done else track
+        if track.is_ffv1:
+            with address(copy) as name:
+                done = run(*probe(), "-select_streams", str(track.number), "-show_entries", "stream=extradata", "-show_data", "-of",
+                           "default=nk=1:nw=1", name)
+            lines = done.stdout.decode(errors="replace").splitlines()
+            with contextlib.suppress(ValueError):
+                track = dataclasses.replace(track, record=bytes.fromhex("".join(line[10:50] for line in lines if line[8:10] == ": ")))
         made.append(track)
     return made
 
@@ -247,11 +260,12 @@ class Locator:
         return len(piece) == packet.size and zlib.crc32(piece) == packet.digest
 
 
-def locate(copy: Copy, packets: Sequence[Packet], video: Container[int]) -> list[Packet]:
+def locate(copy: Copy, packets: Sequence[Packet], video: Set[int]) -> list[Packet]:
     """The packets with their places. Without a digest those that are not of FFV1 tracks lie where they are reported, or some bytes
     after."""
-    end = structure.read(copy).end
-    reported = [packet.reported for packet in packets] if end is not None and end != copy.size else []
+    made = structure.read(copy)
+    is_shifted = made.table is not None or made.end is not None and made.end != copy.size
+    reported = [packet.reported for packet in packets] if is_shifted else []
     locators: dict[int, Locator] = collections.defaultdict(lambda: Locator(copy, reported))
     return [packet._replace(place=packet.reported) if packet.digest is None and packet.stream not in video
             else packet._replace(place=locators[packet.stream].place(packet)) for packet in packets]

@@ -23,7 +23,7 @@ MATROSKA_MASTERS = frozenset({0x1654AE6B, 0x1549A966, 0x1C53BB6B, 0x1254C367, 0x
 CHAPTER_DISPLAY, ANY_ID = 0x80, b"\xec"
 MATROSKA_TEXTS = frozenset({0x45A3, 0x4487, 0x447A, 0x447B, 0x63CA, 0x467E, 0x466E, 0x4660, 0x437C, 0x437D, 0x5654, 0x7BA9, 0x4D80, 0x5741,
                             0x536E, 0x86, 0x258688, 0x22B59C, 0x22B59D})
-MOST_DEPTH = 16
+MOST_DEPTH, MOST_TABLE = 16, 1 << 26
 
 
 class Flaw(enum.Enum):
@@ -52,12 +52,14 @@ class Found(NamedTuple):
 @dataclasses.dataclass
 class Structure:
     """What was read: flaws, where the file ends by its own account (None where it does not say), how many frames its tables have of each
-    track, in the order of tracks, and from where on a MOV file has more parts than are walked."""
+    track, in the order of tracks; and of a MOV file from where on it has more parts than are walked, and of tables at its end to which no
+    part leads, as bytes were lost or added before them, where they are expected, where they lie, and how long they are."""
 
     flaws: list[Found] = dataclasses.field(default_factory=list)
     end: int | None = None
     counts: dict[int, int] = dataclasses.field(default_factory=dict)
     stop: int | None = None
+    table: tuple[int, int, int] | None = None
 
     def close(self, place: int, size: int) -> Structure:
         """Notes where the last part ends, and what follows it or is cut."""
@@ -169,9 +171,20 @@ def read_mov(copy: Copy) -> Structure:
             tracks += [track] if name == b"tkhd" else []
         elif name in (b"stsz", b"trun"):
             samples[track] += int.from_bytes(copy.read(content + (8 if name == b"stsz" else 4), 4), "big")
-    walk.made.flaws += [] if walk.has_last else [Found(Flaw.NO_TABLE, 0, copy.size)]
+    if not walk.has_last:
+        walk.made.table = displaced_table(copy, min((found.start if found.flaw is Flaw.BROKEN else found.end for found in walk.made.flaws), default=0))
+        walk.made.flaws += [] if walk.made.table else [Found(Flaw.NO_TABLE, 0, copy.size)]
     walk.made.counts, walk.made.stop = {number: samples[track] for number, track in enumerate(tracks)}, walk.stop
     return walk.made
+
+
+def displaced_table(copy: Copy, expected: int) -> tuple[int, int, int] | None:
+    """Where the tables of a MOV file are expected, where they lie as its last part, and how long they are."""
+    start = max(copy.size - MOST_TABLE, 0)
+    tail = copy.read(start, MOST_TABLE)
+    at = tail.rfind(b"moov") - 4
+    size = int.from_bytes(tail[at : at + 4], "big") if at >= 0 else 0
+    return (expected, start + at, size) if size and at + size == len(tail) else None
 
 
 def key(copy: Copy, place: int, end: int, depth: int) -> Part | None:
