@@ -302,6 +302,15 @@ class AllCopiesDamaged(Case):
         self.assertEqual(frames(found), frames(layout(file)))
         self.assertEqual([(track.number, track.is_ffv1) for track in found.tracks], [(1, True)])
 
+    def test_lost_description_of_frames_without_parities(self) -> None:
+        """The first sector is lost in all copies: tracks are known by the sizes of slices, which have nothing else. Silence is no frame."""
+        frames = [made.noise(number, 300) + (300).to_bytes(3, "big") + made.noise(number, 200) + (200).to_bytes(3, "big") for number in range(8)]
+        blocks = [made.cluster(40 * number, made.block(1, 0, frame), made.block(2, 0, bytes(300))) for number, frame in enumerate(frames)]
+        lost = made.damaged(made.ebml_header() + made.element(made.SEGMENT, made.information(320), made.tracks(), *blocks), (0, bytes(120)))
+        found = layout(lost, lost)
+        self.assertEqual([lost[frame.place : frame.end] for frame in found.frames], frames)
+        self.assertEqual([track.number for track in found.tracks if track.is_ffv1], [1])
+
     def test_head_of_a_block(self) -> None:
         """A frame whose block has no head in any copy is found by its footers."""
         parts = [made.block(1, 40 * at, made.frame(at, 300, 200 + at)) for at in range(6)]

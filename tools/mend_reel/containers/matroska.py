@@ -151,12 +151,14 @@ class MatroskaReader:
         return None
 
     def _guessed_tracks(self) -> list[Track]:
-        """Returns the tracks whose blocks are FFV1 frames by the footers of their slices, for files whose own description is lost."""
+        """Returns the tracks whose blocks are FFV1 frames by the footers of their slices, or by sizes alone as where these have no parities,
+        for files whose own description is lost."""
         found: set[int] = set()
         described = {track.number for track in self.metadata.tracks if track.codec}
         for child in [child for child in self.top if child.identity == CLUSTER][:CLUSTERS_TO_GUESS_BY]:
             for number, start, end in self.clusters.payloads(child.content, child.end):
-                if number not in described | found and any(own_checks.is_frame(copy, start, end) for copy in self.copies):
+                if number not in described | found and any(own_checks.is_frame(copy, start, end) or own_checks.has_only_sizes(
+                        copy.read(start, end - start)) for copy in self.copies):
                     found.add(number)
         return [Track(number, Content.VIDEO, "V_FFV1", is_ffv1=True) for number in sorted(found)]
 

@@ -82,11 +82,11 @@ def share_slice(one: bytes, other: bytes) -> bool:
 
 def has_only_sizes(frame: bytes) -> bool:
     """Whether the slices of a frame are divided by sizes of three bytes alone, as those without parities are."""
-    end, count = len(frame), 0
-    while end >= 3:
-        end -= 3 + int.from_bytes(frame[end - 3 : end], "big")
-        count += 1
-    return end == 0 and count > 0
+    end, size = len(frame), 1
+    while end >= 3 and size:
+        size = int.from_bytes(frame[end - 3 : end], "big")
+        end -= 3 + size
+    return end == 0 < len(frame) and size > 0
 
 
 # ---- frames of FLAC
