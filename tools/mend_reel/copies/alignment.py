@@ -8,8 +8,7 @@ from typing import NamedTuple
 from ..model import Copy
 
 # How many places are compared, how far apart they are at least and at most, how many bytes each has, and how many of them are values.
-PLACES, LEAST_STEP, MOST_STEP, CHUNK, VALUES = 64, 256, 4096, 64, 16
-MOST_PLACES = 1024
+PLACES, MOST_PLACES, LEAST_STEP, MOST_STEP, CHUNK, VALUES = 64, 1024, 256, 4096, 64, 16
 # How far away bytes are looked for that are not where they are expected, and how often.
 WINDOW, MOST_SEARCHES, MOST_SHIFTS, AHEAD, ENDS = 1 << 20, 16, 32, 32, 64
 QUARTER, MOST_SPANS = 4, 8
@@ -52,9 +51,8 @@ class Alignment:
 
 def align(one: Copy, other: Copy) -> Alignment:
     """Compares two copies at places all over the first."""
-    step = max(min(one.size // PLACES, MOST_STEP), one.size // MOST_PLACES, LEAST_STEP)
-    search = Search(one, other, step)
-    for place in range(0, one.size - CHUNK + 1, step):
+    search = Search(one, other, max(min(one.size // PLACES, MOST_STEP), one.size // MOST_PLACES, LEAST_STEP))
+    for place in range(0, one.size - CHUNK + 1, search.step):
         search.compare(place)
     search.compare_end()
     return Alignment(search.spans(), search.alike, search.compared, min(one.size, other.size))
@@ -86,10 +84,6 @@ class Search:
             self.anchors.append((place, self.shift))
             self.alike += 1
 
-    def score(self, place: int, shift: int) -> int:
-        """How many places from one on are alike at a shift."""
-        return sum(self.has(place + at * self.step // 4, shift) for at in range(AHEAD))
-
     def looks(self, place: int) -> bool:
         """Looks near where bytes are expected, after the last place that is known, for a shift that is better than the one so far."""
         self.searches += 1
@@ -100,8 +94,10 @@ class Search:
         while at >= 0 and len(shifts) < MOST_SHIFTS:
             shifts.append(start + at - place)
             at = window.find(chunk, at + 1)
-        best = max(shifts, key=lambda shift: self.score(place, shift))
-        if self.score(place, best) <= max(self.score(place, self.shift), 1):
+        # How many of the places from this one on are alike at each shift.
+        scores = {shift: sum(self.has(place + at * self.step // 4, shift) for at in range(AHEAD)) for shift in (self.shift, *shifts)}
+        best = max(shifts, key=scores.__getitem__)
+        if scores[best] <= max(scores[self.shift], 1):
             return False
         self.shift, self.misses = best, 0
         return self.has(place, best)
@@ -127,28 +123,18 @@ class Search:
             found[-1] = found[-1]._replace(end=min(self.one.size, self.other.size - found[-1].shift))
         for number in range(1, len(found)):
             before, after = found[number - 1 : number + 1]
-            found[number - 1] = before = before._replace(end=self.grown(before.end, after.start, before.shift))
-            least = max(before.end, before.end + before.shift - after.shift)
-            found[number] = after._replace(start=self.shrunk(after.start, least, after.shift))
+            end = before.end + self.alike_bytes(before.end, after.start - before.end, before.shift, 1)
+            least = max(end, end + before.shift - after.shift)
+            found[number - 1] = before._replace(end=end)
+            found[number] = after._replace(start=after.start - self.alike_bytes(after.start, after.start - least, after.shift, -1))
         return found
 
-    def grown(self, place: int, limit: int, shift: int) -> int:
-        """How far the copies are alike from a place on."""
-        while place < limit:
-            ours, theirs = self.one.read(place, min(CHUNK, limit - place)), self.other.read(place + shift, min(CHUNK, limit - place))
-            same = len(os.path.commonprefix([ours, theirs]))
-            place += same
-            if same < CHUNK:
-                break
-        return place
-
-    def shrunk(self, place: int, limit: int, shift: int) -> int:
-        """How far the copies are alike before a place."""
-        while place > limit:
-            size = min(CHUNK, place - limit)
-            ours, theirs = self.one.read(place - size, size), self.other.read(place - size + shift, size)
-            same = len(os.path.commonprefix([ours[::-1], theirs[::-1]]))
-            place -= same
-            if same < CHUNK:
-                break
-        return place
+    def alike_bytes(self, place: int, limit: int, shift: int, way: int) -> int:
+        """How many bytes from a place onwards (`way` is 1) or backwards (-1) the copies have alike, up to a limit."""
+        done, same = 0, CHUNK
+        while done < limit and same == CHUNK:
+            size = min(CHUNK, limit - done)
+            start = place + done if way > 0 else place - done - size
+            same = len(os.path.commonprefix([copy.read(at, size)[::way] for copy, at in ((self.one, start), (self.other, start + shift))]))
+            done += same
+        return done

@@ -15,13 +15,12 @@ MOST_SEARCHES, MOST_MISSES = 8, 4
 
 def complete(ours: Recording, theirs: Sequence[Copy], places: Mapping[int, int]) -> dict[int, int]:
     """The places of frames in another file, with those that its container does not show."""
-    copy = max(theirs, key=lambda each: each.size)
-    search = Search(ours, copy, dict(places))
+    search, numbers = Search(ours, max(theirs, key=lambda each: each.size), dict(places)), range(len(ours.layout.frames))
     if not search.places:
         search.begin()
-    if search.places and len(search.places) < len(ours.layout.frames):
-        search.walk(range(len(ours.layout.frames)), True)
-        search.walk(range(len(ours.layout.frames) - 1, -1, -1), False)
+    if search.places and len(search.places) < len(numbers):
+        search.walk(numbers, True)
+        search.walk(numbers[::-1], False)
         search.fill()
     return search.places
 
@@ -40,28 +39,24 @@ class Search:
 
     def ends_at(self, number: int, end: int) -> bool:
         """Whether a frame ends at a place of the copy."""
-        if not self.frame(number).size <= end <= self.copy.size:
-            return False
-        return any(self.copy.read(end - len(tail), len(tail)) == tail for tail in self.ours.tails(self.frame(number)))
+        return self.frame(number).size <= end <= self.copy.size and any(
+            self.copy.read(end - len(tail), len(tail)) == tail for tail in self.ours.tails(self.frame(number)))
 
-    def find(self, number: int, start: int, end: int) -> int | None:
-        """The place of a frame whose end lies from `start` on, up to `end`; the first one."""
+    def find(self, number: int, start: int, end: int) -> bool:
+        """Places a frame whose end lies from `start` on, up to `end`: the first one. Reports whether there is one."""
         size = self.frame(number).size
         for tail in dict.fromkeys(self.ours.tails(self.frame(number))):
             at = search_bytes(self.copy, tail, max(start, size) - len(tail), end)
             if at is not None:
-                return at + len(tail) - size
-        return None
+                self.places[number] = at + len(tail) - size
+                return True
+        return False
 
     def begin(self) -> None:
         """Finds a first frame anywhere in the copy, of some that are spread over the recording."""
         count = len(self.ours.layout.frames)
-        for step in range(min(MOST_SEARCHES, count)):
-            number = (2 * step + 1) * count // (2 * min(MOST_SEARCHES, count))
-            place = self.find(number, 0, self.copy.size)
-            if place is not None:
-                self.places[number] = place
-                return
+        most = min(MOST_SEARCHES, count)
+        any(self.find((2 * step + 1) * count // (2 * most), 0, self.copy.size) for step in range(most))
 
     def walk(self, numbers: Iterable[int], onward: bool) -> None:
         """Looks for the frames after (or before) those that are placed: at the same shift, then near by, and then anywhere beyond."""
@@ -88,9 +83,7 @@ class Search:
         if misses == MOST_MISSES and self.searches < MOST_SEARCHES:
             self.searches += 1
             first, last = (edge + size, self.copy.size) if onward else (0, edge)
-        place = self.find(number, first, min(last, self.copy.size))
-        if place is not None:
-            self.places[number] = place
+        self.find(number, first, min(last, self.copy.size))
 
     def fill(self) -> None:
         """Places the frames between two that lie at one shift, whatever their last bytes are."""
@@ -98,19 +91,13 @@ class Search:
         for before, after in zip(placed, placed[1:]):
             shift = self.places[before] - self.frame(before).place
             if shift == self.places[after] - self.frame(after).place:
-                for number in range(before + 1, after):
-                    self.places[number] = self.frame(number).place + shift
+                self.places.update((number, self.frame(number).place + shift) for number in range(before + 1, after))
 
 
 def search_bytes(copy: Copy, wanted: bytes, start: int, end: int) -> int | None:
     """The first place from `start` on at which bytes lie, all of them before `end`."""
-    place = max(start, 0)
-    while place + len(wanted) <= end:
-        window = copy.read(place, min(PIECE + len(wanted) - 1, end - place))
-        at = window.find(wanted)
+    for place in range(max(start, 0), end - len(wanted) + 1, PIECE):
+        at = copy.read(place, min(PIECE + len(wanted) - 1, end - place)).find(wanted)
         if at >= 0:
             return place + at
-        if len(window) < len(wanted):
-            return None
-        place += PIECE
     return None

@@ -4,6 +4,7 @@ from __future__ import annotations
 import bisect
 import collections
 import dataclasses
+import itertools
 from collections.abc import Iterator, Mapping, Sequence
 
 from ..containers.own_checks import is_uniform, share_slice
@@ -17,13 +18,12 @@ NEAR = 0.4
 Key = tuple[int, bytes]
 
 
-@dataclasses.dataclass
 class Recording:
     """Copies of one file, and what lies where in it."""
 
-    copies: Sequence[Copy]
-    layout: Layout
-    known: dict[Key, int] | None = None
+    def __init__(self, copies: Sequence[Copy], layout: Layout) -> None:
+        self.copies, self.layout = copies, layout
+        self._keys: dict[Key, int] | None = None
 
     def tails(self, frame: Frame) -> Iterator[bytes]:
         """The last bytes of a frame, as some copies have them. A frame that ends in bytes that are all the same has none."""
@@ -35,18 +35,13 @@ class Recording:
 
     def keys(self) -> dict[Key, int]:
         """The number of each frame by its key, if no other frame has it. They are read once."""
-        if self.known is None:
-            self.known = self.read_keys()
-        return self.known
-
-    def read_keys(self) -> dict[Key, int]:
-        found: dict[Key, int] = {}
-        twice = set()
-        for number, frame in enumerate(self.layout.frames):
-            for tail in self.tails(frame):
-                if found.setdefault((frame.size, tail), number) != number:
-                    twice.add((frame.size, tail))
-        return {key: number for key, number in found.items() if key not in twice}
+        if self._keys is None:
+            found: dict[Key, set[int]] = {}
+            for number, frame in enumerate(self.layout.frames):
+                for tail in self.tails(frame):
+                    found.setdefault((frame.size, tail), set()).add(number)
+            self._keys = {key: min(numbers) for key, numbers in found.items() if len(numbers) == 1}
+        return self._keys
 
 
 @dataclasses.dataclass
@@ -71,9 +66,8 @@ def pair(ours: Recording, theirs: Recording) -> Matched:
     alike = {there[key]: here[key] for key in here.keys() & there.keys()}
     pairing = Matched(places={number: theirs.layout.frames[other].place for other, number in alike.items()})
     for track, own in pair_tracks(ours.layout.frames, theirs.layout.frames, alike).items():
-        numbers = [number for number, frame in enumerate(theirs.layout.frames) if frame.track == track]
         pairing.tracks.update({} if own is None else {track: own})
-        TrackPairing(ours.layout.frames, theirs.layout.frames, numbers, own, alike).add_to(pairing)
+        TrackPairing(ours.layout.frames, theirs.layout.frames, track, own, alike).add_to(pairing)
     return pairing
 
 
@@ -84,44 +78,30 @@ def pair_tracks(ours: Sequence[Frame], theirs: Sequence[Frame], alike: Mapping[i
     for (track, own), _ in votes.most_common():
         pairs.setdefault(track, own)
     left = iter(sorted({frame.track for frame in ours} - set(pairs.values())))
-    for track in sorted({frame.track for frame in theirs} - set(pairs)):
-        pairs[track] = next(left, None)
-    return pairs
+    return {**pairs, **{track: next(left, None) for track in sorted({frame.track for frame in theirs} - set(pairs))}}
 
 
 class TrackPairing:
     """Pairs the frames of one track by times. An offset is how much later a frame comes in the first file: that of the frames that are
     paired nearest before and after, as an AVI file that lost a packet has all after it too early."""
 
-    def __init__(self, ours: Sequence[Frame], theirs: Sequence[Frame], numbers: Sequence[int],
-                 track: int | None, alike: Mapping[int, int]) -> None:
-        self.theirs, self.track, self.alike = theirs, track, alike
-        self.numbers = sorted(numbers, key=lambda number: theirs[number].time)
-        self.frames = sorted((frame.time, number, frame.size) for number, frame in enumerate(ours) if frame.track == self.track)
+    def __init__(self, ours: Sequence[Frame], theirs: Sequence[Frame], track: int, own: int | None, alike: Mapping[int, int]) -> None:
+        self.theirs, self.alike = theirs, alike
+        self.numbers = sorted((at for at, frame in enumerate(theirs) if frame.track == track), key=lambda at: theirs[at].time)
+        self.frames = sorted((frame.time, number, frame.size) for number, frame in enumerate(ours) if frame.track == own)
         self.times = [time for time, _, _ in self.frames]
-        self.near = NEAR * least_step(self.times)
-        self.offsets = self.find_offsets(ours)
-
-    def find_offsets(self, ours: Sequence[Frame]) -> dict[int, float | None]:
-        """The offset of each frame, or None where the frames that are paired before and after it have different ones."""
-        own = [round(ours[self.alike[number]].time - self.theirs[number].time, 3)
-               if number in self.alike and ours[self.alike[number]].track == self.track else None for number in self.numbers]
-        before, after = carried(own), carried(own[::-1])[::-1]
-        found: dict[int, float | None] = {}
-        for number, early, late in zip(self.numbers, before, after):
-            if early is not None and late is not None and abs(early - late) > self.near:
-                found[number] = None
-            else:
-                found[number] = early if early is not None else late if late is not None else 0.0
-        return found
+        self.near = NEAR * min((after - before for before, after in zip(self.times, self.times[1:]) if after > before), default=1.0)
+        offsets = [round(ours[alike[at]].time - theirs[at].time, 3) if at in alike and ours[alike[at]].track == own else None
+                   for at in self.numbers]
+        self.around = list(zip(carried(offsets), carried(offsets[::-1])[::-1]))
 
     def add_to(self, pairing: Matched) -> None:
-        """Adds what frames lie where, and those that find no place."""
-        for number in self.numbers:
-            frame, offset = self.theirs[number], self.offsets[number]
-            if number in self.alike or offset is None:
+        """Adds what frames lie where, and those that find no place. Where the offsets before and after a frame differ, nothing is known."""
+        for number, (early, late) in zip(self.numbers, self.around):
+            offset = early if early is not None else late if late is not None else 0.0
+            if number in self.alike or early is not None and late is not None and abs(early - late) > self.near:
                 continue
-            frame = dataclasses.replace(frame, time=frame.time + offset)
+            frame = dataclasses.replace(self.theirs[number], time=self.theirs[number].time + offset)
             nearest = self.nearest(frame.time)
             if nearest is None:
                 pairing.unplaced.append(frame)
@@ -138,28 +118,15 @@ class TrackPairing:
 
 def carried(values: Sequence[float | None]) -> list[float | None]:
     """Each value, or the last one before it that is one."""
-    made, last = [], None
-    for value in values:
-        last = value if value is not None else last
-        made.append(last)
-    return made
-
-
-def least_step(times: Sequence[float]) -> float:
-    return min((after - before for before, after in zip(times, times[1:]) if after > before), default=1.0)
+    return list(itertools.accumulate(values, lambda last, value: last if value is None else value))
 
 
 def share(ours: Recording, theirs: Recording, pairing: Matched) -> bool:
     """Whether two files have a slice in common: they are of one recording. Slices are looked for all over the file."""
     numbers = sorted(pairing.places)
     steps = [step for step in (1009, 101, 11, 1) if step < len(numbers) or step == 1]
-    tried = set()
-    for step in steps:
-        for number in numbers[::step]:
-            if number not in tried and shares_frame(ours, theirs, ours.layout.frames[number], pairing.places[number]):
-                return True
-            tried.add(number)
-    return False
+    return any(shares_frame(ours, theirs, ours.layout.frames[number], pairing.places[number])
+               for number in dict.fromkeys(number for step in steps for number in numbers[::step]))
 
 
 def shares_frame(ours: Recording, theirs: Recording, frame: Frame, place: int) -> bool:
