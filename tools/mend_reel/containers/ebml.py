@@ -47,20 +47,10 @@ def read_size(data: bytes, at: int) -> tuple[int | None, int] | None:
 
 def read_head(data: bytes, at: int, place: int) -> Head | None:
     """Returns the head at an offset of some bytes, which lies at a place of the file, or None where there is none."""
-    length = LENGTHS[data[at]] if at < len(data) else 9
-    sized = at + length
-    if length > 4 or sized >= len(data):
-        return None
-    more = LENGTHS[data[sized]]
-    content = sized + more
-    if more > 8 or content > len(data):
-        return None
-    identity = int.from_bytes(data[at:sized], "big")
-    if identity & MASKS[length] in (0, MASKS[length]):
-        return None
-    size = int.from_bytes(data[sized:content], "big") & MASKS[more]
+    identity, length = read_identity(data, at) or (0, 0)
+    size, more = (read_size(data, at + length) or (None, 0)) if length else (None, 0)
     start = place + length + more
-    return Head(identity, place + length, start, None if size == MASKS[more] else start + size)
+    return Head(identity, place + length, start, None if size is None else start + size) if more else None
 
 
 def passes(copy: Copy, content: int, end: int) -> bool:

@@ -1,7 +1,6 @@
 """When the frames of a file are shown, and when the file ends."""
 from __future__ import annotations
 
-import dataclasses
 import statistics
 from collections.abc import Sequence
 
@@ -13,29 +12,21 @@ CONSTANT = 0.9
 SOUND_BLOCK, THOUSANDTHS = 0.25, 0.002
 
 
-@dataclasses.dataclass
 class TrackTimes:
     """An FFV1 track: its frames in the order of their times, the time from one to the next (None where it is not constant), and the size
     of the smallest."""
 
-    number: int
-    frames: list[Frame]
-    step: float | None
-    size: int = 0
-
-    @property
-    def times(self) -> list[float]:
-        return [frame.time for frame in self.frames]
+    def __init__(self, number: int, frames: Sequence[Frame], claimed: float | None) -> None:
+        self.number, self.frames = number, sorted(frames, key=lambda frame: frame.time)
+        self.times, self.size = [frame.time for frame in self.frames], min(frame.size for frame in frames)
+        self.step = constant_step(self.times, claimed)
 
     def most_step(self) -> float:
         """The constant step, or the longest one that there is."""
-        if self.step:
-            return self.step
-        times = self.times
-        return max((after - before for before, after in zip(times, times[1:])), default=0.0)
+        return self.step or max((after - before for before, after in zip(self.times, self.times[1:])), default=0.0)
 
     def end(self) -> float:
-        return self.frames[-1].time + self.most_step()
+        return self.times[-1] + self.most_step()
 
 
 def tracks_of(layout: Layout) -> list[TrackTimes]:
@@ -43,12 +34,7 @@ def tracks_of(layout: Layout) -> list[TrackTimes]:
     for frame in layout.frames:
         found.setdefault(frame.track, []).append(frame)
     steps = {track.number: track.step for track in layout.tracks}
-    made = []
-    for number, frames in sorted(found.items()):
-        frames.sort(key=lambda frame: frame.time)
-        step = constant_step([frame.time for frame in frames], steps.get(number))
-        made.append(TrackTimes(number, frames, step, min(frame.size for frame in frames)))
-    return made
+    return [TrackTimes(number, frames, steps.get(number)) for number, frames in sorted(found.items())]
 
 
 def constant_step(times: Sequence[float], claimed: float | None) -> float | None:

@@ -17,10 +17,8 @@ SHORTEST_AGREED = 8
 MOST_RUNS = 4096
 DIFFERING = re.compile(rb"[^\0]+")
 DIFFERING_MOSTLY = re.compile(rb"[^\0]+(?:\0{1,%d}[^\0]+)*" % (SHORTEST_AGREED - 1))
-Partition = tuple[tuple[int, ...], ...]
-
-
 Label = tuple[int, ...]
+Partition = tuple[Label, ...]
 
 
 class Run(NamedTuple):
@@ -33,33 +31,22 @@ class Run(NamedTuple):
 def partition(stretch: Stretch, copies: Sequence[Copy]) -> Partition:
     """Returns the copies that have a stretch in groups with equal bytes, the group of the first copy first."""
     having = tuple(stretch.having())
-    groups, offset = [having], 0
-    while offset < stretch.size and any(len(group) > 1 for group in groups):
-        size = min(PIECE, stretch.size - offset)
-        groups = [part for group in groups for part in _equal(stretch, copies, group, offset, size)]
-        offset += size
-    return tuple(sorted(groups)) if having else ()
+    groups = [having] if having else []
+    for offset in range(0, stretch.size, PIECE):
+        parts: list[tuple[int, ...]] = []
+        for group in groups:
+            pieces: dict[bytes, list[int]] = {}
+            for number in group:
+                pieces.setdefault(_read(stretch, copies, number, offset) if len(group) > 1 else b"", []).append(number)
+            parts += map(tuple, pieces.values())
+        groups = parts
+        if all(len(group) == 1 for group in groups):
+            break
+    return tuple(sorted(groups))
 
 
-def _equal(stretch: Stretch, copies: Sequence[Copy], group: tuple[int, ...], offset: int, size: int) -> list[tuple[int, ...]]:
-    """Returns the parts of a group that have equal bytes at an offset."""
-    if len(group) == 1:
-        return [group]
-    parts: dict[bytes, list[int]] = {}
-    first = _read(stretch, copies, group[0], offset, size)
-    same = [group[0]]
-    for number in group[1:]:
-        piece = _read(stretch, copies, number, offset, size)
-        if piece == first:
-            same.append(number)
-        else:
-            parts.setdefault(piece, []).append(number)
-    return [tuple(same), *map(tuple, parts.values())]
-
-
-def _read(stretch: Stretch, copies: Sequence[Copy], number: int, offset: int, size: int) -> bytes:
-    place = stretch.places[number]
-    return b"" if place is None else copies[number].read(place + offset, size)
+def _read(stretch: Stretch, copies: Sequence[Copy], number: int, offset: int) -> bytes:
+    return copies[number].read((stretch.places[number] or 0) + offset, min(PIECE, stretch.size - offset))
 
 
 def split(stretch: Stretch, copies: Sequence[Copy]) -> list[Stretch]:
@@ -70,13 +57,10 @@ def split(stretch: Stretch, copies: Sequence[Copy]) -> list[Stretch]:
     agreed: Label = (0,) * len(having)
     runs: list[Run] = []
     for offset in range(0, stretch.size, PIECE):
+        pieces = [_read(stretch, copies, number, offset) for number in having]
         size = min(PIECE, stretch.size - offset)
-        pieces = [_read(stretch, copies, number, offset, size) for number in having]
-        if pieces.count(pieces[0]) == len(pieces):
-            _extend(runs, Run(offset + size, agreed))
-        else:
-            for run in _runs(pieces, size):
-                _extend(runs, Run(offset + run.end, run.label))
+        for run in _runs(pieces, size) if pieces.count(pieces[0]) < len(pieces) else [Run(size, agreed)]:
+            _extend(runs, Run(offset + run.end, run.label))
     runs = _joined(runs, agreed)
     if len(runs) > MOST_RUNS:
         runs = _coarser(runs, agreed, (stretch.places[having[0]] or 0) % SECTOR)

@@ -26,17 +26,12 @@ def health(copy: Copy, number: int, layout: Layout, judge: Judge) -> CopyHealth:
     """The health of a copy of the file that a layout describes, of which it is the copy `number`."""
     judged = judge(copy, [(frame.place, frame.size) for frame in layout.frames])
     intact = frozenset(at for at, each in enumerate(judged) if each.is_intact())
-    elements = [at for at, stretch in enumerate(layout.stretches) if stretch.kind is Kind.ELEMENT]
-    passing = frozenset(at for at in elements if has_passing(layout, at, number, copy))
+    elements = [(at, stretch) for at, stretch in enumerate(layout.stretches) if stretch.kind is Kind.ELEMENT]
+    passing = frozenset(at for at, stretch in elements for place in [stretch.places[number]]
+                        if place is not None and ebml.passes(copy, place, place + stretch.size))
     lacks = any(stretch.places[number] is None for stretch in layout.stretches)
     is_undamaged = not lacks and not layout.gaps and len(intact) == len(layout.frames) and len(passing) == len(elements)
     return CopyHealth(intact, passing, is_undamaged)
-
-
-def has_passing(layout: Layout, at: int, number: int, copy: Copy) -> bool:
-    stretch = layout.stretches[at]
-    place = stretch.places[number]
-    return place is not None and ebml.passes(copy, place, place + stretch.size)
 
 
 def rotten(layout: Layout, healths: Sequence[CopyHealth]) -> set[int]:
@@ -81,11 +76,8 @@ def is_believed(layout: Layout, frame: Frame, versions: Sequence[bytes], copies:
 
 def without_parts(layout: Layout) -> Layout:
     """The layout of a recording without parities: its frames are plain bytes, and elements have no parts."""
-    made = []
-    for stretch in layout.stretches:
-        kind = Kind.PLAIN if stretch.kind is Kind.FRAME else stretch.kind
-        made.append(dataclasses.replace(stretch, kind=kind, parts=()))
-    return dataclasses.replace(layout, stretches=made)
+    return dataclasses.replace(layout, stretches=[
+        dataclasses.replace(stretch, kind=Kind.PLAIN if stretch.kind is Kind.FRAME else stretch.kind, parts=()) for stretch in layout.stretches])
 
 
 NO_PARITIES = ("the slices of this recording have no parities (it was made without -slicecrc 1), so no damage within a frame can be found "

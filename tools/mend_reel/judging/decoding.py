@@ -44,13 +44,12 @@ def decoded(layout: Layout, stretches: Sequence[Stretch], outcomes: Sequence[Out
     """The places of those frames with guessed slices for which no other checksum vouches, and that decode. `stretches` are in the order of
     OUT, and `outcomes` have their numbers there."""
     tracks, found = {track.number: track for track in layout.tracks}, set()
-    for outcome in outcomes:
+    for outcome in (outcome for outcome in outcomes if outcome.state is State.MISSING):
         stretch = stretches[outcome.number]
+        frames = {frame.place: frame for frame in stretch.parts if frame.track in tracks}
         for part, slices in outcome.slices.items():
             place, _, is_flac = stretch.listed_parts()[part]
-            frame = next((frame for frame in stretch.parts if frame.place == place), None)
-            if is_flac or frame is None or outcome.state is not State.MISSING or not is_guessed(slices) or frame.track not in tracks:
-                continue
-            if decodes(tracks[frame.track], frame):
-                found.add(frame.place)
+            frame = None if is_flac or not is_guessed(slices) else frames.get(place)
+            if frame and decodes(tracks[frame.track], frame):
+                found.add(place)
     return frozenset(found)
