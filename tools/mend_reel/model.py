@@ -11,7 +11,7 @@ import enum
 import os
 import stat
 from collections.abc import Callable, Iterator, Mapping, Sequence
-from typing import Any
+from typing import Any, NamedTuple
 
 
 MATROSKA = "matroska"
@@ -81,8 +81,7 @@ class Content(enum.Enum):
 BESIDE_TRACKS = frozenset({Content.ATTACHMENTS, Content.CHAPTERS, Content.TAGS})
 
 
-@dataclasses.dataclass(frozen=True)
-class What:
+class What(NamedTuple):
     """What the bytes of a stretch are, of which track if of one, and from when to when they play if that is known."""
 
     content: Content

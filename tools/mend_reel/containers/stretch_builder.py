@@ -39,7 +39,7 @@ class Stretches:
             if (last and last.kind is Kind.PLAIN and last.end == first and last.vouched == vouched and last.size + after - first <= MOST_PLAIN
                     and last.places.count(None) == self._places(first, after).count(None)
                     and (last.what.content, last.what.track) == (what.content, what.track)):
-                self.made[-1] = dataclasses.replace(last, size=after - last.start, what=dataclasses.replace(last.what, end=what.end))
+                self.made[-1] = dataclasses.replace(last, size=after - last.start, what=last.what._replace(end=what.end))
                 continue
             for place in range(first, after, MOST_PLAIN):
                 stop = min(place + MOST_PLAIN, after)
