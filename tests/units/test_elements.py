@@ -5,7 +5,7 @@ import typing
 import unittest
 
 from mend_reel.containers import clusters, elements, matroska
-from mend_reel.containers.aligned_copies import AlignedCopies, Budget
+from mend_reel.containers.elements import AlignedCopies, Budget
 from . import made
 
 REEL, PLAIN_REEL = made.reel(), made.reel(crc=False)

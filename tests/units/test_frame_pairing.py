@@ -3,8 +3,7 @@ import contextlib
 import dataclasses
 import unittest
 
-from mend_reel.copies.displaced_frames import complete, search_bytes
-from mend_reel.copies.frame_pairing import Recording, carried, pair, share
+from mend_reel.copies.frame_pairing import Recording, carried, complete, pair, search_bytes, share
 from . import made
 from .framed import VIDEO, frame, plain_file
 

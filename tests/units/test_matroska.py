@@ -6,7 +6,7 @@ import typing
 import unittest
 from unittest import mock
 
-from mend_reel.containers import aligned_copies, elements, matroska
+from mend_reel.containers import elements, matroska
 from mend_reel.model import Content, Kind, Layout, Stretch
 from . import framed, made
 
@@ -410,7 +410,7 @@ class BadInput(unittest.TestCase):
     def test_heads_alone_cost_no_more_than_a_file_of_their_size_may(self):
         head, size = framed.matroska([(0.0, framed.frame(1))], crc=False), 1 << 19
         # In each of two passes.
-        most = 2 * (aligned_copies.FEWEST_STEPS + (size + len(head)) // aligned_copies.BYTES_PER_STEP) // elements.CAREFUL_STEPS
+        most = 2 * (elements.FEWEST_STEPS + (size + len(head)) // elements.BYTES_PER_STEP) // elements.CAREFUL_STEPS
         for heads in ("1f43b675", "1f43b67501ffffffffffffff", "1f43b67501ffffffffffffffe78100" + 9 * "a38481000080", "a3", "a34fff81000080", "ec80"):
             piece = bytes.fromhex(heads)
             with self.subTest(heads=heads):
@@ -429,7 +429,7 @@ class BadInput(unittest.TestCase):
         with made.opened(content) as copies:
             reader = matroska.MatroskaReader(copies)
             reader.layout()
-        self.assertLess(max(reader.aligned.steps.used, reader.clusters.aligned.steps.used), 0.1 * aligned_copies.FEWEST_STEPS)
+        self.assertLess(max(reader.aligned.steps.used, reader.clusters.aligned.steps.used), 0.1 * elements.FEWEST_STEPS)
 
 
 if __name__ == "__main__":

@@ -8,7 +8,7 @@ import typing
 import unittest
 
 from mend_reel.model import Content, Frame, Kind, Stretch, What
-from mend_reel.program import mend_list
+from mend_reel.program import mend_run as mend_list
 
 Places = typing.Tuple[typing.Optional[int], ...]
 
@@ -21,7 +21,7 @@ def stretch(kind: Kind, start: int, size: int, places: Places, source: int = 0, 
 def write(*stretches: Stretch) -> typing.Tuple[typing.List[str], mend_list.Listed]:
     listed = mend_list.list_of(iter(stretches))
     with tempfile.TemporaryDirectory() as folder:
-        mend_list.write(listed, path := pathlib.Path(folder, "list"))
+        mend_list.write_list(listed, path := pathlib.Path(folder, "list"))
         return path.read_text().splitlines(), listed
 
 

@@ -8,7 +8,7 @@ from typing import NamedTuple
 
 from ..model import Content, Copy, Frame, Track
 from . import ebml, elements, own_checks
-from .aligned_copies import NONE, AlignedCopies, Budget, Numbers
+from .elements import NONE, AlignedCopies, Budget, Numbers
 from .metadata import NANOSECONDS, Metadata
 
 CRC, VOID, TIMESTAMP, SIMPLE_BLOCK, GROUP, BLOCK, REFERENCE, DURATION = 0xBF, 0xEC, 0xE7, 0xA3, 0xA0, 0xA1, 0xFB, 0x9B

@@ -7,7 +7,7 @@ from collections.abc import Iterable, Iterator, Sequence
 
 from ..model import Claims, Content, Copy, Kind, Layout, Track, What
 from . import clusters, ebml, elements, metadata, own_checks, structure
-from .aligned_copies import NONE, WINDOW, AlignedCopies, Budget, Numbers
+from .elements import NONE, WINDOW, AlignedCopies, Budget, Numbers
 from .stretch_builder import MOST_STRETCH, Stretches
 
 EBML, SEGMENT, CLUSTER = 0x1A45DFA3, 0x18538067, 0x1F43B675

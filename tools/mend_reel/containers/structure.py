@@ -10,7 +10,7 @@ from typing import NamedTuple
 
 from ..model import Copy
 from . import ebml
-from .aligned_copies import Steps
+from .elements import Steps
 
 NAME = re.compile(rb"[\x20-\x7e\xa9][\x20-\x7e]{3}")
 MEDIA = re.compile(rb"([0-9]{2})(?:d[bc]|wb|tx)")

@@ -12,9 +12,8 @@ from ..containers.frame_times import lasts
 from ..judging.copy_health import CopyHealth, health, lack_parities, rotten
 from ..judging.frame_checks import Judge
 from ..model import Copy, Fault, Layout
-from . import displaced_frames
 from .alignment import Alignment, align
-from .frame_pairing import Matched, Recording, pair, share
+from .frame_pairing import Matched, Recording, complete, pair, share
 
 HEADER = 4096
 
@@ -245,7 +244,7 @@ def relate(basis: File, other: File) -> Matched | None:
         return Matched(-1, {number: place for number, place in placed if place is not None},
                        tracks={track.number: track.number for track in basis.layout.tracks}, alignment=alignment)
     pairing = pair(basis.recording, other.recording)
-    pairing.places = displaced_frames.complete(basis.recording, other.recording.copies, pairing.places)
+    pairing.places = complete(basis.recording, other.recording.copies, pairing.places)
     return pairing if share(basis.recording, other.recording, pairing) else None
 
 

@@ -21,10 +21,10 @@ from ..judging.verdict import Evidence, Verdict, judge
 from ..model import MATROSKA, Copy, Fault, Frame, Layout, Outcome, State, Stretch, open_copy, or_fault
 from ..reports import json_document, page
 from ..reports.summary import CopySummary, Role, Summary
-from . import ddrescue_maps, mend_list, output_files
+from . import ddrescue_maps, output_files
 from .external_programs import find_ffv1restore, of_each, version_of
 from .kept_frames import Held, Keeper
-from .mend_run import mend
+from .mend_run import list_of, mend, write_list
 from .options import VERSION, Options
 from .output_files import Files, Output, WorkFolder, check_room, is_written_to
 from .progress import Progress
@@ -268,14 +268,14 @@ class Session:
             patch(again, out, changed.values())
             anew = [dataclasses.replace(outcome, number=list(changed)[outcome.number]) for outcome in few]
             outcomes = sorted([*(each for each in outcomes if each.number not in changed), *anew], key=lambda outcome: outcome.number)
-            mend_list.write(listed, self.work / "list")
+            write_list(listed, self.work / "list")
         self.keeper.keep_list(self.work / "list", comparison.inputs.files)
         return listed, outcomes
 
     def mend_listed(self, name: str, stretches: Sequence[Stretch], out: str, comparison: Comparison) -> tuple[list[Stretch], list[Outcome]]:
         """Has the program make a file by a list of stretches. Returns them as they are listed, and what became of them."""
-        listed = mend_list.list_of(stretches)
-        mend_list.write(listed, self.work / name)
+        listed = list_of(stretches)
+        write_list(listed, self.work / name)
         self.progress.begin("mending")
         return listed, mend(self.program, listed, self.work / name, out, self.options.out or out, comparison.inputs.files, self.work,
                             lambda done: self.progress.at(done, comparison.layout.size))
