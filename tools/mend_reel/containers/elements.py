@@ -29,8 +29,8 @@ Cost = tuple[int, int, int]
 
 
 class Steps:
-    """How many heads of elements may be read up to a place in one pass over a file, so that a file of heads alone takes no longer than one of
-    frames. A good file has far fewer than it may have; what lies after the last head that may be read is not divided."""
+    """How many heads of elements may be read up to a place in a pass over a file, so that a file of heads alone takes no longer than one
+    of frames. A good file has far fewer than it may have; what lies after the last head that may be read is not divided."""
 
     def __init__(self) -> None:
         self.used = 0

@@ -88,10 +88,10 @@ def of_packets(copies: Sequence[Copy], packets: Iterable[tuple[Spot, Packet]], b
 
 def cover(copies: Sequence[Copy], frames: Sequence[Frame], others: Sequence[Piece], tracks: Sequence[Track], size: int) -> list[Stretch]:
     """The stretches that cover a file: its frames, other packets, Configuration Records, and what lies between them."""
-    steps = {track.number: track.step or 0.0 for track in tracks}
-    pieces = [Piece(frame.place, frame.end, Kind.FRAME, What(Content.FRAME, frame.track, frame.time, frame.time + steps.get(frame.track, 0.0)),
-                    (frame,)) for frame in frames]
-    pieces += [piece for piece in others if piece.end <= size]
+    pieces, steps = [piece for piece in others if piece.end <= size], {track.number: track.step or 0.0 for track in tracks}
+    for frame in frames:
+        what = What(Content.FRAME, frame.track, frame.time, frame.time + steps.get(frame.track, 0.0))
+        pieces.append(Piece(frame.place, frame.end, Kind.FRAME, what, (frame,)))
     played = [piece for piece in pieces if piece.kind is not Kind.RECORD]
     first, last = min((piece.start for piece in played), default=0), max((piece.end for piece in played), default=size)
     made, end = Stretches(copies), 0

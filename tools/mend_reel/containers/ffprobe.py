@@ -176,9 +176,9 @@ def address(copy: Copy) -> Iterator[str]:
 
 
 def ask_for(copy: Copy, more: Sequence[str], entries: str) -> Container:
-    words = [*probe(), *more, "-show_entries", ENTRIES.format(more=entries), "-of", "compact"]
-    with address(copy) as name, or_fault("cannot run ffprobe"), subprocess.Popen([*words, name], stdin=subprocess.DEVNULL, stdout=subprocess.PIPE,
-                                                                                 stderr=subprocess.DEVNULL, encoding="utf-8", errors="replace") as process:
+    with address(copy) as name, or_fault("cannot run ffprobe"), subprocess.Popen(
+            [*probe(), *more, "-show_entries", ENTRIES.format(more=entries), "-of", "compact", name], stdin=subprocess.DEVNULL,
+            stdout=subprocess.PIPE, stderr=subprocess.DEVNULL, encoding="utf-8", errors="replace") as process:
         return read_lines(watched(copy, process.stdout or ()))
 
 

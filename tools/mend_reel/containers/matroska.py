@@ -92,8 +92,9 @@ class MatroskaReader:
         claimed_end, sized = self._read_end(segment) if segment else (None, NONE)
         strong = [child for child in self.top if child.identity in STRONG]
         # OUT ends where the Segment does, if a copy ends there and nothing goes on, or else with the longest copy.
-        is_whole = claimed_end in {copy.size for copy in self.copies} and max((child.end for child in strong), default=0) <= (claimed_end or 0)
-        size = claimed_end if claimed_end is not None and is_whole else self.aligned.end
+        last, size = max((child.end for child in strong), default=0), self.aligned.end
+        if claimed_end is not None and last <= claimed_end and claimed_end in {copy.size for copy in self.copies}:
+            size = claimed_end
         live: list[elements.Child] = []
         for child in self.top:
             if child.identity in STRONG or child.identity == elements.UNDIVIDED:
@@ -151,7 +152,7 @@ class MatroskaReader:
         return None
 
     def _guessed_tracks(self) -> list[Track]:
-        """Returns the tracks whose blocks are FFV1 frames by the footers of their slices, or by sizes alone as where these have no parities,
+        """Returns the tracks whose blocks are FFV1 frames by the footers of their slices, or by sizes alone as of slices without parities:
         for files whose own description is lost."""
         found: set[int] = set()
         described = {track.number for track in self.metadata.tracks if track.codec}
@@ -217,9 +218,13 @@ class MatroskaReader:
 
     def _sound_headers(self, child: elements.Child) -> Numbers:
         """Returns the copies whose EBML header has known children alone, and a document type that is known."""
-        contents = {number: self.copies[number].read(child.content, min(child.end - child.content, WINDOW)) for number in self.aligned.numbers}
-        return frozenset(number for number, data in contents.items() for fields in [dict(ebml.children(data))]
-                         if ebml.divides(data) and IN_HEADER.issuperset(fields) and ebml.text(fields.get(DOCUMENT_TYPE, b"")) in DOCUMENT_TYPES)
+        sound, size = set(), min(child.end - child.content, WINDOW)
+        for number in self.aligned.numbers:
+            data = self.copies[number].read(child.content, size)
+            fields = dict(ebml.children(data))
+            if ebml.divides(data) and IN_HEADER.issuperset(fields) and ebml.text(fields.get(DOCUMENT_TYPE, b"")) in DOCUMENT_TYPES:
+                sound.add(number)
+        return frozenset(sound)
 
     def _add_cluster(self, child: elements.Child, has_crc: bool) -> None:
         items = self.clusters.read(child.content, child.end, child.is_cut)

@@ -36,9 +36,9 @@ class Stretches:
         bounds = [start, *sorted({size for size in self._sizes if start < size < end}), end]
         for first, after in zip(bounds, bounds[1:]):
             last = self.made[-1] if joins and self.made else None
-            if (last and last.kind is Kind.PLAIN and last.end == first and last.vouched == vouched and last.size + after - first <= MOST_PLAIN
+            if (last and last.kind is Kind.PLAIN and last.end == first and last.size + after - first <= MOST_PLAIN
                     and last.places.count(None) == self._places(first, after).count(None)
-                    and (last.what.content, last.what.track) == (what.content, what.track)):
+                    and (last.vouched, last.what[:2]) == (vouched, what[:2])):
                 self.made[-1] = dataclasses.replace(last, size=after - last.start, what=last.what._replace(end=what.end))
                 continue
             for place in range(first, after, MOST_PLAIN):

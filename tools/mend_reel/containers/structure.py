@@ -131,7 +131,8 @@ def chunk(copy: Copy, place: int, end: int, depth: int) -> Part | None:
     head = copy.read(place, 12)
     name, after = head[:4], place + 8 + int.from_bytes(head[4:8], "little")
     is_chunk = NAME.fullmatch(name) if depth else name == b"RIFF" and head[8:] in (b"AVI ", b"AVIX")
-    return Part(name, place + (12 if name in AVI_MASTERS else 8), after + (after & 1)) if is_chunk and (after <= end or end >= copy.size) else None
+    fits = after <= end or end >= copy.size
+    return Part(name, place + (12 if name in AVI_MASTERS else 8), after + (after & 1)) if is_chunk and fits else None
 
 
 def read_avi(copy: Copy) -> Structure:
@@ -146,7 +147,7 @@ def read_avi(copy: Copy) -> Structure:
             index = Found(Flaw.COUNT, content, end, sum(chunks.values()), (end - content) // 16)
     lengths = {number: int.from_bytes(kind[32:36], "little") for number, kind in enumerate(kinds) if kind[:4] == b"vids"}
     walk.made.flaws += [index] if index and index.has != index.count else []
-    walk.made.flaws += [Found(Flaw.COUNT, 0, copy.size, chunks[number], count) for number, count in lengths.items() if count != chunks[number]]
+    walk.made.flaws += [Found(Flaw.COUNT, 0, copy.size, chunks[at], count) for at, count in lengths.items() if count != chunks[at]]
     return walk.made
 
 
@@ -172,7 +173,8 @@ def read_mov(copy: Copy) -> Structure:
         elif name in (b"stsz", b"trun"):
             samples[track] += int.from_bytes(copy.read(content + (8 if name == b"stsz" else 4), 4), "big")
     if not walk.has_last:
-        walk.made.table = displaced_table(copy, min((found.start if found.flaw is Flaw.BROKEN else found.end for found in walk.made.flaws), default=0))
+        ends = [found.start if found.flaw is Flaw.BROKEN else found.end for found in walk.made.flaws]
+        walk.made.table = displaced_table(copy, min(ends, default=0))
         walk.made.flaws += [] if walk.made.table else [Found(Flaw.NO_TABLE, 0, copy.size)]
     walk.made.counts, walk.made.stop = {number: samples[track] for number, track in enumerate(tracks)}, walk.stop
     return walk.made

@@ -196,7 +196,8 @@ def arrange(copies: Sequence[Copy], judge: Judge) -> Arrangement:
     if len(files) == 1:
         return Arrangement(files[0].numbers, files[0].layout, left=left)
     basis = choose(files, copies, judge)
-    made, pairings = Arrangement(basis.numbers, basis.layout, left=left, rotten=basis.rotten()), {id(file): each for file, each in basis.pairings}
+    made = Arrangement(basis.numbers, basis.layout, left=left, rotten=basis.rotten())
+    pairings = {id(file): each for file, each in basis.pairings}
     for file in (file for file in files if file is not basis):
         pairing = pairings.get(id(file))
         if pairing is None:

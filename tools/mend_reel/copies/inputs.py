@@ -65,7 +65,7 @@ def aligned(layout: Layout, matched: Matched, size: int) -> dict[int, int]:
 
 def carry(layout: Layout, copies: Sequence[Copy], other: Copy, matched: Matched, needed: Iterable[int], path: str) -> dict[int, int]:
     """Writes a file that has, one after the other, each of the stretches `needed` as the first copy that has it has it, with those frames
-    over it that the other file has. Returns the place of each stretch in that file. Those without a frame of the other file are left out."""
+    over it that the other file has. Returns the place of each stretch there. Those without a frame of the other file are left out."""
     given = {layout.frames[number].place: place for number, place in matched.places.items()}
     places: dict[int, int] = {}
     end = 0

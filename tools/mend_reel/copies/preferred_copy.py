@@ -165,7 +165,8 @@ def mark_differences(case: Case, copies: Sequence[Copy], right: int, wrong: Sequ
     """Marks the sectors of the first and of the last byte of each piece of a sector's length in which copies with equal bytes differ from
     one that is right."""
     for offset in range(0, case.stretch.size, PIECE):
-        ours, theirs = (copies[number].read(case.place(number) + offset, min(PIECE, case.stretch.size - offset)) for number in (right, wrong[0]))
+        size = min(PIECE, case.stretch.size - offset)
+        ours, theirs = (copies[number].read(case.place(number) + offset, size) for number in (right, wrong[0]))
         for start in range(0, len(ours) if ours != theirs else 0, SECTOR):
             pairs = zip(ours[start : start + SECTOR], theirs[start : start + SECTOR])
             unequal = [offset + start + at for at, (one, other) in enumerate(pairs) if one != other]

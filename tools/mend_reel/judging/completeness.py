@@ -126,8 +126,8 @@ def holes(track: TrackTimes, excuses: Excuses) -> Iterator[Reason]:
         spans.insert(0, (-step, first.time, 0, first.place))
     for before, after, start, end in spans:
         if not excuses.has(track, start, end):
-            times = before + step, max(before + step, after - step)
-            yield Reason(Why.HOLE, Content.FRAME, track.number, bytes=(start, end), times=times, count=max(round((after - before) / step) - 1, 1))
+            times, count = (before + step, max(before + step, after - step)), max(round((after - before) / step) - 1, 1)
+            yield Reason(Why.HOLE, Content.FRAME, track.number, bytes=(start, end), times=times, count=count)
 
 
 def counts(layout: Layout, claims: Sequence[Claims], tracks: Sequence[TrackTimes]) -> Iterator[Reason]:

@@ -76,8 +76,8 @@ def is_believed(layout: Layout, frame: Frame, versions: Sequence[bytes], copies:
 
 def without_parts(layout: Layout) -> Layout:
     """The layout of a recording without parities: its frames are plain bytes, and elements have no parts."""
-    return dataclasses.replace(layout, stretches=[
-        dataclasses.replace(stretch, kind=Kind.PLAIN if stretch.kind is Kind.FRAME else stretch.kind, parts=()) for stretch in layout.stretches])
+    kinds = {kind: Kind.PLAIN if kind is Kind.FRAME else kind for kind in Kind}
+    return dataclasses.replace(layout, stretches=[dataclasses.replace(each, kind=kinds[each.kind], parts=()) for each in layout.stretches])
 
 
 NO_PARITIES = ("the slices of this recording have no parities (it was made without -slicecrc 1), so no damage within a frame can be found "

@@ -17,7 +17,8 @@ from ..model import Copy, Fault, or_fault
 PIECE = 1 << 20
 ALGORITHMS = {32: "md5", 40: "sha1", 64: "sha256", 128: "sha512"}
 # A line as md5sum writes it, or with the name of the algorithm. After a backslash two characters of the name stand for one.
-LINE = re.compile(r"(\\?)(?:(?P<plain>[0-9a-fA-F]+) [ *](?P<name>.+)|(?P<tag>[A-Za-z0-9]+) \((?P<named>.*)\) = (?P<tagged>[0-9a-fA-F]+))", re.DOTALL)
+LINE = re.compile(r"(\\?)(?:(?P<plain>[0-9a-fA-F]+) [ *](?P<name>.+)|(?P<tag>[A-Za-z0-9]+) \((?P<named>.*)\) = (?P<tagged>[0-9a-fA-F]+))",
+                  re.DOTALL)
 ESCAPES = {r"\\": "\\", r"\n": "\n", r"\r": "\r"}
 FRAMES_SIGN = "#format: frame checksums"
 MOST_LINE, MOST_LINES, MOST_STREAMS, MOST_RUNS = 1 << 16, 1 << 20, 64, 10

@@ -143,7 +143,8 @@ def of_the_rest(results: Results) -> list[str]:
     lost = {result.stretch for result in results.frames.values() if result.state is FrameState.LOST}
     around = [results.stretches[number] for number in lost if not results.is_vouched(number)]
     size = sum(stretch.size - sum(frame.size for frame in stretch.parts) for stretch in around if stretch.kind is Kind.ELEMENT)
-    return [f"beside frames that are not restored {size} bytes of sound and headers can't be verified, as one checksum is over all"] if size else []
+    told = f"beside frames that are not restored {size} bytes of sound and headers can't be verified, as one checksum is over all"
+    return [told] if size else []
 
 
 def of_gaps(layout: Layout) -> Iterator[Reason]:

@@ -1,4 +1,4 @@
-"""Writes the list that `ffv1restore mend` mends by, with a line for each stretch and below an element one for each of its frames; runs it, and
+"""Writes the list that `ffv1restore mend` mends by, a line for each stretch and below an element one for each of its frames; runs it, and
 reads the lines that it prints."""
 from __future__ import annotations
 

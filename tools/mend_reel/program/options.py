@@ -94,7 +94,7 @@ def read(words: Sequence[str]) -> Options:
         made.error(f"the following arguments are required: {'COPY' if asked.check or asked.out is not None else 'OUT, COPY'}")
     if asked.check and asked.digest is not None and len(paths) > 1:
         made.error("argument --digest: with --check there must be one copy")
-    named = {name: getattr(asked, name) for name in ("out", "report", "json", "digest", "keep", "pictures", "force", "digests", "jobs", "quiet")}
+    named = {field.name: getattr(asked, field.name) for field in dataclasses.fields(Options) if hasattr(asked, field.name)}
     if "" in (*named.values(), *paths):
         made.error("a name is empty")
     return Options(is_named=is_named, copies=tuple(paths), maps=maps_of(asked.map, paths, made), **named)

@@ -66,8 +66,8 @@ def doubts(summary: Summary) -> str:
 
 
 def counts(summary: Summary) -> str:
-    sums = summary.verdict.sums.named()
-    first = "".join(f'<tr><th scope="row">{name}</th><td class="n">{count:,}</td></tr>' for name, count in summary.verdict.counts.named().items())
+    sums, frames_of = summary.verdict.sums.named(), summary.verdict.counts.named()
+    first = "".join(f'<tr><th scope="row">{name}</th><td class="n">{count:,}</td></tr>' for name, count in frames_of.items())
     second = "".join(f'<tr><th scope="row">{name}</th><td class="n">{sums[name]:,}</td><td>{meaning}</td></tr>'
                      for name, meaning in SUMS.items())
     return (f'<div class="side"><div><h2>Frames</h2><table>{first}</table></div><div><h2>Bytes of {summary.out_name()}</h2>'
@@ -161,8 +161,9 @@ def other_row(stretch: Made) -> str:
     start, end = stretch["times"] or (None, None)
     time = "" if start is None else span_of_times((start, start if end is None else end))
     other = sorted({place["copy"] for place in stretch["places"] if place["is_alike"] is False})
-    return (f"<tr><td>{stretch['content']}{track}</td><td>{time}</td><td class=\"n\">{stretch['range'][0]:,} to {stretch['range'][1]:,}</td>"
-            f"<td>{numbers(other)}</td><td>{STANDS.get(stretch['state'], stretch['state'])}</td></tr>")
+    first, last = stretch["range"]
+    return (f"<tr><td>{stretch['content']}{track}</td><td>{time}</td><td class=\"n\">{first:,} to {last:,}</td><td>{numbers(other)}</td>"
+            f"<td>{STANDS.get(stretch['state'], stretch['state'])}</td></tr>")
 
 
 def foot(summary: Summary) -> str:

@@ -94,8 +94,8 @@ class Timeline:
         return self.span(frame.place, frame.end)
 
     def add(self, number: int, stretch: Stretch) -> None:
-        """Counts what lies in a stretch, the frames and the rest, for OUT, and less of it for copies of OUT's file that lack it. Adds damage
-        beside frames."""
+        """Counts what lies in a stretch, the frames and the rest, for OUT, and less of it for copies of OUT's file that lack it. Adds
+        damage beside frames."""
         first, last = (bisect.bisect_left(self.results.places, place) for place in (stretch.start, stretch.end))
         spans = [(self.FRAMES, self.span_of(frame)) for frame in self.summary.layout.frames[first:last]]
         kind = self.SOUND if self.SOUND in self.kinds and stretch.what.content in OF_SOUND else self.CONTAINER
@@ -104,7 +104,8 @@ class Timeline:
             spans.append((kind, span))
             damaged = {copy for result in self.results.within(number) for copy in result.damaged} if outcome and stretch.parts else set()
             self.damage(kind, span, outcome, damaged) if outcome else None
-        lacking = [copy for copy, own in self.marks_of.items() if all(stretch.places[at] is None for at in own)] if None in stretch.places else ()
+        lacking = self.marks_of.items() if None in stretch.places else ()
+        lacking = [copy for copy, own in lacking if all(stretch.places[at] is None for at in own)]
         for row, each in spans:
             self.rows[None, row].count(each)
             for copy in lacking:
