@@ -135,8 +135,7 @@ class Claims:
     ends: Mapping[int, float] = dataclasses.field(default_factory=dict)
 
     def of_tracks(self, numbers: Mapping[int, int]) -> Claims:
-        """What another file claims of OUT: how long it plays, and how many frames those of its tracks have that have numbers in OUT. Its
-        times may begin elsewhere."""
+        """What another file claims of OUT: how long it plays, and how many frames the tracks have that are OUT's. Its times may differ."""
         return Claims(self.duration, {numbers[track]: count for track, count in self.counts.items() if track in numbers})
 
     def beside(self, own: Claims) -> Claims:

@@ -222,8 +222,7 @@ class Clusters:
         return [head for _, head in (sorted(heads, key=doubt) if is_frame else heads)]
 
     def _head(self, child: elements.Child, start: int | None) -> BlockHead | None:
-        """Returns the likeliest head of a block: that of an FFV1 frame where it is of no track, or laced, and footers lead through its
-        payload all the same."""
+        """The likeliest head of a block: of an FFV1 frame where footers lead through its payload, though of no track, or laced."""
         size = child.end - child.content
         found = (self._heads(child.content, min(size, most), child.end, start) for most in (SHORT_BLOCK_HEAD, LONGEST_BLOCK_HEAD))
         head = next((heads[0] for heads in found if heads), None)

@@ -18,8 +18,7 @@ MASKS = [(1 << 7 * length) - 1 for length in range(9)]
 
 
 class Head(NamedTuple):
-    """An element's head: its ID with the marker bit, where its size begins, and where its content starts and ends. The end is None where
-    the size is unknown."""
+    """An element's head: its ID with the marker bit, where its size and its content begin, and its end (None where that is unknown)."""
 
     identity: int
     sized: int

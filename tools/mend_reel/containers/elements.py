@@ -315,8 +315,7 @@ class Walk:
     # ---- past what no copy divides
 
     def _next_sign(self, place: int) -> int:
-        """Returns the next place after one at which an element begins that is sure to be one, or the master's end. What was searched
-        once is not searched again."""
+        """The next place after one at which an element surely begins, or the master's end. What was searched is not searched again."""
         at = bisect.bisect(self._searched, (place, self.end + 1))
         if at and place < self._searched[at - 1][1]:
             return self._searched[at - 1][1]

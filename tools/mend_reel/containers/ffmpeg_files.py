@@ -121,8 +121,7 @@ class Shown:
                     self.spots.setdefault((packet.place, packet.size, packet.stream), []).append(packet)
 
     def frames(self, judge: Judge | None) -> list[Frame]:
-        """The frames, in the order of their places. Each has the time that the base shows, if it shows the frame. Of spots that overlap the
-        worthiest stand."""
+        """The frames by their places, at the times that the base shows if it does. Of those that overlap the worthiest stand."""
         found = []
         for cluster in overlapping(sorted(spot for spot in self.spots if spot[2] in self.video)):
             worth = self.worth(cluster, judge) if len(cluster) > 1 else {}

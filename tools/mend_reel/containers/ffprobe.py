@@ -139,8 +139,7 @@ def contain(copy: Copy) -> Container:
 
 
 def ask(copy: Copy) -> Container:
-    """What ffprobe reports of a copy. Digests of packets, for which it works on all bytes, are asked for only where the footers of frames
-    do not show where these lie."""
+    """What ffprobe reports of a copy, with digests of packets, which cost it all bytes, only where footers do not show where frames lie."""
     if not can_ask():
         raise Fault(f"there is no ffprobe on the PATH, and {copy.path} is no Matroska file that can be read without it")
     container = ask_for(copy, [], "")
@@ -237,8 +236,7 @@ class Locator:
         return self.search_around(packet)
 
     def search_around(self, packet: Packet) -> int | None:
-        """Looks for a frame further away, and not where another one is reported: the file lost or gained bytes before it, and so has the
-        next one the same distance."""
+        """Looks for a frame further away, and not where another one is reported: bytes were lost or gained before it, and the next ones."""
         if not self.reported or packet.digest is not None or self.searches >= MOST_SEARCHES:
             return None
         self.searches += 1
@@ -261,8 +259,7 @@ class Locator:
 
 
 def locate(copy: Copy, packets: Sequence[Packet], video: Set[int]) -> list[Packet]:
-    """The packets with their places. Without a digest those that are not of FFV1 tracks lie where they are reported, or some bytes
-    after."""
+    """The packets with their places. Without a digest those of other tracks lie where they are reported, or some bytes after."""
     made = structure.read(copy)
     is_shifted = made.table is not None or made.end is not None and made.end != copy.size
     reported = [packet.reported for packet in packets] if is_shifted else []

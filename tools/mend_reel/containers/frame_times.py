@@ -13,8 +13,7 @@ SOUND_BLOCK, THOUSANDTHS = 0.25, 0.002
 
 
 class TrackTimes:
-    """An FFV1 track: its frames in the order of their times, the time from one to the next (None where it is not constant), and the size
-    of the smallest."""
+    """An FFV1 track: its frames by their times, the time from one to the next (None if not constant), and the size of the smallest."""
 
     def __init__(self, number: int, frames: Sequence[Frame], claimed: float | None) -> None:
         self.number, self.frames = number, sorted(frames, key=lambda frame: frame.time)

@@ -164,8 +164,7 @@ class MatroskaReader:
         return [Track(number, Content.VIDEO, "V_FFV1", is_ffv1=True) for number in sorted(found)]
 
     def _content(self, child: elements.Child) -> bytes:
-        """Returns the content of an element: of a copy where it matches its CRC-32, or can be divided, names most FFV1 tracks, and
-        is what most copies have."""
+        """The content of an element in the copy that passes its CRC-32, or that divides, names most FFV1 tracks, and is as most have it."""
         size = min(child.end - child.content, MOST_METADATA)
         passing = self.budget.passing(self.aligned, child.content, child.end)
         contents = [self.copies[number].read(child.content, size) for number in sorted(passing)[:1] or self.aligned.numbers]
@@ -260,8 +259,7 @@ class MatroskaReader:
 
 
 def layout(copies: Sequence[Copy]) -> Layout:
-    """Returns what lies where in a file, from copies of it: they have the same bytes at the same places but for damage, and may end
-    early."""
+    """What lies where in a file, from copies of it: they have the same bytes at the same places but for damage, and may end early."""
     return MatroskaReader(copies).layout()
 
 

@@ -60,8 +60,7 @@ def seems_frame(copy: Copy, start: int, end: int) -> bool:
 
 
 def nearest(data: bytes, size: int, middle: int) -> int | None:
-    """Returns where in some bytes a frame of a size lies by its footers, which lead from its end to its start: the one nearest to a
-    place."""
+    """Returns where in some bytes a frame of a size lies, through which footers lead to its start: the one nearest to a place."""
     places = sorted(range(len(data) - size + 1), key=lambda start: abs(start - middle))
     return next((place for place in places if any(first == 0 for first, _ in slices(data[place : place + size]))), None)
 

@@ -31,8 +31,7 @@ class Stretches:
             self.made.append(Stretch(kind, start, end - start, what, self._places(start, end), tuple(parts), tuple(sound)))
 
     def plain(self, start: int, end: int, what: What, vouched: frozenset[int] = frozenset(), joins: bool = True) -> None:
-        """Adds bytes that no checksum covers, cut where copies end. The header of an element does not join what is before it: its content
-        may vouch for it."""
+        """Adds bytes without a checksum, cut where copies end. An element's header joins nothing before it: its content may pass."""
         bounds = [start, *sorted({size for size in self._sizes if start < size < end}), end]
         for first, after in zip(bounds, bounds[1:]):
             last = self.made[-1] if joins and self.made else None

@@ -236,8 +236,7 @@ def has_lost_text(content: bytes, depth: int = 0) -> bool:
 
 
 def divides(content: bytes, depth: int = 0) -> bool:
-    """Whether elements cover the content of a Matroska master, and so in the masters in it. The ID of a chapter's display has no data bits,
-    as no other has."""
+    """Whether elements cover a Matroska master's content, and that of masters in it. The ID of a chapter's display has no data bits."""
     at = 0
     while at < len(content):
         is_display = content[at] == CHAPTER_DISPLAY

@@ -96,8 +96,7 @@ def may_be_same(one: Copy, other: Copy) -> bool:
 
 
 def aligned(basis: Sequence[Copy], other: Copy) -> Alignment | None:
-    """Where the bytes of a file lie in a copy of it that lost or gained bytes, or None where it is none: its header gives the same
-    length."""
+    """Where the bytes of a file lie in a copy of it that lost or gained bytes, or None if it is none: its header gives the same length."""
     if claimed_size(other) not in {None, *map(claimed_size, basis)}:
         return None
     best = max((align(copy, other) for copy in basis if may_be_same(copy, other)), key=lambda each: each.alike, default=None)
@@ -105,8 +104,7 @@ def aligned(basis: Sequence[Copy], other: Copy) -> Alignment | None:
 
 
 def claimed_size(copy: Copy) -> int | None:
-    """The size that a file's own header claims, of Matroska and AVI files: a file that has it was not cut short. Of a MOV file it is
-    where the first large atom ends."""
+    """The size that the header of a Matroska or AVI file claims, as one not cut has; of a MOV file the end of its first large atom."""
     data = copy.read(0, HEADER)
     if data[:4] == b"RIFF":
         return int.from_bytes(data[4:8], "little") + 8
@@ -237,8 +235,7 @@ def choose(files: Sequence[File], copies: Sequence[Copy], judge: Judge) -> File:
 
 
 def relate(basis: File, other: File) -> Matched | None:
-    """Where another file has the frames of the basis, or None if it shares none with it. Of the basis' file with bytes lost or added all
-    bytes have a place."""
+    """Where another file has the frames of the basis, or all its bytes, if it is that with bytes lost or added; None if it shares none."""
     alignment = aligned(basis.recording.copies, max(other.recording.copies, key=lambda each: each.size))
     if alignment:
         placed = ((number, alignment.place(frame.place, frame.end)) for number, frame in enumerate(basis.layout.frames))

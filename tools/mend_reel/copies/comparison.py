@@ -15,8 +15,7 @@ from .inputs import Inputs
 
 @dataclasses.dataclass
 class Comparison:
-    """The layout with its stretches as they are listed, what each copy of OUT's file claims, whose container can be read, and what is to be
-    said of damaged element headers."""
+    """The stretches as they are listed, what each copy of OUT's file claims, whose container reads, and what to say of damaged headers."""
 
     layout: Layout
     inputs: Inputs
@@ -70,8 +69,7 @@ def passing(frames: Sequence[Stretch], copies: Sequence[Copy], judge: Judge) -> 
 
 
 def best_shown(out: str, copies: Sequence[Copy], judge: Judge) -> int | None:
-    """The number of the copy whose container shows more right frames than that of OUT does, if one is there: most of them. Frames that both
-    show are as right in OUT."""
+    """The copy whose container shows more right frames than that of OUT, if one does: frames that both show are right in OUT."""
     if not ffprobe.can_ask():
         return None
     made = open_copy(out)

@@ -68,8 +68,7 @@ def split(stretch: Stretch, copies: Sequence[Copy]) -> list[Stretch]:
 
 
 def _runs(pieces: Sequence[bytes], size: int) -> Iterator[Run]:
-    """Yields the runs of some byte strings of one size. A bit stands for each pair of versions; it turns where they begin or end to
-    differ."""
+    """Yields the runs of some byte strings of one size. A bit for each pair of versions turns where they begin or end to differ."""
     versions = list(dict.fromkeys(pieces))
     indexes = [versions.index(piece) for piece in pieces]
     pairs = list(itertools.combinations(range(len(versions)), 2))
@@ -131,8 +130,7 @@ def _joined(runs: Sequence[Run], agreed: Label) -> list[Run]:
 
 
 def _coarser(runs: Sequence[Run], agreed: Label, phase: int) -> list[Run]:
-    """Returns runs that end where sectors do: those in which all agree, and those in which some differ. `phase` is where in a sector the
-    first begins."""
+    """Returns runs that end where sectors do, in which all agree or some differ. `phase` is where in a sector the first begins."""
     coarser: list[Run] = []
     start = end = 0
     for run in runs:

@@ -18,8 +18,7 @@ PIECE = 1 << 20
 
 @dataclasses.dataclass
 class Inputs:
-    """The files that the list has places in, and for each the number of the copy that it stands for. The first ones are the copies of OUT's
-    file, so many as `own`."""
+    """The files that the list has places in, and the copy that each stands for. The first ones, so many as `own`, are of OUT's file."""
 
     files: list[Copy]
     numbers: list[int]

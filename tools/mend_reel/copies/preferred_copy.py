@@ -47,8 +47,7 @@ class KnownDamage:
 
 @dataclasses.dataclass
 class Case:
-    """A stretch in which copies differ: those with equal bytes, those that pass a check, those that may serve, and the rule that
-    decided."""
+    """A stretch in which copies differ: those with equal bytes, those that pass, those that may serve, and the rule that decided."""
 
     stretch: Stretch
     groups: differences.Partition
@@ -162,8 +161,7 @@ def note(case: Case, copies: Sequence[Copy], found: Sequence[KnownDamage]) -> No
 
 
 def mark_differences(case: Case, copies: Sequence[Copy], right: int, wrong: Sequence[int], found: Sequence[KnownDamage]) -> None:
-    """Marks the sectors of the first and of the last byte of each piece of a sector's length in which copies with equal bytes differ from
-    one that is right."""
+    """Marks the sectors of the first and last byte of each piece of a sector's size in which copies differ from one that is right."""
     for offset in range(0, case.stretch.size, PIECE):
         size = min(PIECE, case.stretch.size - offset)
         ours, theirs = (copies[number].read(case.place(number) + offset, size) for number in (right, wrong[0]))

@@ -46,8 +46,7 @@ class Evidence:
     rotten: Set[int] = frozenset()
 
     def all_claims(self) -> list[Claims]:
-        """What OUT claims, and what lies in OUT by all its copies; and what single copies claim where OUT says nothing. Where it does,
-        their bytes were compared."""
+        """What OUT claims, and what single copies claim where it says nothing. Where it does, their bytes were compared."""
         known = [*([self.out.claims] if self.out else []), self.layout.claims]
         return known + [claims.beside(known[0]) for claims in self.claims]
 

@@ -14,8 +14,7 @@ MOST_SAMPLES = 16
 
 @dataclasses.dataclass(frozen=True)
 class CopyHealth:
-    """Of a copy: the numbers of the frames that pass in it, those of the stretches of elements that do, and whether it lacks nothing, and
-    all that has a check passes."""
+    """Of a copy: the numbers of frames and of elements that pass, and whether nothing is lacking and all that is judged passes."""
 
     intact: frozenset[int] = frozenset()
     passing: frozenset[int] = frozenset()
@@ -45,8 +44,7 @@ def rotten(layout: Layout, healths: Sequence[CopyHealth]) -> set[int]:
 
 
 def lack_parities(layout: Layout, copies: Sequence[Copy]) -> bool:
-    """Whether the slices of a recording have no parities: of frames all over it no slice passes in any copy, though there is reason to
-    believe that most of them are undamaged."""
+    """Whether slices have no parities: of frames all over the recording none passes in any copy, and most seem to be undamaged."""
     count = len(layout.frames)
     step = max(count // MOST_SAMPLES, 1)
     samples = layout.frames[step // 2 :: step][:MOST_SAMPLES]

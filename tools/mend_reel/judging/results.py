@@ -55,8 +55,7 @@ class Counts:
 
 @dataclasses.dataclass
 class Sums:
-    """How many bytes of OUT pass a checksum, are equal in several copies, are of one copy alone, are none of these, and are of the one copy
-    that could be read there."""
+    """How many bytes of OUT pass, are equal in several copies, are of one alone, are none of these, or could be read in one alone."""
 
     verified: int = 0
     agreed: int = 0
@@ -171,8 +170,7 @@ class Results:
         return self.states[number]
 
     def find_state(self, number: int) -> State:
-        """The state of a stretch. Those that the program did not list are undamaged. What one copy alone has was read where maps say that
-        the others could not be read there."""
+        """The state of a stretch: undamaged if not listed. What one copy alone has was read where others could not be, by their maps."""
         stretch, outcome = self.stretches[number], self.outcomes.get(number)
         several = State.AGREED if len(stretch.having()) > 1 else State.ALONE
         state = outcome.state if outcome else several if stretch.kind is Kind.PLAIN else State.WHOLE
@@ -181,8 +179,7 @@ class Results:
         return state
 
     def vouch_for_headers(self) -> None:
-        """Counts the header of an element whose content passes its CRC-32 as verified: with another size it could not pass. One that is
-        known by its content alone is not."""
+        """Counts the header of an element that passes as verified, as no other size could pass, but not one known by its content alone."""
         gaps = {place for place, _ in self.layout.gaps}
         for number, (header, content) in enumerate(zip(self.stretches, self.stretches[1:])):
             if (self.states[number] in (State.ALONE, State.READ) and header.what.content is Content.FRAMING and header.start not in gaps

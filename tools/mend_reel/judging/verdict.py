@@ -124,8 +124,7 @@ def of_unchecked(results: Results) -> Iterator[Reason]:
 
 
 def of_one_copy(results: Results) -> Iterator[Reason]:
-    """What one copy alone has and no checksum covers: nothing vouches for it. Stretches of one content are one reason, up to the next one
-    for which something vouches."""
+    """What one copy alone has and no checksum covers: of one content one reason, up to the next for which something vouches."""
     runs: dict[tuple[Content, int | None], Reason] = {}
     for stretch, state in zip(results.stretches, results.states):
         key, copy = (stretch.what.content, stretch.what.track), results.source(stretch)
@@ -154,8 +153,7 @@ def of_gaps(layout: Layout) -> Iterator[Reason]:
 
 
 def of_flaws(evidence: Evidence, found: Iterable[Reason]) -> Iterator[Reason]:
-    """Where the parts of a file do not hang together, but for what is in doubt already. What copies agree on may lack a checksum, or lie
-    after the end."""
+    """Where the parts of a file do not hang together, but for what is in doubt already, and for what copies may agree on."""
     known = [reason.bytes for reason in found if reason.bytes and reason.why is not Why.ALONE]
     for flaw, start, end, has, count in evidence.flaws:
         is_known = any(known_start <= start and end <= known_end for known_start, known_end in known)

@@ -33,8 +33,7 @@ def interrupted(*_: Any) -> NoReturn:
 
 
 def check(asked: options.Options) -> None:
-    """Refuses to write over a file that is read, over what is there, and two files to one place. Files are compared, and not their names. A
-    device takes several."""
+    """Refuses to write over what is read or there, and two files to one place, by files and not by names. A device takes several."""
     places: list[int | str] = []
     for path in asked.made():
         descriptor = descriptor_of(path)

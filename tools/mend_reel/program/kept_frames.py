@@ -24,8 +24,7 @@ KEPT = re.compile(r"list|copies|frames-of-copy-\d+|(?:track-\d+-)?frame-\d+\.(?:
 
 
 class Held(NamedTuple):
-    """A damaged frame: its name among what is kept, its track, the paths of the copies that have it and what they have, and whether it is
-    restored."""
+    """A damaged frame: its name among what is kept, its track, what the copies have of it by their paths, and whether it is restored."""
 
     name: str
     track: Track

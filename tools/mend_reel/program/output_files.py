@@ -180,8 +180,7 @@ class Files:
 
 
 class WorkFolder:
-    """A folder of this run's own. Whoever makes it has interrupts wait until it is known. Its lock tells one that was left by a run that
-    was killed from one that is in use."""
+    """A folder of this run's own, made while interrupts wait. Its lock tells one that a killed run left from one that is in use."""
 
     def __init__(self) -> None:
         self.path = pathlib.Path(tempfile.mkdtemp(prefix=FOLDER))

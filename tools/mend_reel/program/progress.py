@@ -31,8 +31,7 @@ class Progress:
         self.last = self.begun if not self.terminal else 0.0
 
     def at(self, done: float, whole: float) -> None:
-        """Reports that so much of the step is done, if it is time to. Where far less is done than before, another file is read now: the
-        time left counts from there."""
+        """Reports that so much of the step is done, if it is time to. Where far less is done than before, another file is read now."""
         now = time.monotonic()
         if self.quiet or now - self.last < EACH_SECONDS[self.terminal]:
             return

@@ -50,8 +50,7 @@ class Made:
 
 
 class Outputs:
-    """The files that a call makes, whose parts are there before the work begins; what runs that were killed left of OUT and of working
-    files; and whether OUT is made."""
+    """The files that a call makes, as parts before the work begins; what killed runs left; and whether OUT is made."""
 
     def __init__(self, options: Options, files: Files, work: WorkFolder) -> None:
         self.files, self.is_out_made = files, False
@@ -182,8 +181,7 @@ class Session:
         return summary
 
     def refuse_recording(self, copies: Sequence[Copy]) -> None:
-        """Refuses to overwrite a recording of the copies' video where OUT is named by its place alone: it may be a copy that stands there
-        because OUT was forgotten."""
+        """Refuses to overwrite a recording of the same video where OUT is named by its place alone: OUT may have been forgotten."""
         path = self.options.out
         if path is None or self.options.is_named or not os.path.isfile(path) or is_written_to(path):
             return
@@ -212,8 +210,7 @@ class Session:
         return [f"OUT is a file of {form}, though its name ends with {suffix}"] if named and form and form not in named else []
 
     def rotten(self, arrangement: Arrangement, layout: Layout, inputs: Inputs) -> set[int]:
-        """The numbers of the frames that were damaged before the file was written: looked for with --check, and where other files are among
-        the copies."""
+        """The frames that were damaged before the file was written, by their numbers: with --check, and where other files are copies."""
         if self.options.out is not None:
             return arrangement.rotten
         return copy_health.rotten(layout, [copy_health.health(inputs.files[0], 0, layout, self.judge)])

@@ -23,8 +23,7 @@ class Role(enum.Enum):
 
 @dataclasses.dataclass
 class CopySummary:
-    """A copy, or OUT: its path, its size, its container, how it serves, how many of its bytes pass a checksum, and its SHA-256, where these
-    are known."""
+    """A copy, or OUT: its path, its size, its container, how it serves, and if known how many of its bytes pass, and its SHA-256."""
 
     path: str
     size: int
@@ -80,8 +79,7 @@ def of_frames(counts: Counts) -> str:
 
 
 def of_bytes(sums: Sums) -> str:
-    """`bytes: 881,357 verified (99.9 %), 521 agreed`: of what is not verified only what there is. A share is cut and not rounded: 100 is
-    all."""
+    """`bytes: 881,357 verified (99.9 %), 521 agreed`: of the others only what there is. A share is cut, not rounded: 100 is all."""
     named = sums.named()
     whole = sum(named.values())
     tenths = 1000 * sums.verified // max(whole, 1)

@@ -94,8 +94,7 @@ class Timeline:
         return self.span(frame.place, frame.end)
 
     def add(self, number: int, stretch: Stretch) -> None:
-        """Counts what lies in a stretch, the frames and the rest, for OUT, and less of it for copies of OUT's file that lack it. Adds
-        damage beside frames."""
+        """Counts what lies in a stretch, for OUT, and less of it for copies of OUT's file that lack it. Adds damage beside frames."""
         first, last = (bisect.bisect_left(self.results.places, place) for place in (stretch.start, stretch.end))
         spans = [(self.FRAMES, self.span_of(frame)) for frame in self.summary.layout.frames[first:last]]
         kind = self.SOUND if self.SOUND in self.kinds and stretch.what.content in OF_SOUND else self.CONTAINER
