@@ -26,6 +26,7 @@ AROUND, MOST_SEARCHES, HEADER = 1 << 15, 8, 1 << 12
 LINES_BETWEEN = 64
 ENTRIES = ("packet=stream_index,pts_time,dts_time,duration_time,size,pos,flags{more}:"
            "stream=index,codec_type,codec_name,width,height,avg_frame_rate,nb_frames,duration,start_time:format=format_name,duration")
+PROBE = ("ffprobe", "-v", "quiet", "-protocol_whitelist", "file,subfile")
 CONTENTS = {"video": Content.VIDEO, "audio": Content.SOUND, "subtitle": Content.SUBTITLES}
 # The containers whose header gives how long they play: of others FFmpeg guesses. An AVI file counts empty frames too.
 GIVE_DURATION = {"avi", "mov", "mxf"}
@@ -153,10 +154,6 @@ def ask(copy: Copy) -> Container:
     return container
 
 
-def probe() -> list[str]:
-    return ["ffprobe", "-v", "quiet", "-protocol_whitelist", "file,subfile"]
-
-
 @contextlib.contextmanager
 def address(copy: Copy) -> Iterator[str]:
     """How FFmpeg is told of a copy: up to where there are more parts than are walked, as it would walk them all; and where no part leads to
@@ -176,7 +173,7 @@ def address(copy: Copy) -> Iterator[str]:
 
 def ask_for(copy: Copy, more: Sequence[str], entries: str) -> Container:
     with address(copy) as name, or_fault("cannot run ffprobe"), subprocess.Popen(
-            [*probe(), *more, "-show_entries", ENTRIES.format(more=entries), "-of", "compact", name], stdin=subprocess.DEVNULL,
+            [*PROBE, *more, "-show_entries", ENTRIES.format(more=entries), "-of", "compact", name], stdin=subprocess.DEVNULL,
             stdout=subprocess.PIPE, stderr=subprocess.DEVNULL, encoding="utf-8", errors="replace") as process:
         return read_lines(watched(copy, process.stdout or ()))
 
@@ -195,7 +192,7 @@ def with_records(copy: Copy, tracks: Sequence[Track]) -> list[Track]:
     for track in tracks:
         if track.is_ffv1:
             with address(copy) as name:
-                done = run(*probe(), "-select_streams", str(track.number), "-show_entries", "stream=extradata", "-show_data", "-of",
+                done = run(*PROBE, "-select_streams", str(track.number), "-show_entries", "stream=extradata", "-show_data", "-of",
                            "default=nk=1:nw=1", name)
             lines = done.stdout.decode(errors="replace").splitlines()
             with contextlib.suppress(ValueError):

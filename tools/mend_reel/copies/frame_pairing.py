@@ -128,14 +128,13 @@ def share(ours: Recording, theirs: Recording, pairing: Matched) -> bool:
     """Whether two files have a slice in common: they are of one recording. Slices are looked for all over the file."""
     numbers = sorted(pairing.places)
     steps = [step for step in (1009, 101, 11, 1) if step < len(numbers) or step == 1]
-    return any(shares_frame(ours, theirs, ours.layout.frames[number], pairing.places[number])
-               for number in dict.fromkeys(number for step in steps for number in numbers[::step]))
-
-
-def shares_frame(ours: Recording, theirs: Recording, frame: Frame, place: int) -> bool:
-    versions = {copy.read(frame.place, frame.size) for copy in ours.copies}
-    others = {copy.read(place, frame.size) for copy in theirs.copies}
-    return any(share_slice(one, other) for one in versions for other in others)
+    for number in dict.fromkeys(number for step in steps for number in numbers[::step]):
+        frame, place = ours.layout.frames[number], pairing.places[number]
+        versions = {copy.read(frame.place, frame.size) for copy in ours.copies}
+        others = {copy.read(place, frame.size) for copy in theirs.copies}
+        if any(share_slice(one, other) for one in versions for other in others):
+            return True
+    return False
 
 
 # ---- frames that a container does not show: shifted by the bytes that the file lost or gained

@@ -116,7 +116,9 @@ def decide(cases: Sequence[Case], copies: Sequence[Copy], found: Sequence[KnownD
     sound = [number for number, each in enumerate(found) if each.reads and not each.damaged.count()]
     for case in cases:
         # A copy in which nothing is known to be wrong comes before any sector that seems to be lost.
-        kept = without_lost_sectors(case, copies)
+        lost = [number for number in case.candidates if has_lost_sector(case.stretch, copies, number, case.candidates)]
+        kept = [number for number in case.candidates if number not in lost] if lost else []
+        kept = kept if any(differ_widely(case.stretch, copies, lost[0], other) for other in kept) else []
         case.narrow(sound if kept else (), Because.SOUND)
         for number in case.candidates if kept and case.stretch.kind is Kind.PLAIN else ():
             if number not in kept:
@@ -131,13 +133,6 @@ def decide(cases: Sequence[Case], copies: Sequence[Copy], found: Sequence[KnownD
         best = min(ranks[number] for number in case.candidates)
         case.narrow([number for number in case.candidates if ranks[number] == best], Because.HEALTHIEST)
         case.narrow(case.candidates[:1], Because.FIRST)
-
-
-def without_lost_sectors(case: Case, copies: Sequence[Copy]) -> list[int]:
-    """The candidates that have lost no sector there, where others have, which is filled with one value now."""
-    lost = [number for number in case.candidates if has_lost_sector(case.stretch, copies, number, case.candidates)]
-    others = [number for number in case.candidates if number not in lost]
-    return others if lost and any(differ_widely(case.stretch, copies, lost[0], other) for other in others) else []
 
 
 def by_vote(case: Case, found: Sequence[KnownDamage]) -> list[int]:

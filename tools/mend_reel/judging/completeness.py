@@ -45,11 +45,6 @@ class Evidence:
     flaws: Sequence[Found] = ()
     rotten: Set[int] = frozenset()
 
-    def all_claims(self) -> list[Claims]:
-        """What OUT claims, and what single copies claim where it says nothing. Where it does, their bytes were compared."""
-        known = [*([self.out.claims] if self.out else []), self.layout.claims]
-        return known + [claims.beside(known[0]) for claims in self.claims]
-
 
 def find_lacks(evidence: Evidence, results: Results) -> Iterator[Reason]:
     """What OUT does not show, in the order of what is surest."""
@@ -57,7 +52,8 @@ def find_lacks(evidence: Evidence, results: Results) -> Iterator[Reason]:
     if out is None or not out.frames:
         yield from [Reason(Why.UNREAD)] if layout.frames else []
     else:
-        claims, tracks = evidence.all_claims(), tracks_of(out)
+        # What single copies claim counts where OUT says nothing. Where it does, their bytes were compared.
+        claims, tracks = [out.claims, layout.claims, *(claims.beside(out.claims) for claims in evidence.claims)], tracks_of(out)
         yield from hidden(layout, out, results)
         yield from misplaced(out)
         excuses = Excuses(claims, results, tracks)

@@ -6,7 +6,7 @@ from collections.abc import Iterable, Iterator, Sequence
 
 from ..containers.own_checks import passes_as_record
 from ..containers.structure import Flaw
-from ..model import Content, Kind, Layout, SliceReport, State, Stretch
+from ..model import Content, Kind, SliceReport, State, Stretch
 from .completeness import Evidence, find_lacks
 from .kept_digests import Compared
 from .reasons import Reason, Why, join
@@ -71,16 +71,24 @@ def judge(evidence: Evidence) -> Verdict:
     """The verdict on OUT."""
     copy_of_mark = evidence.copy_of_mark or range(max((len(stretch.places) for stretch in evidence.stretches), default=0))
     results = Results(evidence.layout, evidence.stretches, evidence.outcomes, copy_of_mark, evidence.decoded, evidence.rotten)
-    found = [*of_gaps(evidence.layout), *of_stretches(results), *(of_frame(Why.ROTTEN, results.frames[at]) for at in evidence.rotten),
-             *(of_unchecked(results) if evidence.is_check else of_one_copy(results))]
+    # Bytes that no copy divides, and those that none has.
+    found = [Reason(Why.ABSENT if place >= evidence.layout.size else Why.UNDIVIDED, bytes=(place, place + size))
+             for place, size in evidence.layout.gaps]
+    found += [*of_stretches(results), *(of_frame(Why.ROTTEN, results.frames[at]) for at in evidence.rotten),
+              *(of_unchecked(results) if evidence.is_check else of_one_copy(results))]
     found = sorted([*found, *of_flaws(evidence, found)], key=lambda reason: reason.bytes or (0, 0))
-    found += [*find_lacks(evidence, results), *of_other_contents(evidence), *of_records(evidence)]
+    # What other files have, and OUT lacks or has less of. Whoever writes a file writes tags.
+    lacking = [(copy, content) for copy, other in evidence.others.items() for content in other.contents() - evidence.layout.contents()]
+    found += [*find_lacks(evidence, results), *(Reason(Why.LACKS, what, copy=copy) for copy, what in lacking if what is not Content.TAGS)]
+    found += [Reason(Why.RECORD, Content.TRACKS, track.number) for track in (evidence.out or evidence.layout).tracks
+              if track.is_ffv1 and track.record and not passes_as_record(track.record)]
     if sum(track.is_ffv1 for track in evidence.layout.tracks) == 1:
         found = [dataclasses.replace(reason, track=None) if reason.content is Content.FRAME else reason for reason in found]
     compared, counts = evidence.compared, results.counts()
     is_original, is_of_all = compared is not None and compared.is_original, compared is not None and compared.is_of_all
     notes = [f"copy {left.number + 1} is left out: {left.text()}" for left in evidence.left]
-    notes += [*([compared.text] if compared and is_original and not is_of_all else []), *of_the_rest(results), *of_tags(evidence)]
+    notes += [*([compared.text] if compared and is_original and not is_of_all else []), *of_the_rest(results),
+              *(f"copy {copy + 1} has tags, and OUT has none" for copy, what in lacking if what is Content.TAGS)]
     has_damage = bool(counts.damaged or results.outcomes or evidence.has_damaged_heads or is_cut(evidence, copy_of_mark))
     is_walked = all(flaw.flaw is not Flaw.NOT_WALKED for flaw in evidence.flaws)
     return Verdict([] if is_original and is_of_all else join(found), notes, results.sums(), counts, results, has_damage, compared,
@@ -95,25 +103,6 @@ def is_cut(evidence: Evidence, copy_of_mark: Sequence[int]) -> bool:
 
 
 # ---- what is in doubt
-
-
-def of_other_contents(evidence: Evidence) -> Iterator[Reason]:
-    """What other files have, and OUT lacks or has less of: tracks of a kind, attachments, chapters. Whoever writes a file writes tags."""
-    for copy, other in evidence.others.items():
-        lacking = other.contents() - evidence.layout.contents()
-        yield from (Reason(Why.LACKS, content, copy=copy) for content in lacking if content is not Content.TAGS)
-
-
-def of_tags(evidence: Evidence) -> list[str]:
-    return [f"copy {copy + 1} has tags, and OUT has none" for copy, other in evidence.others.items()
-            if Content.TAGS in other.contents() - evidence.layout.contents()]
-
-
-def of_records(evidence: Evidence) -> Iterator[Reason]:
-    """The tracks whose Configuration Record fails its parity."""
-    for track in (evidence.out or evidence.layout).tracks:
-        if track.is_ffv1 and track.record and not passes_as_record(track.record):
-            yield Reason(Why.RECORD, Content.TRACKS, track.number)
 
 
 def of_unchecked(results: Results) -> Iterator[Reason]:
@@ -144,12 +133,6 @@ def of_the_rest(results: Results) -> list[str]:
     size = sum(stretch.size - sum(frame.size for frame in stretch.parts) for stretch in around if stretch.kind is Kind.ELEMENT)
     told = f"beside frames that are not restored {size} bytes of sound and headers can't be verified, as one checksum is over all"
     return [told] if size else []
-
-
-def of_gaps(layout: Layout) -> Iterator[Reason]:
-    """The bytes that no copy divides, and those that none has."""
-    for place, size in layout.gaps:
-        yield Reason(Why.ABSENT if place >= layout.size else Why.UNDIVIDED, Content.UNKNOWN, bytes=(place, place + size))
 
 
 def of_flaws(evidence: Evidence, found: Iterable[Reason]) -> Iterator[Reason]:

@@ -62,12 +62,6 @@ class Outputs:
         self.out, self.report, self.json = (None if path is None else files.make(path, str(work.path))
                                             for path in (options.out, options.report, options.json))
 
-    def settle_out(self) -> None:
-        """Gives OUT its place."""
-        if self.out is not None:
-            self.files.settle(self.out)
-            self.is_out_made = True
-
     def write_reports(self, summaries: Sequence[Summary]) -> list[Fault]:
         """Writes the page and the document, if they are asked for, and returns why one can't be written."""
         faults = []
@@ -169,14 +163,19 @@ class Session:
         others = {matched.number: describe([copies[matched.number]], self.judge, False) for matched in arrangement.matched}
         claims = [*comparison.claims, *(others[matched.number].claims.of_tracks(matched.tracks) for matched in arrangement.matched)]
         made = self.make(comparison)
-        self.notes += [*arrangement.notes(copies), *comparison.notes, *self.names_otherwise(inputs.form())]
+        form, suffix = inputs.form(), os.path.splitext(self.options.out or "")[1].lower()
+        named = {each for each, suffixes in SUFFIXES.items() if suffix in suffixes}
+        self.notes += [*arrangement.notes(copies), *comparison.notes]
+        self.notes += [f"OUT is a file of {form}, though its name ends with {suffix}"] if named and form and form not in named else []
         verdict = judge(Evidence(
             layout, made.stretches, made.outcomes, made.out, claims, arrangement.matched, arrangement.left, inputs.numbers, others,
             bool(comparison.notes), made.decoded, self.compared(made.part or self.options.copies[0]), self.options.out is None, made.flaws,
             self.rotten(arrangement, layout, inputs)))
         self.keep_frames(layout, inputs, made, verdict)
         summary = self.summary(copies, arrangement, layout, verdict, made.part)
-        self.outputs.settle_out()
+        if self.outputs.out is not None:
+            self.outputs.files.settle(self.outputs.out)
+            self.outputs.is_out_made = True
         self.notes += self.keeper.hand_over([*self.options.copies, *self.options.read(), *self.options.made()])
         return summary
 
@@ -202,12 +201,6 @@ class Session:
             return None
         self.progress.begin("comparing with the digest")
         return kept_digests.compare(self.options.digest, path, self.options.out or path, self.options.copies, self.progress.at)
-
-    def names_otherwise(self, form: str) -> list[str]:
-        """That the name of OUT is one of another container."""
-        suffix = os.path.splitext(self.options.out or "")[1].lower()
-        named = {each for each, suffixes in SUFFIXES.items() if suffix in suffixes}
-        return [f"OUT is a file of {form}, though its name ends with {suffix}"] if named and form and form not in named else []
 
     def rotten(self, arrangement: Arrangement, layout: Layout, inputs: Inputs) -> set[int]:
         """The frames that were damaged before the file was written, by their numbers: with --check, and where other files are copies."""

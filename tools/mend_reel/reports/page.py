@@ -48,7 +48,10 @@ def write(file: TextIO, summaries: Sequence[Summary]) -> None:
     for summary in summaries:
         file.write(f"<h1>{text(summary.title())}</h1>\n")
         file.writelines(part(summary) + "\n" for part in (verdict, counts, doubts, copies, timeline, frames, others))
-    file.write(foot(summaries[0]) + "\n</body></html>\n")
+    first = summaries[0]
+    made = ", ".join(f"{name} {version}" for name, version in first.versions.items())
+    file.write(f"<footer><p>{text(first.date)}. {text(made)}.</p><p><code>{text(' '.join(first.command))}</code></p></footer>"
+               "\n</body></html>\n")
 
 
 def verdict(summary: Summary) -> str:
@@ -165,7 +168,3 @@ def other_row(stretch: Made) -> str:
     return (f"<tr><td>{stretch['content']}{track}</td><td>{time}</td><td class=\"n\">{first:,} to {last:,}</td><td>{numbers(other)}</td>"
             f"<td>{STANDS.get(stretch['state'], stretch['state'])}</td></tr>")
 
-
-def foot(summary: Summary) -> str:
-    made = ", ".join(f"{name} {version}" for name, version in summary.versions.items())
-    return f"<footer><p>{text(summary.date)}. {text(made)}.</p><p><code>{text(' '.join(summary.command))}</code></p></footer>"
