@@ -92,9 +92,7 @@ class What(NamedTuple):
 
 @dataclasses.dataclass(frozen=True)
 class Track:
-    """A track as the container describes it. `step` is the time from a frame to the next, where the container gives it, `byte_rate` how
-    many bytes of PCM play in a second. `is_encoded` is whether FFV1 frames are stored in another form: compressed, say; `is_flac`, whether
-    each block is a frame of FLAC."""
+    """A track as the container describes it."""
 
     number: int
     content: Content
@@ -103,10 +101,10 @@ class Track:
     width: int = 0
     height: int = 0
     record: bytes = b""
-    step: float | None = None
-    byte_rate: float = 0.0
-    is_encoded: bool = False
-    is_flac: bool = False
+    step: float | None = None  # seconds from a frame to the next, if the container says so
+    byte_rate: float = 0.0  # how many bytes of PCM play in a second
+    is_encoded: bool = False  # FFV1 frames are stored in another form: compressed, say
+    is_flac: bool = False  # each block is a frame of FLAC
 
 
 @dataclasses.dataclass(frozen=True)
@@ -161,26 +159,21 @@ class Because(enum.Enum):
 
 @dataclasses.dataclass(frozen=True)
 class Stretch:
-    """A run of bytes of OUT. `start` is its place there, `places` has for each copy where it lies in it, if it does. `parts` are frames
-    that lie within an element, by their places in OUT; a stretch of the kind FRAME has its own frame as its only one. `vouched` are
-    the copies of which the container itself confirms what they have here (a header that leads to the next element, say). `is_read` is
-    whether some copy has it, and a map says of each other one that it could not be read there; `is_unread`, whether maps say so of all.
-    `sound` are places and sizes of FLAC frames in an element. `is_alike` is whether all copies that have it are known to have it alike.
-    `source` is the copy FROM, and `because` says why."""
+    """A run of bytes of OUT."""
 
     kind: Kind
-    start: int
+    start: int  # its place in OUT
     size: int
     what: What
-    places: tuple[int | None, ...] = ()
-    parts: tuple[Frame, ...] = ()
-    sound: tuple[tuple[int, int], ...] = ()
-    vouched: frozenset[int] = frozenset()
-    is_read: bool = False
-    is_unread: bool = False
-    is_alike: bool = False
-    source: int = 0
-    because: Because = Because.ALONE
+    places: tuple[int | None, ...] = ()  # where it lies in each copy that has it
+    parts: tuple[Frame, ...] = ()  # frames in an element, by their places in OUT, or its own frame
+    sound: tuple[tuple[int, int], ...] = ()  # places and sizes of FLAC frames in an element
+    vouched: frozenset[int] = frozenset()  # copies whose container confirms what they have: a header that leads on
+    is_read: bool = False  # some copy has it, and maps say of all others that they could not be read there
+    is_unread: bool = False  # maps say so of all copies
+    is_alike: bool = False  # all copies that have it are known to have it alike
+    source: int = 0  # the copy FROM
+    because: Because = Because.ALONE  # why it is FROM
 
     @property
     def end(self) -> int:
@@ -202,20 +195,17 @@ class Stretch:
 
 @dataclasses.dataclass
 class Layout:
-    """What lies where in a file: its stretches, which follow each other and cover it, and the frames of all FFV1 tracks in the order of
-    their places. `gaps` are places and sizes of what no copy could divide. `rises` is whether the frames of a track have to lie in the
-    order of their times. `end` is where the file ends by its own account, where it says so. `bare` are from where to where elements lie
-    that have no CRC-32, though those beside them have."""
+    """What lies where in a file. Stretches follow each other and cover it; frames are those of all FFV1 tracks by their places."""
 
     size: int
     tracks: list[Track]
     frames: list[Frame]
     stretches: list[Stretch]
     claims: Claims = Claims()
-    gaps: list[tuple[int, int]] = dataclasses.field(default_factory=list)
-    rises: bool = False
-    end: int | None = None
-    bare: list[tuple[int, int]] = dataclasses.field(default_factory=list)
+    gaps: list[tuple[int, int]] = dataclasses.field(default_factory=list)  # places and sizes of what no copy could divide
+    rises: bool = False  # frames of a track lie in the order of their times
+    end: int | None = None  # where the file ends by its own account, if it says so
+    bare: list[tuple[int, int]] = dataclasses.field(default_factory=list)  # where elements lack the CRC-32 that those beside have
 
     def contents(self) -> collections.Counter[Content]:
         """What a file has: how many tracks of each kind, and whether attachments, chapters and tags."""
@@ -229,18 +219,16 @@ def unwatched(place: int) -> None:
 
 @dataclasses.dataclass
 class Copy:
-    """A copy: its path, its open file, and its length in bytes. `form` is the container's name: `matroska`, one of FFmpeg's, or empty.
-    `unread` is from where to where it could not be read when it was made, by a map. `watch` is called with each place that is read.
-    `container` is what ffprobe reported of it, once it was asked, and `structure` how its parts hang together, once they were walked."""
+    """A copy: its path, its open file, and its length in bytes."""
 
     path: str
     file: int
     size: int
-    form: str = ""
-    unread: Sequence[tuple[int, int]] = ()
-    watch: Callable[[int], None] = unwatched
-    container: Any = dataclasses.field(default=None, repr=False, compare=False)
-    structure: Any = dataclasses.field(default=None, repr=False, compare=False)
+    form: str = ""  # the container: `matroska`, a name of FFmpeg's, or empty
+    unread: Sequence[tuple[int, int]] = ()  # from where to where it could not be read, by a map
+    watch: Callable[[int], None] = unwatched  # is called with each place that is read
+    container: Any = dataclasses.field(default=None, repr=False, compare=False)  # what ffprobe reported of it
+    structure: Any = dataclasses.field(default=None, repr=False, compare=False)  # how its parts hang together
 
     def read(self, place: int, size: int) -> bytes:
         """Bytes of the file; fewer where it ends."""
@@ -264,28 +252,24 @@ def open_copy(path: str) -> Copy:
 
 @dataclasses.dataclass(frozen=True)
 class SliceReport:
-    """A slice of a frame as the program reports it: from where to where in the frame, its state (`settled`, `woven`, `voted`, `repaired`,
-    `disputed`, `missing`, or for what its footers do not divide `undivided` between slices, and `broken` at the frame's start), how many
-    combinations or repairs were tried, and a mark for each copy."""
+    """A slice of a frame as the program reports it, or what its footers do not divide."""
 
-    start: int
+    start: int  # by the bytes of the frame
     end: int
-    state: str
-    count: int = 0
-    marks: str = ""
+    state: str  # the word of the program; `undivided` between slices, `broken` at the frame's start
+    count: int = 0  # of combinations or repairs that were tried
+    marks: str = ""  # for each copy
 
 
 @dataclasses.dataclass(frozen=True)
 class Outcome:
-    """What became of a stretch: its number in the list (from 0), its state, how many combinations it is one of, a mark for each copy
-    (`1` it has what OUT has, `0` it has something else, `-` it does not have the stretch), and the slices of those of its parts that the
-    program lists, by the part's number (from 0)."""
+    """What became of a stretch."""
 
-    number: int
+    number: int  # in the list, from 0
     state: State
-    count: int
-    marks: str
-    slices: Mapping[int, tuple[SliceReport, ...]] = dataclasses.field(default_factory=dict)
+    count: int  # of combinations that it is one of
+    marks: str  # for each copy: `1` it has what OUT has, `0` something else, `-` it does not have it
+    slices: Mapping[int, tuple[SliceReport, ...]] = dataclasses.field(default_factory=dict)  # of listed parts, by their numbers
 
     def is_undamaged(self) -> bool:
         """Whether each copy that has the stretch has what OUT has, and nothing is open."""

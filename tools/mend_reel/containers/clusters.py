@@ -6,7 +6,7 @@ import re
 from collections.abc import Callable, Iterable, Iterator, Sequence
 from typing import NamedTuple
 
-from ..model import Content, Copy, Frame, Track
+from ..model import Content, Copy, Frame
 from . import ebml, elements, own_checks
 from .elements import NONE, AlignedCopies, Budget, Numbers
 from .metadata import NANOSECONDS, Metadata
@@ -25,20 +25,18 @@ SIZE = rb"(?:[\x80-\xfe]|[\x40-\x7f].|[\x20-\x3f].{2}|[\x10-\x1f].{3}|[\x08-\x0f
 
 
 class Item(NamedTuple):
-    """A run of bytes of a cluster: what it is, of which track and when, if it is of a block, and the copies that its container vouches
-    for there. `frame` is set where it is a frame of an FFV1 track, `is_gap` where no copy divides it, `lasts` where its length of
-    time is given, `is_flac` where it is a frame of FLAC."""
+    """A run of bytes of a cluster: what it is, and of which track and when, if it is of a block."""
 
     start: int
     end: int
     content: Content
     track: int | None = None
     time: float | None = None
-    vouched: Numbers = NONE
-    frame: Frame | None = None
-    is_gap: bool = False
-    lasts: float = 0.0
-    is_flac: bool = False
+    vouched: Numbers = NONE  # copies that the container vouches for there
+    frame: Frame | None = None  # of an FFV1 track
+    is_gap: bool = False  # no copy divides it
+    lasts: float = 0.0  # its length of time, where it is given
+    is_flac: bool = False  # a frame of FLAC
 
 
 class BlockHead(NamedTuple):

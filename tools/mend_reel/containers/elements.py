@@ -104,17 +104,16 @@ class Budget:
 
 
 class Child(NamedTuple):
-    """A child, or bytes that no copy can divide. An opened element ends where its content starts. `identified` and `sized` are the copies
-    whose ID and size are the child's, where its end is no mere guess. One without a head is known by its children alone."""
+    """A child, or bytes that no copy can divide. An opened element ends where its content starts."""
 
     identity: int
     place: int
     content: int
     end: int
-    identified: Numbers = NONE
-    sized: Numbers = NONE
+    identified: Numbers = NONE  # the copies whose ID is the child's, where its end is no mere guess
+    sized: Numbers = NONE  # and those whose size is
     is_cut: bool = False
-    is_headless: bool = False
+    is_headless: bool = False  # it is known by its children alone
 
     @property
     def vouched(self) -> Numbers:
@@ -130,21 +129,17 @@ def decided(child: Child, rivals: Sequence[Child]) -> Child:
 
 @dataclasses.dataclass(frozen=True)
 class Schema:
-    """What may stand in a master. A step that leads to an ID of `strong` leads on. An element of `opened` is entered: its children are of
-    the same schema, and so are, with those of `inner`, the children of one of `live` whose size is unknown. `signs` returns the offsets in
-    some bytes at which an element may begin, and needs `reach` bytes of it. `longest` is how many bytes of content an element has at
-    most, as numbers have. `confirms` reports whether a child's content shows that it ends
-    where its head says, or None where it can't be seen. A master that is cut short may end within a strong element."""
+    """What may stand in a master."""
 
     known: Numbers
-    strong: Numbers = NONE
-    opened: Numbers = NONE
-    live: Numbers = NONE
+    strong: Numbers = NONE  # IDs that lead on; a master that is cut short may end within such an element
+    opened: Numbers = NONE  # these are entered: their children are of the same schema
+    live: Numbers = NONE  # so are the children of these, if of unknown size, with those of `inner`
     inner: Numbers = NONE
-    signs: Callable[[bytes], Iterable[int]] = lambda piece: ()
-    reach: int = 4
-    longest: Mapping[int, int] = dataclasses.field(default_factory=dict)
-    confirms: Callable[[AlignedCopies, Child], bool | None] = lambda aligned, child: None
+    signs: Callable[[bytes], Iterable[int]] = lambda piece: ()  # gives offsets in some bytes at which an element may begin
+    reach: int = 4  # how many bytes of an element `signs` needs
+    longest: Mapping[int, int] = dataclasses.field(default_factory=dict)  # how many bytes of content an element has at most
+    confirms: Callable[[AlignedCopies, Child], bool | None] = lambda aligned, child: None  # whether content shows where a child ends
 
 
 def by_value(found: Mapping[int, Any]) -> list[tuple[Any, Numbers]]:

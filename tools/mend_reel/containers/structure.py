@@ -51,15 +51,13 @@ class Found(NamedTuple):
 
 @dataclasses.dataclass
 class Structure:
-    """What was read: flaws, where the file ends by its own account (None where it does not say), how many frames its tables have of each
-    track, in the order of tracks; and of a MOV file from where on it has more parts than are walked, and of tables at its end to which no
-    part leads, as bytes were lost or added before them, where they are expected, where they lie, and how long they are."""
+    """What was read of a file."""
 
     flaws: list[Found] = dataclasses.field(default_factory=list)
-    end: int | None = None
-    counts: dict[int, int] = dataclasses.field(default_factory=dict)
-    stop: int | None = None
-    table: tuple[int, int, int] | None = None
+    end: int | None = None  # where the file ends by its own account, if it says so
+    counts: dict[int, int] = dataclasses.field(default_factory=dict)  # frames in its tables, by the order of tracks
+    stop: int | None = None  # from where on a MOV file has more parts than are walked
+    table: tuple[int, int, int] | None = None  # where tables to which no part leads are expected, where they lie, and their size
 
     def close(self, place: int, size: int) -> Structure:
         """Notes where the last part ends, and what follows it or is cut."""

@@ -43,14 +43,13 @@ class Left:
 
 @dataclasses.dataclass
 class Arrangement:
-    """How copies serve, by their numbers: `basis` are those of OUT's file, whose layout it is; the others are other files, or left out.
-    `rotten` are the numbers of the frames that were damaged before OUT's file was written."""
+    """How copies serve, by their numbers."""
 
-    basis: list[int]
-    layout: Layout
-    matched: list[Matched] = dataclasses.field(default_factory=list)
+    basis: list[int]  # those of OUT's file
+    layout: Layout  # of OUT's file
+    matched: list[Matched] = dataclasses.field(default_factory=list)  # other files
     left: list[Left] = dataclasses.field(default_factory=list)
-    rotten: set[int] = dataclasses.field(default_factory=set)
+    rotten: set[int] = dataclasses.field(default_factory=set)  # the frames that were damaged before OUT's file was written
 
     def notes(self, copies: Sequence[Copy]) -> list[str]:
         """Whose file OUT is, where there are others, and which copies have bytes after its end."""

@@ -49,18 +49,15 @@ class Recording:
 
 @dataclasses.dataclass
 class Matched:
-    """A copy that is another file: where it has frames of OUT, by their numbers in the layout, and its frames that OUT has no place for, at
-    times of OUT: `unplaced` where OUT has no frame, `contrary` where OUT has another. `lasts` is how long it says that it lasts, if it is
-    cut short itself. `tracks` are OUT's numbers of its FFV1 tracks. Where it is OUT's file with bytes lost or added, `alignment` says where
-    its bytes lie."""
+    """A copy that is another file, and how it serves. Times are those of OUT."""
 
     number: int = -1
-    places: dict[int, int] = dataclasses.field(default_factory=dict)
-    unplaced: list[Frame] = dataclasses.field(default_factory=list)
-    contrary: list[Frame] = dataclasses.field(default_factory=list)
-    lasts: float | None = None
-    tracks: dict[int, int] = dataclasses.field(default_factory=dict)
-    alignment: Alignment | None = None
+    places: dict[int, int] = dataclasses.field(default_factory=dict)  # where it has frames of OUT, by their numbers in the layout
+    unplaced: list[Frame] = dataclasses.field(default_factory=list)  # at times at which OUT has no frame
+    contrary: list[Frame] = dataclasses.field(default_factory=list)  # at times at which OUT has another frame
+    lasts: float | None = None  # how long it says that it lasts, if it is cut short itself
+    tracks: dict[int, int] = dataclasses.field(default_factory=dict)  # OUT's numbers of its FFV1 tracks
+    alignment: Alignment | None = None  # where its bytes lie, if it is OUT's file with bytes lost or added
 
 
 def pair(ours: Recording, theirs: Recording) -> Matched:

@@ -22,28 +22,23 @@ MICROSECONDS = 1_000_000
 
 @dataclasses.dataclass
 class Evidence:
-    """What the verdict is judged by: what OUT was made by and its stretches as they were listed; what became of those that are not
-    undamaged; what lies where in OUT as it was read again (None where nothing can be read); what the containers of copies claim of the
-    recording; copies that are other files; copies that are left out; which copy each mark of an outcome is of; what the other files have,
-    by copy; whether damaged element headers of copies were left out; the places of frames with guessed slices that decode; what a kept
-    digest says; whether one file is checked, and no OUT is made; where the parts of OUT, or of that file, do not hang together; and the
-    numbers of frames that fail their parities in elements that pass."""
+    """What the verdict is judged by."""
 
-    layout: Layout
-    stretches: Sequence[Stretch]
-    outcomes: Sequence[Outcome]
-    out: Layout | None
-    claims: Sequence[Claims] = ()
-    matched: Sequence[Matched] = ()
-    left: Sequence[Left] = ()
-    copy_of_mark: Sequence[int] = ()
-    others: Mapping[int, Layout] = dataclasses.field(default_factory=dict)
-    has_damaged_heads: bool = False
-    decoded: Set[int] = frozenset()
-    compared: Compared | None = None
-    is_check: bool = False
-    flaws: Sequence[Found] = ()
-    rotten: Set[int] = frozenset()
+    layout: Layout  # what OUT was made by
+    stretches: Sequence[Stretch]  # as they were listed
+    outcomes: Sequence[Outcome]  # what became of those that are not undamaged
+    out: Layout | None  # what lies where in OUT as it was read again; None where nothing can be read
+    claims: Sequence[Claims] = ()  # what the containers of copies claim of the recording
+    matched: Sequence[Matched] = ()  # copies that are other files
+    left: Sequence[Left] = ()  # copies that are left out
+    copy_of_mark: Sequence[int] = ()  # which copy each mark of an outcome is of
+    others: Mapping[int, Layout] = dataclasses.field(default_factory=dict)  # what the other files have, by copy
+    has_damaged_heads: bool = False  # damaged element headers of copies were left out
+    decoded: Set[int] = frozenset()  # the places of frames with guessed slices that decode
+    compared: Compared | None = None  # what a kept digest says
+    is_check: bool = False  # one file is checked, and no OUT is made
+    flaws: Sequence[Found] = ()  # where the parts of OUT, or of that file, do not hang together
+    rotten: Set[int] = frozenset()  # the numbers of frames that fail their parities in elements that pass
 
 
 def find_lacks(evidence: Evidence, results: Results) -> Iterator[Reason]:

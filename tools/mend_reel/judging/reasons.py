@@ -63,19 +63,18 @@ OF_FRAMES = frozenset({Why.HOLE, Why.INDEX, Why.ORDER, Why.UNPLACED, Why.CONTRAR
 
 @dataclasses.dataclass(frozen=True)
 class Reason:
-    """Why a place of OUT is in doubt: what lies there (frames by their numbers, if it is frames), from which byte of OUT to which, from
-    when to when, the copy that OUT follows there, the copy that says so, and how many frames OUT has, or would have."""
+    """Why a place of OUT is in doubt: what lies there, from which byte to which, and from when to when."""
 
     why: Why
     content: Content = Content.UNKNOWN
     track: int | None = None
-    frames: tuple[int, int] | None = None
+    frames: tuple[int, int] | None = None  # their numbers, if it is frames
     bytes: tuple[int, int] | None = None
     times: tuple[float, float] | None = None
-    source: int | None = None
-    copy: int | None = None
-    has: int = 0
-    count: int = 1
+    source: int | None = None  # the copy that OUT follows there
+    copy: int | None = None  # the copy that says so
+    has: int = 0  # how many frames OUT has
+    count: int = 1  # how many it would have
     because: Because = Because.ALONE
 
     def joined_with(self, after: Reason) -> Reason:

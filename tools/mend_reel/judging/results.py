@@ -27,16 +27,15 @@ ORDER = list(FrameState)
 
 @dataclasses.dataclass(frozen=True)
 class FrameResult:
-    """A frame that is damaged in some copy: its number in the layout, its number in its track, its stretch, how it stands in OUT, in which
-    copies it is damaged, and its slices as the program listed them."""
+    """A frame that is damaged in some copy."""
 
-    number: int
-    order: int
+    number: int  # in the layout
+    order: int  # in its track
     frame: Frame
-    stretch: int
-    state: FrameState
-    damaged: tuple[int, ...]
-    slices: tuple[SliceReport, ...] = ()
+    stretch: int  # the number of its stretch
+    state: FrameState  # how it stands in OUT
+    damaged: tuple[int, ...]  # the copies in which it is damaged
+    slices: tuple[SliceReport, ...] = ()  # as the program listed them
 
 
 @dataclasses.dataclass

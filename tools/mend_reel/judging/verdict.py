@@ -23,18 +23,17 @@ PLAYED = (Content.SOUND, Content.VIDEO, Content.SUBTITLES)
 
 @dataclasses.dataclass
 class Verdict:
-    """Each reason why OUT may not be what was recorded, what else is to be said, what a kept digest says, and whether it is known how the
-    parts of the file hang together. A digest of a whole file decides; so does one of its frames that differ."""
+    """What is known of OUT. A digest of a whole file decides; so does one of its frames that differ."""
 
-    reasons: list[Reason]
-    notes: list[str]
+    reasons: list[Reason]  # why OUT may not be what was recorded
+    notes: list[str]  # what else is to be said
     sums: Sums
     counts: Counts
     results: Results
     has_damage: bool = False
     compared: Compared | None = None
     is_check: bool = False
-    is_walked: bool = True
+    is_walked: bool = True  # it is known how the parts of the file hang together
 
     @property
     def status(self) -> int:

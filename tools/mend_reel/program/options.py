@@ -20,13 +20,12 @@ END_OF_OPTIONS = "--"
 
 @dataclasses.dataclass(frozen=True)
 class Options:
-    """What is asked for. `out` is nothing where copies are only checked; `is_named` is whether it was named by -o. `maps` has the file of
-    unread places of some copies, by their numbers."""
+    """What is asked for."""
 
-    out: str | None
-    is_named: bool
+    out: str | None  # nothing where copies are only checked
+    is_named: bool  # OUT was named by -o
     copies: tuple[str, ...]
-    maps: Mapping[int, str]
+    maps: Mapping[int, str]  # the file of unread places of some copies, by their numbers
     force: bool
     keep: str | None
     pictures: str | None

@@ -37,16 +37,14 @@ WRITERS = {"report": page.write, "json": json_document.write}
 
 @dataclasses.dataclass
 class Made:
-    """What was made: the stretches in the order of OUT, what became of those that are not undamaged, by their numbers there, what lies
-    where in OUT when it is read again, where its parts do not hang together, its path while it is made, and the places of frames with
-    guessed slices that decode."""
+    """What was made."""
 
-    stretches: list[Stretch]
-    outcomes: list[Outcome]
-    out: Layout
-    flaws: list[structure.Found]
-    part: str | None = None
-    decoded: frozenset[int] = frozenset()
+    stretches: list[Stretch]  # in the order of OUT
+    outcomes: list[Outcome]  # what became of those that are not undamaged, by their numbers
+    out: Layout  # what lies where in OUT when it is read again
+    flaws: list[structure.Found]  # where its parts do not hang together
+    part: str | None = None  # its path while it is made
+    decoded: frozenset[int] = frozenset()  # the places of frames with guessed slices that decode
 
 
 class Outputs:

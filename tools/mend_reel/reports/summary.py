@@ -40,18 +40,17 @@ class CopySummary:
 
 @dataclasses.dataclass
 class Summary:
-    """One OUT, or one file that was checked: when, by which programs, how the tool was called, the copies, OUT (if it was made), what lies
-    where, the verdict, and what else is to be said."""
+    """One OUT, or one file that was checked."""
 
-    date: str
-    versions: Mapping[str, str]
-    command: Sequence[str]
+    date: str  # when
+    versions: Mapping[str, str]  # by which programs
+    command: Sequence[str]  # how the tool was called
     copies: Sequence[CopySummary]
-    out: CopySummary | None
-    layout: Layout
+    out: CopySummary | None  # if it was made
+    layout: Layout  # what lies where
     verdict: Verdict
     matched: Sequence[Matched] = ()
-    notes: Sequence[str] = ()
+    notes: Sequence[str] = ()  # what else is to be said
 
     def title(self) -> str:
         return self.out.name() if self.out else ", ".join(copy.name() for copy in self.copies[:4])
