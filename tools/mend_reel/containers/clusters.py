@@ -84,8 +84,7 @@ class Clusters:
         self._doubtful = False
 
     def read(self, content: int, end: int, is_cut: bool = False) -> list[Item]:
-        """Returns the items of a cluster's content, which follow each other and cover it. Where copies differ in what divides it, one
-        that matches the cluster's CRC-32 is read alone."""
+        """The items of a cluster, which follow each other and cover it. Where copies differ, one that passes its CRC-32 is read alone."""
         agreed = self._agreed(content, end)
         if agreed is not None:
             return agreed
@@ -234,8 +233,7 @@ class Clusters:
         return min(self.ffv1, key=lambda each: self._expected.get(each, 0.0))
 
     def _block(self, child: elements.Child, start: int | None, key: bool | None = None) -> list[Item]:
-        """Returns the items of a block: its head and its payload, in one if copies agree on the head and it is no FFV1. A Block in a group
-        has no flag of its own that it is a keyframe."""
+        """The items of a block: head and payload, in one if copies agree and it has no frame. In a group `key` says if it is a keyframe."""
         head = self._head(child, start)
         if head is None or child.is_cut:
             return [Item(child.place, child.end, Content.UNKNOWN, is_gap=child.is_cut)]

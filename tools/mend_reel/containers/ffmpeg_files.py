@@ -138,8 +138,7 @@ class Shown:
                 for spot, answers in zip(spots, zip(*judged))}
 
     def with_counted_times(self, frames: list[Frame]) -> list[Frame]:
-        """The frames of an AVI file have the times of their numbers, so where a container hides one those after it seem to come too early.
-        Where times do not rise, frames are counted anew."""
+        """The frames, counted anew where times do not rise: those of an AVI file come too early after one that a container hides."""
         steps = {track.number: track.step or 0.0 for track in self.base.tracks}
         counts: collections.Counter[int] = collections.Counter()
         counted, last, is_rising = [], {}, True

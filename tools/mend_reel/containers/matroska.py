@@ -139,8 +139,7 @@ class MatroskaReader:
         return end, frozenset(ends[end]) if ends and end in sure | sizes else NONE
 
     def _without_head(self, child: elements.Child) -> elements.Child | None:
-        """Returns the element that bytes which no copy divides are but for its head, if its children cover all the rest; or what an element
-        of an unknown ID is by its children."""
+        """The element that undivided bytes are but for its head, or what one of an unknown ID is, if its children cover all the rest."""
         if child.identity in TOP.known or not self.aligned.steps.take(child.place, elements.CAREFUL_STEPS):
             return None
         heads = [self.aligned.peek(number, child.place, 4) for number in self.aligned.numbers]
@@ -152,8 +151,7 @@ class MatroskaReader:
         return None
 
     def _guessed_tracks(self) -> list[Track]:
-        """Returns the tracks whose blocks are FFV1 frames by the footers of their slices, or by sizes alone as of slices without parities:
-        for files whose own description is lost."""
+        """The tracks whose blocks are FFV1 frames by the footers or the sizes of slices, for files whose own description is lost."""
         found: set[int] = set()
         described = {track.number for track in self.metadata.tracks if track.codec}
         for child in [child for child in self.top if child.identity == CLUSTER][:CLUSTERS_TO_GUESS_BY]:

@@ -31,8 +31,7 @@ def passes(piece: bytes) -> bool:
 
 
 def walk(read: Read, start: int, end: int) -> Iterator[tuple[int, int]]:
-    """Yields from where to where the slices of a frame lie, the last one first, as far as footers lead within a range. `read` gives so many
-    bytes at a place, fewer where there are no more."""
+    """Yields from where to where slices lie, the last first, as far as footers lead within a range. `read` gives bytes at a place."""
     for _ in range(MOST_SLICES):
         footer = read(end - FOOTER, FOOTER) if end - FOOTER >= start else b""
         size = int.from_bytes(footer[:3], "big") if len(footer) == FOOTER else 0
@@ -71,8 +70,7 @@ def first_within(copies: Iterable[Copy], first: int, last: int, end: int) -> int
 
 
 def share_slice(one: bytes, other: bytes) -> bool:
-    """Whether two versions of a frame are equal, or have in the same place a slice that is equal and passes. Bytes that are all the same
-    are what a lost sector leaves, so they say nothing."""
+    """Whether two versions of a frame are equal, or share a slice in one place that passes. Bytes of one value are a lost sector."""
     if len(one) != len(other) or is_uniform(one) or is_uniform(other):
         return False
     alike = itertools.takewhile(lambda piece: one[piece[1] - 8 : piece[1] - 5] == other[piece[1] - 8 : piece[1] - 5], slices(one))

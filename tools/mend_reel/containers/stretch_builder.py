@@ -22,8 +22,7 @@ class Stretches:
         return (start,) * len(self._sizes) if end <= self._least else tuple(start if end <= size else None for size in self._sizes)
 
     def add(self, kind: Kind, start: int, end: int, what: What, parts: Sequence[Frame] = (), sound: Sequence[tuple[int, int]] = ()) -> None:
-        """Adds what has a check of its own: a frame that no element's CRC-32 covers (one that is too long is plain), the content of an
-        element, a Configuration Record, or a frame of FLAC."""
+        """Adds what has a check of its own: a frame outside elements (if not too long), an element, a Configuration Record, FLAC."""
         self.frames += parts
         if kind is Kind.FRAME and end - start > MOST_STRETCH:
             self.plain(start, end, what)

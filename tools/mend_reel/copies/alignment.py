@@ -59,8 +59,7 @@ def align(one: Copy, other: Copy) -> Alignment:
 
 
 class Search:
-    """Follows the shift from place to place. Another one counts where more of the places that follow have it than the old one: a picture
-    that does not move has the same bytes in many places."""
+    """Follows the shift. Another one counts where more of the next places have it: still pictures have bytes alike in many places."""
 
     def __init__(self, one: Copy, other: Copy, step: int) -> None:
         self.one, self.other, self.step = one, other, step

@@ -220,8 +220,7 @@ def why_no_video(copies: Sequence[Copy]) -> Iterator[str]:
 
 
 def choose(files: Sequence[File], copies: Sequence[Copy], judge: Judge) -> File:
-    """The file that OUT is made of: the one for which most speaks. A file that shares nothing with any other serves only if it has several
-    copies, or alone has something that passes."""
+    """The file for which most speaks. One that shares nothing serves only with several copies, or if it alone has what passes."""
     shown = [file for file in files if file.has_video()]
     for file in shown:
         file.healths = {number: health(copies[number], at, file.layout, judge) for at, number in enumerate(file.numbers)}

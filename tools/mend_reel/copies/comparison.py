@@ -24,8 +24,7 @@ class Comparison:
     notes: list[str]
 
     def sources(self, listed: Sequence[Stretch], outcomes: Sequence[Outcome], judge: Judge) -> dict[int, Stretch]:
-        """The stretches of a list for whose bytes nothing vouches and which are to be taken from another copy than they were, by their
-        numbers: the program reported where copies differ."""
+        """The stretches that are to be taken from another copy than they were, as nothing vouches for them, by their numbers."""
         doubtful = {outcome.number for outcome in outcomes if not outcome.state.is_good()}
         chosen = preferred_copy.choose(dataclasses.replace(self.layout, stretches=list(listed)), self.inputs.files, self.reads,
                                        lambda frames: passing(frames, self.inputs.files, judge),

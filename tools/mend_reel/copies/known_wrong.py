@@ -98,8 +98,7 @@ def around(stretch: Stretch, number: int) -> tuple[int, int]:
 
 
 def has_lost_sector(stretch: Stretch, copies: Sequence[Copy], number: int, others: Iterable[int]) -> bool:
-    """Reports whether a copy has a run of one value of a sector's length in a stretch, or across an end of it, where another copy has more
-    values; or zeros in a last sector that is shorter."""
+    """Whether a copy has one value all over a sector at a stretch, or zeros in a short last one, where another has more values."""
     start, end = around(stretch, number)
     shifts = [(other, (stretch.places[other] or 0) - (stretch.places[number] or 0)) for other in others if other != number]
     for place in range(start, end, PIECE):

@@ -41,8 +41,7 @@ class FfmpegDecoder:
 
 
 def decoded(layout: Layout, stretches: Sequence[Stretch], outcomes: Sequence[Outcome], decodes: Decodes) -> frozenset[int]:
-    """The places of those frames with guessed slices for which no other checksum vouches, and that decode. `stretches` are in the order of
-    OUT, and `outcomes` have their numbers there."""
+    """The places of frames with guessed slices that decode, and that nothing else vouches for. Outcomes have numbers of stretches."""
     tracks, found = {track.number: track for track in layout.tracks}, set()
     for outcome in (outcome for outcome in outcomes if outcome.state is State.MISSING):
         stretch = stretches[outcome.number]

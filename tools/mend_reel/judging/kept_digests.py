@@ -43,8 +43,7 @@ class Compared(NamedTuple):
 
 
 def compare(digest_file: str, path: str, named: str, copies: Sequence[str], report: Report = unreported) -> Compared:
-    """What a digest file says of the file at a path, which is named so (OUT has another name while it is made). A line is meant if it has
-    that name, or that of a copy, or is the only one."""
+    """What a digest file says of a file that is named so. A line of that name is meant, or of that of a copy, or the only one."""
     if next(iter(lines(digest_file)), "").startswith(FRAMES_SIGN):
         return compare_frames(digest_file, path, named, report)
     entry = choose(list(filter(None, map(read_line, lines(digest_file)))), named, copies, digest_file)

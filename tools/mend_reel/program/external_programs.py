@@ -75,8 +75,7 @@ def version_of(program: str) -> str:
 
 
 def of_each(jobs: int, work: Callable[[Item], Found], items: Sequence[Item]) -> list[Found]:
-    """What is found for each item, in their order, so many at a time. Other programs do the work, or the system does, so threads serve.
-    After a fault or an interrupt nothing is begun any more."""
+    """What is found for each item, in order, so many at a time. Threads serve, as programs work. After a fault nothing is begun."""
     if jobs == 1 or len(items) < 2:
         return list(map(work, items))
     pool = concurrent.futures.ThreadPoolExecutor(min(jobs, len(items)))
