@@ -213,10 +213,6 @@ class Layout:
         return collections.Counter([*(track.content for track in self.tracks), *(found & BESIDE_TRACKS)])
 
 
-def unwatched(place: int) -> None:
-    """Takes no notice of where a copy is read."""
-
-
 @dataclasses.dataclass
 class Copy:
     """A copy: its path, its open file, and its length in bytes."""
@@ -226,7 +222,7 @@ class Copy:
     size: int
     form: str = ""  # the container: `matroska`, a name of FFmpeg's, or empty
     unread: Sequence[tuple[int, int]] = ()  # from where to where it could not be read, by a map
-    watch: Callable[[int], None] = unwatched  # is called with each place that is read
+    watch: Callable[[int], None] = lambda place: None  # is called with each place that is read
     container: Any = dataclasses.field(default=None, repr=False, compare=False)  # what ffprobe reported of it
     structure: Any = dataclasses.field(default=None, repr=False, compare=False)  # how its parts hang together
 

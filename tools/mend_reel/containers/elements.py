@@ -238,17 +238,14 @@ class Walk:
     def _confirms(self, child: Child) -> bool | None:
         return self.schema.confirms(self.aligned, child) if child.content < child.end and not child.is_cut else None
 
-    def _hides(self, child: Child) -> bool:
-        """Reports whether an element with a strong ID begins within a child of an unknown one: it is an opened element with a wrong ID."""
-        return any(each.identity in self.schema.strong and self._leads_on(each, False) for each in self._candidates(child.content, False))
-
     def _edges(self, place: int, live: bool) -> list[tuple[Cost, Child]]:
         """Returns the steps from a place, and what each costs."""
         candidates, reach = self._candidates(place, live), len(self.aligned.reaching(place))
         is_known = bool(candidates)
         if not is_known:
-            unknown = self._candidates(place, live, known=False)
-            candidates = [child for child in unknown if self._leads_on(child, live) and not self._hides(child)]
+            # One within which an element with a strong ID begins is an opened element with a wrong ID.
+            candidates = [child for child in self._candidates(place, live, known=False) if self._leads_on(child, live) and not any(
+                each.identity in self.schema.strong and self._leads_on(each, False) for each in self._candidates(child.content, False))]
         if len(candidates) == 1 and len(candidates[0].vouched) == reach and self._leads_on(candidates[0], live):
             return [((0, 0, 0), candidates[0])]
         # A known ID with a wrong bit leads on too.

@@ -53,17 +53,13 @@ TOP = elements.Schema(STRONG | {clusters.VOID, clusters.CRC}, STRONG, frozenset(
 def is_matroska(copies: Sequence[Copy]) -> bool:
     """Reports whether copies are Matroska files: one begins as an EBML file does, or has top-schema elements near its start."""
     header = EBML.to_bytes(4, "big")
-    if any(copy.read(0, 4) == header and document_type(copy) in DOCUMENT_TYPES for copy in copies):
-        return True
+    for data in (copy.read(0, WINDOW) for copy in copies):
+        fields = dict(ebml.children(dict(ebml.children(data)).get(EBML, b"")))
+        if data[:4] == header and ebml.text(fields.get(DOCUMENT_TYPE, b"")) in DOCUMENT_TYPES:
+            return True
     end = min(max((copy.size for copy in copies), default=0), FIRST_BYTES)
     children = elements.divide(AlignedCopies(copies), 0, end, TOP, Budget(end), is_cut=True)
     return sum(child.identity in STRONG and bool(child.vouched) for child in children) > 1
-
-
-def document_type(copy: Copy) -> str:
-    """Returns the document type that a copy's EBML header names, or nothing."""
-    header = dict(ebml.children(copy.read(0, WINDOW))).get(EBML, b"")
-    return ebml.text(dict(ebml.children(header)).get(DOCUMENT_TYPE, b""))
 
 
 class MatroskaReader:

@@ -128,18 +128,13 @@ def decide(cases: Sequence[Case], copies: Sequence[Copy], found: Sequence[KnownD
     for case in cases:
         case.narrow([number for number in case.candidates
                      if not found[number].damaged.touch(case.place(number), case.place(number) + case.stretch.size)], Because.UNDAMAGED)
-        case.narrow(by_vote(case, found), Because.MOST)
+        voters = [number for number in case.candidates if found[number].reads]
+        most = next((group for group in case.groups if 2 * sum(number in group for number in voters) > len(voters)), ())
+        case.narrow([number for number in voters if number in most], Because.MOST)
         case.narrow(sound, Because.SOUND)
         best = min(ranks[number] for number in case.candidates)
         case.narrow([number for number in case.candidates if ranks[number] == best], Because.HEALTHIEST)
         case.narrow(case.candidates[:1], Because.FIRST)
-
-
-def by_vote(case: Case, found: Sequence[KnownDamage]) -> list[int]:
-    """The candidates that have what more than half of those have whose container can be read."""
-    voters = [number for number in case.candidates if found[number].reads]
-    most = next((group for group in case.groups if 2 * sum(number in group for number in voters) > len(voters)), ())
-    return [number for number in voters if number in most]
 
 
 # ---- what is known to be wrong

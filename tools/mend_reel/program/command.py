@@ -14,7 +14,7 @@ from . import options, session
 from .kept_frames import refuse_kept
 from .output_files import INTERRUPTS, Files, WorkFolder, descriptor_of, holds_data, in_one_line, is_same, is_written_to, uninterrupted
 from .progress import Progress
-from .session import Finished, Outputs
+from .session import Outputs
 
 
 class Interrupted(BaseException):
@@ -70,17 +70,16 @@ def say(fault: BaseException, asked: options.Options, outputs: Outputs | None) -
         print(line, file=sys.stderr or io.StringIO(), flush=True)
 
 
-def finish(asked: options.Options, outputs: Outputs, finished: Finished) -> int:
+def finish(asked: options.Options, outputs: Outputs, lines: list[str], status: int, faults: list[Fault]) -> int:
     """Prints what was found, and then what could not be judged or written. Returns the exit status."""
     to_other = any(descriptor_of(path) == 1 for path in asked.made())
-    faults = list(finished.faults)
     try:
-        write_out(finished.lines, sys.stderr or io.StringIO() if to_other else sys.stdout)
+        write_out(lines, sys.stderr or io.StringIO() if to_other else sys.stdout)
     except Fault as fault:
         faults.append(fault)
     for fault in faults:
         say(fault, asked, outputs)
-    return 1 if faults else finished.status
+    return 1 if faults else status
 
 
 def main() -> int:
@@ -99,7 +98,7 @@ def main() -> int:
         outputs = Outputs(asked, files, work)
         finished = session.run(asked, work.path, outputs, progress)
         progress.end()
-        return finish(asked, outputs, finished)
+        return finish(asked, outputs, *finished)
     except (Fault, OSError, Interrupted) as fault:
         progress.end()
         say(fault, asked, outputs)

@@ -58,12 +58,6 @@ def find_ffv1restore() -> str:
     return found
 
 
-def need(name: str, why: str) -> None:
-    """Refuses to go on without a program of FFmpeg's."""
-    if not shutil.which(name):
-        raise Fault(f"there is no {name} on the PATH, and {why}")
-
-
 @functools.lru_cache(maxsize=None)
 def version_of(program: str) -> str:
     """The first line that a program prints of its version, or nothing."""

@@ -11,7 +11,7 @@ from collections.abc import Iterable, Sequence
 from typing import NamedTuple
 
 from ..model import Copy, Fault, Track
-from .external_programs import last_line, need, run
+from .external_programs import last_line, run
 from .output_files import in_one_line, is_same
 
 # How the samples of a record are named by FFmpeg: by the planes and shifts that `ffv1restore show` prints.
@@ -49,8 +49,8 @@ class Keeper:
         self.program, self.work, self.keep, self.pictures = program, work, keep, pictures
         self.notes: list[str] = []
         self.pixels: dict[int, str] = {}
-        if pictures:
-            need("ffmpeg", "it makes the pictures")
+        if pictures and not shutil.which("ffmpeg"):
+            raise Fault("there is no ffmpeg on the PATH, and it makes the pictures")
         for name in ("keep", "pictures"):
             (work / name).mkdir()
 

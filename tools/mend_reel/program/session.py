@@ -75,17 +75,9 @@ class Outputs:
         return faults
 
 
-@dataclasses.dataclass(frozen=True)
-class Finished:
-    """What there is to say at the end: the lines to print, the exit status, and what could not be judged or written."""
-
-    lines: Sequence[str]
-    status: int
-    faults: Sequence[Fault] = ()
-
-
-def run(options: Options, work: pathlib.Path, outputs: Outputs, progress: Progress) -> Finished:
-    """Makes OUT, or judges each file by itself. OUT has its place before anything else is written."""
+def run(options: Options, work: pathlib.Path, outputs: Outputs, progress: Progress) -> tuple[list[str], int, list[Fault]]:
+    """Makes OUT, or judges each file by itself. OUT has its place before anything else is written. Returns the lines to print, the exit
+    status, and what could not be judged or written."""
     summaries: list[Summary] = []
     faults: list[Fault] = []
     if options.out is not None:
@@ -100,7 +92,7 @@ def run(options: Options, work: pathlib.Path, outputs: Outputs, progress: Progre
     if not summaries:
         raise faults[0]
     faults += outputs.write_reports(summaries)
-    return Finished([line for summary in summaries for line in summary.lines()], max(each.verdict.status for each in summaries), faults)
+    return [line for summary in summaries for line in summary.lines()], max(each.verdict.status for each in summaries), faults
 
 
 def patch(source: pathlib.Path, out: str, stretches: Iterable[Stretch]) -> None:
@@ -165,10 +157,15 @@ class Session:
         named = {each for each, suffixes in SUFFIXES.items() if suffix in suffixes}
         self.notes += [*arrangement.notes(copies), *comparison.notes]
         self.notes += [f"OUT is a file of {form}, though its name ends with {suffix}"] if named and form and form not in named else []
+        compared, rotten, path = None, arrangement.rotten, made.part or self.options.copies[0]
+        if self.options.digest is not None:
+            self.progress.begin("comparing with the digest")
+            compared = kept_digests.compare(self.options.digest, path, self.options.out or path, self.options.copies, self.progress.at)
+        if self.options.out is None:
+            rotten = copy_health.rotten(layout, [copy_health.health(copies[0], 0, layout, self.judge)])
         verdict = judge(Evidence(
             layout, made.stretches, made.outcomes, made.out, claims, arrangement.matched, arrangement.left, inputs.numbers, others,
-            bool(comparison.notes), made.decoded, self.compared(made.part or self.options.copies[0]), self.options.out is None, made.flaws,
-            self.rotten(arrangement, layout, inputs)))
+            bool(comparison.notes), made.decoded, compared, self.options.out is None, made.flaws, rotten))
         self.keep_frames(layout, inputs, made, verdict)
         summary = self.summary(copies, arrangement, layout, verdict, made.part)
         if self.outputs.out is not None:
@@ -192,19 +189,6 @@ class Session:
             os.close(there.file)
         if 0 not in left and len(left) < len(copies):
             raise Fault(f"{path} is a recording of the same video as the copies (-o {path} overwrites it)")
-
-    def compared(self, path: str) -> kept_digests.Compared | None:
-        """What a kept digest says of OUT, or of the file that is checked."""
-        if self.options.digest is None:
-            return None
-        self.progress.begin("comparing with the digest")
-        return kept_digests.compare(self.options.digest, path, self.options.out or path, self.options.copies, self.progress.at)
-
-    def rotten(self, arrangement: Arrangement, layout: Layout, inputs: Inputs) -> set[int]:
-        """The frames that were damaged before the file was written, by their numbers: with --check, and where other files are copies."""
-        if self.options.out is not None:
-            return arrangement.rotten
-        return copy_health.rotten(layout, [copy_health.health(inputs.files[0], 0, layout, self.judge)])
 
     # ---- OUT
 

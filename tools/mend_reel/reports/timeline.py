@@ -5,7 +5,6 @@ import bisect
 import enum
 import html
 import itertools
-from collections.abc import Iterator
 
 from ..judging.reasons import time_code
 from ..judging.results import FrameState
@@ -132,7 +131,12 @@ class Timeline:
                 parts.append(self.row(copy, kind, name, top))
                 top += (BAR if kind == self.FRAMES else THIN) + 2
             top += GAP
-        parts += self.ticks(top)
+        # Times and byte places under the rows.
+        for part in range(TICKS):
+            x, anchor = LEFT + WIDTH * part // (TICKS - 1), "start" if part == 0 else "end" if part == TICKS - 1 else "middle"
+            time, place = self.time_at(COLUMNS * part // (TICKS - 1)), f"{self.size * part // (TICKS - 1):,}"
+            parts.append(f'<text x="{x}" y="{top + 8}" text-anchor="{anchor}">{time}</text>'
+                         f'<text class="s" x="{x}" y="{top + 24}" text-anchor="{anchor}">byte {place}</text>')
         return (f'<svg viewBox="0 -2 {LEFT + WIDTH + RIGHT} {top + 40}" role="img" aria-label="Damage along the file">'
                 + "".join(parts) + "</svg>")
 
@@ -161,12 +165,3 @@ class Timeline:
             return f"byte {place}"
         at = min(bisect.bisect_left(self.results.places, place), len(frames) - 1)
         return time_code(frames[at].time)
-
-    def ticks(self, top: int) -> Iterator[str]:
-        """Times and byte places under the rows."""
-        for part in range(TICKS):
-            column = COLUMNS * part // (TICKS - 1)
-            x = LEFT + WIDTH * part // (TICKS - 1)
-            anchor = "start" if part == 0 else "end" if part == TICKS - 1 else "middle"
-            yield f'<text x="{x}" y="{top + 8}" text-anchor="{anchor}">{self.time_at(column)}</text>'
-            yield f'<text class="s" x="{x}" y="{top + 24}" text-anchor="{anchor}">byte {self.size * part // (TICKS - 1):,}</text>'
