@@ -5,8 +5,8 @@ import dataclasses
 from collections.abc import Sequence
 
 from ..containers import ebml
-from ..model import Copy, Frame, Kind, Layout
 from ..containers.own_checks import has_only_sizes, is_uniform, passes, slices
+from ..model import Copy, Frame, Kind, Layout
 from .frame_checks import Judge
 
 MOST_SAMPLES = 16

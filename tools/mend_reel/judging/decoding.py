@@ -4,8 +4,8 @@ from __future__ import annotations
 
 from collections.abc import Callable, Sequence
 
-from ..containers.own_checks import GOLOMB_RICE, coder_of
 from ..containers.ffprobe import can_ask
+from ..containers.own_checks import GOLOMB_RICE, coder_of
 from ..model import Frame, Layout, Outcome, State, Stretch, Track
 from ..program.external_programs import run
 from .results import is_guessed
@@ -32,8 +32,7 @@ class FfmpegDecoder:
             return False
         interval = f"{max(frame.time - BEFORE, 0):.3f}%{frame.time + AFTER:.3f}"
         done = run("ffprobe", "-v", "warning", "-threads", "1", "-protocol_whitelist", "file", "-select_streams", "v",
-                   "-read_intervals", interval,
-                   "-show_entries", ENTRIES, "-of", "csv=p=0", "file:" + self.out)
+                   "-read_intervals", interval, "-show_entries", ENTRIES, "-of", "csv=p=0", "file:" + self.out)
         shown = (line.split(",") for line in done.stdout.decode("ascii", "replace").splitlines())
         found = any(len(words) > 1 and words[0].isdigit() and 0 <= frame.place - int(words[0]) <= HEADER and words[1] == str(frame.size)
                     for words in shown)

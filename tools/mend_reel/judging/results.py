@@ -165,9 +165,6 @@ class Results:
 
     # ---- stretches
 
-    def state(self, number: int) -> State:
-        return self.states[number]
-
     def find_state(self, number: int) -> State:
         """The state of a stretch: undamaged if not listed. What one copy alone has was read where others could not be, by their maps."""
         stretch, outcome = self.stretches[number], self.outcomes.get(number)

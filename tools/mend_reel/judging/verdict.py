@@ -146,7 +146,7 @@ def of_flaws(evidence: Evidence, found: Iterable[Reason]) -> Iterator[Reason]:
 def of_stretches(results: Results) -> Iterator[Reason]:
     """The stretches of OUT that are not whole, woven, agreed or read; what is alone stands apart."""
     for number, stretch in enumerate(results.stretches):
-        state = results.state(number)
+        state = results.states[number]
         if state is not State.ALONE and not results.is_vouched(number):
             lost = [result for result in results.within(number) if result.state is FrameState.LOST and result.number not in results.rotten]
             yield from of_stretch(stretch, state, lost, results.source(stretch))

@@ -101,7 +101,7 @@ def listed(results: Results) -> Iterator[Made]:
 
 
 def stretch_of(results: Results, number: int) -> Made:
-    stretch, outcome, state = results.stretches[number], results.outcomes.get(number), results.state(number)
+    stretch, outcome, state = results.stretches[number], results.outcomes.get(number), results.states[number]
     what, marks = stretch.what, outcome.marks if outcome else "-" * len(stretch.places)
     return {
         "stretch": number + 1, "content": what.content.value, "track": what.track, "checksum": stretch.kind.value, "state": state.value,
