@@ -70,8 +70,8 @@ class Values(unittest.TestCase):
 
     def test_values(self) -> None:
         self.assertEqual([ebml.number(each) for each in (b"", b"\x01\x02", b"\xff" * 8, b"\x01" * 9)], [0, 258, 2**64 - 1, 0])
-        self.assertEqual([ebml.real(each) for each in (struct.pack(">f", 1.5), struct.pack(">d", -2.25), b"", b"123")], [1.5, -2.25, 0.0, 0.0])
-        self.assertEqual([ebml.text(each) for each in (b"matroska", b"webm\0\0x", b"\xff")], ["matroska", "webm", "\ufffd"])
+        self.assertEqual([ebml.Fields(made.element(0x4489, each)).real(0x4489) for each in (struct.pack(">f", 1.5), struct.pack(">d", -2.25), b"", b"123")], [1.5, -2.25, 0.0, 0.0])
+        self.assertEqual([ebml.Fields(made.element(0x4282, each)).text(0x4282) for each in (b"matroska", b"webm\0\0x", b"\xff")], ["matroska", "webm", "\ufffd"])
 
 
 if __name__ == "__main__":

@@ -99,13 +99,24 @@ def number(content: bytes) -> int:
     return int.from_bytes(content, "big") if len(content) <= 8 else 0
 
 
-def real(content: bytes) -> float:
-    """Returns a floating-point number; 0 where its length is none of RFC 8794."""
-    if len(content) == 4:
-        return float(struct.unpack(">f", content)[0])
-    return float(struct.unpack(">d", content)[0]) if len(content) == 8 else 0.0
+class Fields(dict):
+    """The contents of a master's children by their IDs, the last one of each."""
 
+    def __init__(self, content: bytes) -> None:
+        super().__init__(children(content))
 
-def text(content: bytes) -> str:
-    """Returns a string up to its first zero byte."""
-    return content.split(b"\0", 1)[0].decode(errors="replace")
+    def inside(self, identity: int) -> Fields:
+        return Fields(self.get(identity, b""))
+
+    def number(self, identity: int) -> int:
+        """An unsigned number; 0 where it has no bytes or too many."""
+        return number(self.get(identity, b""))
+
+    def real(self, identity: int) -> float:
+        """A floating-point number; 0 where its length is none of RFC 8794."""
+        content = self.get(identity, b"")
+        return float(struct.unpack(">f" if len(content) == 4 else ">d", content)[0]) if len(content) in (4, 8) else 0.0
+
+    def text(self, identity: int) -> str:
+        """A string up to its first zero byte."""
+        return self.get(identity, b"").split(b"\0", 1)[0].decode(errors="replace")

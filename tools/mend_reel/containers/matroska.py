@@ -53,10 +53,9 @@ TOP = elements.Schema(STRONG | {clusters.VOID, clusters.CRC}, STRONG, frozenset(
 def is_matroska(copies: Sequence[Copy]) -> bool:
     """Reports whether copies are Matroska files: one begins as an EBML file does, or has top-schema elements near its start."""
     header = EBML.to_bytes(4, "big")
-    for data in (copy.read(0, WINDOW) for copy in copies):
-        fields = dict(ebml.children(dict(ebml.children(data)).get(EBML, b"")))
-        if data[:4] == header and ebml.text(fields.get(DOCUMENT_TYPE, b"")) in DOCUMENT_TYPES:
-            return True
+    starts = [copy.read(0, WINDOW) for copy in copies]
+    if any(data[:4] == header and ebml.Fields(data).inside(EBML).text(DOCUMENT_TYPE) in DOCUMENT_TYPES for data in starts):
+        return True
     end = min(max((copy.size for copy in copies), default=0), FIRST_BYTES)
     children = elements.divide(AlignedCopies(copies), 0, end, TOP, Budget(end), is_cut=True)
     return sum(child.identity in STRONG and bool(child.vouched) for child in children) > 1
@@ -214,8 +213,8 @@ class MatroskaReader:
         sound, size = set(), min(child.end - child.content, WINDOW)
         for number in self.aligned.numbers:
             data = self.copies[number].read(child.content, size)
-            fields = dict(ebml.children(data))
-            if ebml.divides(data) and IN_HEADER.issuperset(fields) and ebml.text(fields.get(DOCUMENT_TYPE, b"")) in DOCUMENT_TYPES:
+            fields = ebml.Fields(data)
+            if ebml.divides(data) and IN_HEADER.issuperset(fields) and fields.text(DOCUMENT_TYPE) in DOCUMENT_TYPES:
                 sound.add(number)
         return frozenset(sound)
 

@@ -36,49 +36,39 @@ class Metadata:
 
 def read(contents: Mapping[int, bytes]) -> Metadata:
     """Returns what the contents of some top-level elements say, by their IDs."""
-    entries = [dict(ebml.children(content)) for identity, content in ebml.children(contents.get(TRACKS, b"")) if identity == TRACK]
+    entries = [ebml.Fields(content) for identity, content in ebml.children(contents.get(TRACKS, b"")) if identity == TRACK]
     tracks = [track for track in map(read_track, entries[:MOST_TRACKS]) if track]
-    numbers = {ebml.number(entry.get(TRACK_UID, b"")): ebml.number(entry.get(TRACK_NUMBER, b"")) for entry in entries}
-    information = dict(ebml.children(contents.get(INFORMATION, b"")))
-    scale = ebml.number(information.get(SCALE, b"")) or Metadata.scale
-    duration = ebml.real(information.get(DURATION, b"")) * scale / NANOSECONDS
-    counts = read_counts(contents.get(TAGS, b""), numbers, ebml.text(information.get(WRITER, b"")))
-    index = read_index(contents.get(CUES, b""), scale)
+    information = ebml.Fields(contents.get(INFORMATION, b""))
+    numbers = {entry.number(TRACK_UID): entry.number(TRACK_NUMBER) for entry in entries}
+    scale = information.number(SCALE) or Metadata.scale
+    duration = information.real(DURATION) * scale / NANOSECONDS
+    counts, index = read_counts(contents.get(TAGS, b""), numbers, information.text(WRITER)), read_index(contents.get(CUES, b""), scale)
     return Metadata(tracks, scale, Claims(duration if 0 < duration < float("inf") else None, counts, index))
 
 
-def read_track(entry: Mapping[int, bytes]) -> Track | None:
+def read_track(entry: ebml.Fields) -> Track | None:
     """Returns the track of a TrackEntry. A track whose frames are stored in another form (compressed, encrypted) is no FFV1 track here."""
-    number, codec, private = ebml.number(entry.get(TRACK_NUMBER, b"")), ebml.text(entry.get(CODEC, b"")), entry.get(PRIVATE, b"")
-    if not number:
-        return None
+    number, codec, private, is_encoded = entry.number(TRACK_NUMBER), entry.text(CODEC), entry.get(PRIVATE, b""), ENCODINGS in entry
     is_windows = codec == WINDOWS_CODEC and private[16:20].upper() == b"FFV1"
-    video = dict(ebml.children(entry.get(VIDEO, b"")))
-    sound = dict(ebml.children(entry.get(SOUND, b"")))
-    rate = ebml.real(sound.get(RATE, b"")) * (ebml.number(sound.get(CHANNELS, b"")) or 1) * ebml.number(sound.get(BITS, b"")) / 8
-    step = ebml.number(entry.get(STEP, b"")) / NANOSECONDS
-    return Track(number=number, content=BY_TYPE.get(ebml.number(entry.get(TRACK_TYPE, b"")), Content.UNKNOWN), codec=codec,
-                 is_ffv1=(codec == "V_FFV1" or is_windows) and ENCODINGS not in entry,
-                 width=ebml.number(video.get(WIDTH, b"")), height=ebml.number(video.get(HEIGHT, b"")),
-                 record=private[WINDOWS_HEADER:] if is_windows else private, step=step or None,
-                 is_encoded=(codec == "V_FFV1" or is_windows) and ENCODINGS in entry,
-                 is_flac=codec == "A_FLAC" and ENCODINGS not in entry,
-                 byte_rate=rate if codec.startswith("A_PCM") and 0 < rate < float("inf") else 0.0)
+    is_ffv1, video, sound = codec == "V_FFV1" or is_windows, entry.inside(VIDEO), entry.inside(SOUND)
+    rate = sound.real(RATE) * (sound.number(CHANNELS) or 1) * sound.number(BITS) / 8
+    return Track(number, BY_TYPE.get(entry.number(TRACK_TYPE), Content.UNKNOWN), codec, is_ffv1 and not is_encoded, video.number(WIDTH),
+                 video.number(HEIGHT), private[WINDOWS_HEADER:] if is_windows else private, entry.number(STEP) / NANOSECONDS or None,
+                 rate if codec.startswith("A_PCM") and 0 < rate < float("inf") else 0.0, is_ffv1 and is_encoded,
+                 codec == "A_FLAC" and not is_encoded) if number else None
 
 
 @functools.lru_cache(maxsize=8)
 def read_index(content: bytes, scale: int) -> Mapping[int, Sequence[float]]:
     """Returns the times in an index, by track. Copies mostly have the same one, so it is read once."""
     index: dict[int, list[float]] = {}
-    for identity, point in ebml.children(content):
-        if identity != POINT:
-            continue
+    for point in (value for identity, value in ebml.children(content) if identity == POINT):
         time: float | None = None
         for field, value in ebml.children(point):
             if field == POINT_TIME:
                 time = ebml.number(value) * scale / NANOSECONDS
             elif field == POINT_TRACK_PLACES and time is not None:
-                index.setdefault(ebml.number(dict(ebml.children(value)).get(POINT_TRACK, b"")), []).append(time)
+                index.setdefault(ebml.Fields(value).number(POINT_TRACK), []).append(time)
     return index
 
 
@@ -86,14 +76,11 @@ def read_counts(content: bytes, numbers: Mapping[int, int], writer: str) -> dict
     """Returns how many frames each track has by the statistics in the tags, which name tracks by their UIDs. Those of another program than
     the one that wrote the file last are of the file that it read."""
     counts: dict[int, int] = {}
-    for identity, tag in ebml.children(content):
-        if identity != TAG:
-            continue
-        fields = list(ebml.children(tag))
-        targets = [ebml.number(dict(ebml.children(value)).get(TAG_UID, b"")) for field, value in fields if field == TARGETS]
-        simple = [dict(ebml.children(value)) for field, value in fields if field == SIMPLE_TAG]
-        named = {ebml.text(each.get(TAG_NAME, b"")): ebml.text(each.get(TAG_TEXT, b"")) for each in simple}
+    for tag in (value for identity, value in ebml.children(content) if identity == TAG):
+        fields = [(field, ebml.Fields(value)) for field, value in ebml.children(tag)]
+        named = {each.text(TAG_NAME): each.text(TAG_TEXT) for field, each in fields if field == SIMPLE_TAG}
         count = named.get("NUMBER_OF_FRAMES", "")
         if count.isascii() and count.isdigit() and len(count) < 19 and named.get("_STATISTICS_WRITING_APP") == writer:
-            counts.update({numbers[uid]: int(count) for uid in targets if uid in numbers})
+            uids = [each.number(TAG_UID) for field, each in fields if field == TARGETS]
+            counts.update({numbers[uid]: int(count) for uid in uids if uid in numbers})
     return counts
