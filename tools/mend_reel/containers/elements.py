@@ -17,7 +17,7 @@ from ..model import Copy
 from . import ebml
 
 WINDOW = 1024
-FEWEST_STEPS, BYTES_PER_STEP = 1 << 14, 512
+FEWEST_STEPS, BYTES_PER_STEP = 1 << 15, 512
 Numbers = frozenset[int]
 NONE: Numbers = frozenset()
 PIECE = 1 << 16
@@ -32,8 +32,8 @@ class Steps:
     """How many heads of elements may be read up to a place in a pass over a file, so that a file of heads alone takes no longer than one
     of frames. A good file has far fewer than it may have; what lies after the last head that may be read is not divided."""
 
-    def __init__(self) -> None:
-        self.used = 0
+    def __init__(self, fewest: int = FEWEST_STEPS) -> None:
+        self.used, self.fewest = 0, fewest
 
     def take(self, place: int, count: int = 1) -> bool:
         """Takes some steps at a place, and reports whether they were left."""
@@ -41,7 +41,7 @@ class Steps:
         return self.are_left(place)
 
     def are_left(self, place: int) -> bool:
-        return self.used <= FEWEST_STEPS + place // BYTES_PER_STEP
+        return self.used <= self.fewest + place // BYTES_PER_STEP
 
 
 class AlignedCopies:

@@ -23,7 +23,7 @@ MATROSKA_MASTERS = frozenset({0x1654AE6B, 0x1549A966, 0x1C53BB6B, 0x1254C367, 0x
 CHAPTER_DISPLAY, ANY_ID = 0x80, b"\xec"
 MATROSKA_TEXTS = frozenset({0x45A3, 0x4487, 0x447A, 0x447B, 0x63CA, 0x467E, 0x466E, 0x4660, 0x437C, 0x437D, 0x5654, 0x7BA9, 0x4D80, 0x5741,
                             0x536E, 0x86, 0x258688, 0x22B59C, 0x22B59D})
-MOST_DEPTH, MOST_TABLE = 16, 1 << 26
+MOST_DEPTH, MOST_TABLE, FEWEST_PARTS = 16, 1 << 26, 1 << 14
 
 
 class Flaw(enum.Enum):
@@ -102,7 +102,7 @@ class Walk:
     def __init__(self, copy: Copy, head: Callable[[Copy, int, int, int], Part | None], masters: Set[bytes] = frozenset(), last: bytes = b"",
                  least: int = 1) -> None:
         self.copy, self.head, self.masters, self.last, self.least = copy, head, masters, last, least
-        self.made, self.steps, self.has_last, self.stop = Structure(), Steps(), False, None
+        self.made, self.steps, self.has_last, self.stop = Structure(), Steps(FEWEST_PARTS), False, None
 
     def parts(self, place: int, end: int, depth: int = 0) -> Iterator[Part]:
         """Yields the parts between two places, each before those within it."""
