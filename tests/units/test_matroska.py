@@ -302,6 +302,12 @@ class AllCopiesDamaged(Case):
         self.assertEqual(frames(found), frames(layout(file)))
         self.assertEqual([(track.number, track.is_ffv1) for track in found.tracks], [(1, True)])
 
+    def test_first_sector_before_frames_of_many_slices(self) -> None:
+        blocks = [made.cluster(40 * at, made.block(1, 0, made.frame(400 * at, *range(20, 320))), made.block(2, 0, made.noise(at, 300))) for at in range(3)]
+        file = made.ebml_header() + made.element(made.SEGMENT, made.information(120), made.tracks(), *blocks)
+        found = self.lost(file, (0, bytes(file.index(made.CLUSTER.to_bytes(4, "big")))))
+        self.assertEqual((frames(found), len(found.frames)), (frames(layout(file)), 3))
+
     def test_lost_description_of_frames_without_parities(self) -> None:
         """The first sector is lost in all copies: tracks are known by the sizes of slices, which have nothing else. Silence is no frame."""
         frames = [made.noise(number, 300) + (300).to_bytes(3, "big") + made.noise(number, 200) + (200).to_bytes(3, "big") for number in range(8)]
