@@ -3,6 +3,7 @@ from __future__ import annotations
 
 import html
 import itertools
+import pkgutil
 from collections.abc import Iterable, Sequence
 from typing import Any, TextIO
 
@@ -14,18 +15,7 @@ from .summary import CopySummary, Summary
 from .timeline import COLOURS, OF_COPY, OF_OUT, WORDS, Shade, Timeline
 
 MOST_ROWS, MOST_SLICES = 1000, 24
-STYLE = """:root{color-scheme:light}body{font:16px/1.5 system-ui,sans-serif;color:#1a1a1a;background:#fff;max-width:1100px;margin:2em auto;
-padding:0 1em}h1{font-size:1.5em;overflow-wrap:anywhere;margin-bottom:.3em}h2{font-size:1.2em;margin-top:2em}
-.verdict{font-size:1.15em;padding:.6em .9em;border-left:.5em solid;margin:1em 0}.good{border-color:#3f7d3a;background:#eef4ec}
-.bad{border-color:#8c1c13;background:#f8ecea}svg{width:100%;height:auto}svg text{font:12px system-ui,sans-serif;fill:#1a1a1a}
-svg text.s{font-size:10px;fill:#555}table{border-collapse:collapse}th,td{text-align:left;vertical-align:top;padding:.25em .8em;
-border-bottom:1px solid #ccc}td.n,th.n{text-align:right;font-variant-numeric:tabular-nums;white-space:nowrap}td.k{white-space:nowrap}
-td.w,li{overflow-wrap:anywhere}
-.side{display:flex;flex-wrap:wrap;gap:2em;align-items:flex-start}.wide{width:100%}.key{display:inline-block;width:1em;height:1em;
-margin:0 .4em 0 1.2em;border:1px solid #444;vertical-align:-.15em}code{font-size:.85em;overflow-wrap:anywhere}
-code.sha{font-size:.72em}th[scope=row]{white-space:nowrap}
-footer{margin-top:3em;color:#555;font-size:.9em}svg,.key,.verdict{print-color-adjust:exact;-webkit-print-color-adjust:exact}
-tr,svg{break-inside:avoid}@media print{body{margin:0;max-width:none;font-size:11pt}}"""
+STYLE = (pkgutil.get_data(__package__, "page.css") or b"").decode().replace("\n", "")
 SUMS = {"verified": "pass a checksum", "agreed": "have none, and several copies agree",
         "read": "have none, and only that copy could be read there", "alone": "have none, and one copy alone has them",
         "open": "are damaged, or differ and nothing decides"}
