@@ -22,13 +22,13 @@ Spot = tuple[int, int, int]
 
 
 def reads(copy: Copy) -> bool:
-    """Whether a copy's container can be read, and shows frames that lie in it."""
-    return bool(contain(copy).found())
+    """Whether a copy's container can be read, and shows frames that lie in it: its parts lead to its tables."""
+    return structure.read(copy).table is None and bool(contain(copy).found())
 
 
 def frames(copy: Copy) -> list[Frame]:
-    """The frames of one copy alone, in the order of their places."""
-    return layout([copy]).frames
+    """The frames that one copy alone shows, in the order of their places."""
+    return layout([copy]).frames if reads(copy) else []
 
 
 def layout(copies: Sequence[Copy], judge: Judge | None = None, records: bool = True) -> Layout:
