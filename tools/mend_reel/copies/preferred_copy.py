@@ -151,7 +151,7 @@ def note(case: Case, copies: Sequence[Copy], found: Sequence[KnownDamage]) -> No
 
 
 def mark_differences(case: Case, copies: Sequence[Copy], right: int, wrong: Sequence[int], found: Sequence[KnownDamage]) -> None:
-    """Marks the sectors of the first and last byte of each piece of a sector's size in which copies differ from one that is right."""
+    """Marks the sectors in which copies with equal bytes differ from one that is right."""
     for offset in range(0, case.stretch.size, PIECE):
         size = min(PIECE, case.stretch.size - offset)
         ours, theirs = (copies[number].read(case.place(number) + offset, size) for number in (right, wrong[0]))
@@ -159,5 +159,4 @@ def mark_differences(case: Case, copies: Sequence[Copy], right: int, wrong: Sequ
             pairs = zip(ours[start : start + SECTOR], theirs[start : start + SECTOR])
             unequal = [offset + start + at for at, (one, other) in enumerate(pairs) if one != other]
             for number in wrong if unequal else ():
-                for at in (unequal[0], unequal[-1]):
-                    found[number].damaged.mark(case.place(number) + at, case.place(number) + at + 1)
+                found[number].damaged.mark(case.place(number) + unequal[0], case.place(number) + unequal[-1] + 1)
