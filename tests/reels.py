@@ -292,7 +292,7 @@ def copy_of(numbers, folder, reel, name, is_first):
     if 0.2 <= kind < 0.3:
         del content[int(len(content) * numbers.uniform(0.3, 0.95)) :]
         about += " cut"
-    elif 0.3 <= kind < 0.4 and not is_first:
+    elif 0.3 <= kind < 0.4 and (not is_first or reel.suffix == ".mov"):
         place = numbers.randrange(len(content) // 4, len(content) * 3 // 4)
         del content[place : place + numbers.choice([1, 512, 4096])]
         about, is_same = about + " bytes lost in the middle", False
