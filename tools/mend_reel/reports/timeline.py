@@ -77,9 +77,11 @@ class Timeline:
         # Of copies of OUT's file only what they lack was counted so far.
         for copy, kind in itertools.product(self.marks_of, self.kinds):
             self.rows[copy, kind].total = list(map(int.__add__, self.rows[copy, kind].total, self.rows[None, kind].total))
-        for copy, places in others.items():
-            for at in places if (copy, self.FRAMES) in self.rows else ():
-                self.rows[copy, self.FRAMES].count(self.span_of(summary.layout.frames[at]))
+        for copy, at in ((copy, at) for copy, places in others.items() if (copy, self.FRAMES) in self.rows for at in places):
+            self.rows[copy, self.FRAMES].count(self.span_of(summary.layout.frames[at]))
+        self.add_damaged_frames()
+
+    def add_damaged_frames(self) -> None:
         for result in self.results.frames.values():
             self.rows[None, self.FRAMES].damage(self.span_of(result.frame), OF_STATE[result.state])
             for copy in (copy for copy in result.damaged if (copy, self.FRAMES) in self.rows):
@@ -101,7 +103,8 @@ class Timeline:
         if stretch.kind is not Kind.FRAME and stretch.what.content not in (Content.FRAME, Content.VIDEO):
             spans.append((kind, span))
             damaged = {copy for result in self.results.within(number) for copy in result.damaged} if outcome and stretch.parts else set()
-            self.damage(kind, span, outcome, damaged) if outcome else None
+            if outcome:
+                self.damage(kind, span, outcome, damaged)
         lacking = self.marks_of.items() if None in stretch.places else ()
         lacking = [copy for copy, own in lacking if all(stretch.places[at] is None for at in own)]
         for row, each in spans:
