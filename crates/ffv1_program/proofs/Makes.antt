@@ -9,14 +9,11 @@ use Rattle.ffv1_program.specs.Splicing.{IsUnmade}
 abbrev pub IsAfter : (done result : Result Bool CliFault) (Kept : Type 0) → Type 0
 IsAfter done result Kept = IfErr result (λ fault. ((done ≡ Err fault) × Kept) ⊎ IsUnmade (λ value. done ≡ Ok value) fault)
 
+-- what holds where the file was made holds beside what was done
 pub made_ok : (done result : Result Bool CliFault) (Done : Bool → Type 0) (Made : Type 0) → IfOk result (λ value. (done ≡ Ok value) × Made)
-    → IfOk done Done → IfOk result Done
-made_ok done (Ok value) Done Made is did = subst (λ done. IfOk done Done) is.0 did
+    → IfOk done Done → IfOk result (λ value. Made × Done value)
+made_ok done (Ok value) Done Made is did = (is.1, subst (λ done. IfOk done Done) is.0 did)
 made_ok done (Err fault) Done Made is did = tt
-
-pub made_is : (done result : Result Bool CliFault) (Made : Type 0) → IfOk result (λ value. (done ≡ Ok value) × Made) → IfOk result (λ _. Made)
-made_is done (Ok value) Made is = is.1
-made_is done (Err fault) Made is = tt
 
 pub made_err : (done result : Result Bool CliFault) (Kept : Type 0) (Refused Stops : CliFault → Type 0) (Done : Bool → Type 0) → IsAfter done result Kept
     → IfOk done Done → IfErr done Stops → IfErr result (λ fault. Refused fault ⊎ Stops fault ⊎ IsUnmade Done fault)

@@ -1,12 +1,9 @@
 -- What a command that says that a file was not read says of its sources.
-use Rattle.std.proofs.Common.{◌≡◌, Bool, Option, List, ℕ, Result, Ok, Err, IfErr, inl, inr, subst, sym}
+use Rattle.std.proofs.Common.{Bool, List, ℕ, Result, Ok, Err, IfErr, inl, inr, subst, sym}
 use Rattle.ffv1_devices.specs.Logs.{ReadLog, WriteLog}
-use Rattle.ffv1_devices.specs.Exact.{StopsReading}
 use Rattle.ffv1_hold.specs.FileFaults.{ReadsFile}
-use Rattle.ffv1_hold.specs.declared.file_fault.HoldFileFault.{HoldFileFault}
 use Rattle.ffv1_hold.specs.declared.file_fault.HoldFileFault.TheVariants as files
 use Rattle.ffv1_commands.specs.Devices.{IsUnread}
-use Rattle.ffv1_commands.specs.Fault.{of_hold_file}
 use Rattle.ffv1_commands.specs.Holdings.{HoldingStops}
 use Rattle.ffv1_commands.specs.ChainText.{ReportsChain}
 use Rattle.ffv1_commands.specs.ShowText.{ReportsShow}
@@ -19,7 +16,7 @@ use Rattle.ffv1_commands.specs.declared.fault.CliFault.{CliFault}
 use Rattle.ffv1_commands.specs.declared.fault.CliFault.TheVariants as faults
 use Rattle.ffv1_commands.specs.declared.path.CommandPath.{CommandPath}
 use Rattle.ffv1_commands.specs.declared.path.CommandPath.TheVariants as paths
-use Rattle.ffv1_program.specs.Unread.{IfUnread, IsUnscanned, IsUndecoded}
+use Rattle.ffv1_program.specs.Unread.{IfUnread, SomeSource, IsUnscanned, IsUndecoded}
 
 pub unread_as : {T : Type 0} (P Q : CommandPath → Type 0) (r : Result T CliFault) → ((path : CommandPath) → P path → Q path)
     → IfErr r (IfUnread P) → IfErr r (IfUnread Q)
@@ -71,21 +68,21 @@ module _ (a b : ReadLog) (o o' x y : WriteLog) where
 module _ {Device : Type 0} (is_at : List ℕ → Device → Type 0) (log : Device → ReadLog) (first second : List ℕ) (a b c d : Device) (at : is_at first a)
     (at_too : is_at second c) where
   pub scan_unread : (x y : WriteLog) (r : Result Bool CliFault) → ScansDevices r (log a) (log b) (log c) (log d) x y
-      → IfErr r (IfUnread (IsUnscanned is_at log first second))
+      → IfErr r (IfUnread (IsUnscanned (SomeSource is_at log) first second))
   scan_unread x y (Ok value) reported = tt
-  scan_unread x y (Err (faults.Read path)) (inl ((same, unread), kept, printed)) = subst (IsUnscanned is_at log first second) (sym same) (a, b, at, unread)
+  scan_unread x y (Err (faults.Read path)) (inl ((same, unread), kept, printed)) = subst (IsUnscanned (SomeSource is_at log) first second) (sym same) (a, b, at, unread)
   scan_unread x y (Err (faults.Read path)) (inr (same, (ranges, list, inl (front, scan)))) =
-      subst (IsUnscanned is_at log first second) (sym same) (c, d, at_too, (scan.bytes, inl scan.read))
+      subst (IsUnscanned (SomeSource is_at log) first second) (sym same) (c, d, at_too, (scan.bytes, inl scan.read))
   scan_unread x y (Err (faults.Read path)) (inr (same, (ranges, list, inr (front, scan, end, after)))) =
-      subst (IsUnscanned is_at log first second) (sym same) (c, d, at_too, (scan.bytes, inr (scan.read, end)))
+      subst (IsUnscanned (SomeSource is_at log) first second) (sym same) (c, d, at_too, (scan.bytes, inr (scan.read, end)))
   scan_unread x y (Err fault) reported = tt
 
   pub decode_unread : {T : Type 0} (width height : ℕ) (o o' x y : WriteLog) (r : Result T CliFault)
-      → ReportsDecode r width height (log a) (log b) (log c) (log d) o o' x y → IfErr r (IfUnread (IsUndecoded is_at log first second))
+      → ReportsDecode r width height (log a) (log b) (log c) (log d) o o' x y → IfErr r (IfUnread (IsUndecoded (SomeSource is_at log) first second))
   decode_unread width height o o' x y (Ok value) reported = tt
   decode_unread width height o o' x y (Err (faults.Read path)) (inl ((same, unread), kept, printed)) =
-      subst (IsUndecoded is_at log first second) (sym same) (a, b, at, unread)
+      subst (IsUndecoded (SomeSource is_at log) first second) (sym same) (a, b, at, unread)
   decode_unread width height o o' x y (Err (faults.Read path)) (inr (setup, set, inl ((same, unread), kept))) =
-      subst (IsUndecoded is_at log first second) (sym same) (c, d, at_too, unread)
+      subst (IsUndecoded (SomeSource is_at log) first second) (sym same) (c, d, at_too, unread)
   decode_unread width height o o' x y (Err (faults.Read path)) (inr (setup, set, inr (frame, is, stops))) = absurd stops
   decode_unread width height o o' x y (Err fault) reported = tt

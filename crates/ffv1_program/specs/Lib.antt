@@ -3,6 +3,7 @@ pub mod Splicing
 pub mod Running
 pub mod Reporting
 pub mod Unread
+pub mod Inner
 -- those by which the commands and their faults are described
 pub use Rattle.ffv1_commands.specs.Paths
 pub use Rattle.ffv1_commands.specs.Fault

@@ -1,11 +1,12 @@
--- What each command does with the files that its words name: what it returns, why it stops, and what it leaves untouched then. The bytes of
--- the file of a path, if they are known, are `bytes_at` of it.
-use Rattle.std.specs.Prelude.{ℕ, ◌≡◌, List, [], ◌∷◌, map, Bool, true, Option, IfSome}
+-- What each command promises of the files that its words name: what it does, why it stops, and what it leaves as it was.
+use Rattle.std.specs.Prelude.{ℕ, ◌≡◌, List, [], ◌∷◌, map, Bool, true, Option, IfSome, Result, IfOk, IfErr, IsErrOf}
 use Rattle.std.specs.Borrow.{Bor}
 use Rattle.std.specs.Io.KnownBytes.{Appends}
+use Rattle.ffv1_devices.specs.Logs.{ReadLog}
 use Rattle.ffv1_help.specs.Texts.{help_text, version_text}
 use Rattle.ffv1_help.specs.Writing.{WritesFront}
-use Rattle.ffv1_commands.specs.Devices.{UnlessWriting}
+use Rattle.ffv1_commands.specs.Devices.{UnlessWriting, IsUnread}
+use Rattle.ffv1_commands.specs.Fault.{NamesPath}
 use Rattle.ffv1_commands.specs.Lists.{IfOfList}
 use Rattle.ffv1_commands.specs.ChainText.{PrintsChain, ChainStops}
 use Rattle.ffv1_commands.specs.ScanText.{ScansFile, ScanStops}
@@ -21,12 +22,15 @@ use Rattle.ffv1_commands.specs.MendText.{MendsFiles}
 use Rattle.ffv1_commands.specs.DecodeText.{DecodesFile, DecodeStops}
 use Rattle.ffv1_commands.specs.declared.fault.CliFault.{CliFault}
 use Rattle.ffv1_commands.specs.declared.fault.CliFault.TheVariants as faults
+use Rattle.ffv1_commands.specs.declared.path.CommandPath.{CommandPath}
 use Rattle.ffv1_commands.specs.declared.path.CommandPath.TheVariants as paths
+use Rattle.ffv1_words.specs.WordPaths.{IsPathOf}
 use Rattle.ffv1_words.specs.declared.words.Words.{Words}
 use Rattle.ffv1_words.specs.declared.words.Words.TheVariants.{Chain, Scan, Show, Take, Join, Merge, Report, Restore, Picture, Splice, Mend}
 use Rattle.ffv1_words.specs.declared.words.Words.TheVariants.{Decode, Help, Version}
-use Rattle.ffv1_program.specs.Merging.{IsEither, IfNotBegun, StopsMerging}
+use Rattle.ffv1_program.specs.Merging.{IsEither, FailsToOpen, IfNotBegun, StopsMerging}
 use Rattle.ffv1_program.specs.Splicing.{IsInput, StopsSplicing, StopsMendingFiles}
+use Rattle.ffv1_program.specs.Unread.{IfUnread, SomeSource, IsUnheld, IsUnscanned, IsUndecoded}
 
 -- the word of the file that is made, which is empty where none is
 abbrev pub out_word : Words → List ℕ
@@ -45,119 +49,210 @@ out_word (Report file) = []
 out_word Help = []
 out_word Version = []
 
--- what holds of the file that is made where the command makes none
-abbrev pub IfNoneMade : Words → Type 0 → Type 0
-IfNoneMade (Chain frame) P = P
-IfNoneMade (Scan ranges file) P = P
-IfNoneMade (Show recording) P = P
-IfNoneMade (Report file) P = P
-IfNoneMade Help P = P
-IfNoneMade Version P = P
-IfNoneMade (Take recording out copies) P = Unit {0}
-IfNoneMade (Join out first others) P = Unit {0}
-IfNoneMade (Merge out left right) P = Unit {0}
-IfNoneMade (Restore file out) P = Unit {0}
-IfNoneMade (Picture file out) P = Unit {0}
-IfNoneMade (Splice out copies) P = Unit {0}
-IfNoneMade (Mend list out copies) P = Unit {0}
-IfNoneMade (Decode recording frame out) P = Unit {0}
-
--- what holds of the file that is made where the command makes it even of no bytes
-abbrev pub IfAlwaysMade : Words → Type 0 → Type 0
-IfAlwaysMade (Splice out copies) P = P
-IfAlwaysMade (Mend list out copies) P = P
-IfAlwaysMade _ P = Unit {0}
-
--- The command refuses its words: the file that is made is one of its inputs.
-abbrev pub IsRefused : Words → Type 0
-IsRefused (Merge out left right) = IsEither out.now left.now right.now
-IsRefused (Mend list out copies) = IsInput out.now list.now copies.items
-IsRefused _ = ⊥
-
 -- the bytes of the files of words
 abbrev pub bytes_of_all : (List ℕ → Option (List ℕ)) → List (Bor (List ℕ)) → List (Option (List ℕ))
 bytes_of_all bytes_at words = map (λ word. bytes_at word.now) words
-
--- What the command made and printed, and what it returns.
-abbrev pub DoesCommand : (List ℕ → Option (List ℕ)) → Words → (out_before out_after printed_before printed_after : Option (List ℕ))
-    → Bool → Type 0
-DoesCommand bytes_at (Chain frame) out_before out_after printed_before printed_after returned =
-    (returned ≡ true) × IfSome (bytes_at frame.now) (λ payload. PrintsChain payload printed_before printed_after)
-DoesCommand bytes_at (Scan ranges file) out_before out_after printed_before printed_after returned =
-    ScansFile (bytes_at ranges.now) (bytes_at file.now) printed_before printed_after returned
-DoesCommand bytes_at (Show recording) out_before out_after printed_before printed_after returned =
-    (returned ≡ true) × IfSome (bytes_at recording.record.now)
-    (λ config. PrintsSetup config recording.width recording.height printed_before printed_after)
-DoesCommand bytes_at (Take recording out copies) out_before out_after printed_before printed_after returned =
-    (returned ≡ true) × TakesCopies (bytes_at recording.record.now) recording.width recording.height (bytes_of_all bytes_at copies.items)
-    out_before out_after printed_before printed_after
-DoesCommand bytes_at (Join out first others) out_before out_after printed_before printed_after returned =
-    (returned ≡ true) × JoinsFiles (bytes_at first.now ∷ bytes_of_all bytes_at others.items) out_before out_after printed_before printed_after
-DoesCommand bytes_at (Merge out left right) out_before out_after printed_before printed_after returned =
-    (returned ≡ true) × (printed_after ≡ printed_before) × MergesFiles (bytes_at left.now) (bytes_at right.now) out_before out_after
-DoesCommand bytes_at (Report file) out_before out_after printed_before printed_after returned =
-    (returned ≡ true) × ReportsFile (bytes_at file.now) printed_before printed_after
-DoesCommand bytes_at (Restore file out) out_before out_after printed_before printed_after returned =
-    (returned ≡ true) × RestoresFile (bytes_at file.now) out_before out_after printed_before printed_after
-DoesCommand bytes_at (Picture file out) out_before out_after printed_before printed_after returned =
-    ShowsFile (bytes_at file.now) out_before out_after printed_before printed_after returned
-DoesCommand bytes_at (Splice out copies) out_before out_after printed_before printed_after returned =
-    SplicesCopies (bytes_of_all bytes_at copies.items) out_before out_after printed_before printed_after returned
-DoesCommand bytes_at (Mend list out copies) out_before out_after printed_before printed_after returned =
-    MendsFiles (bytes_at list.now) (bytes_of_all bytes_at copies.items) out_before out_after printed_before printed_after returned
-DoesCommand bytes_at (Decode recording frame out) out_before out_after printed_before printed_after returned =
-    (returned ≡ true) × DecodesFile (bytes_at recording.record.now) recording.width recording.height (bytes_at frame.now)
-    out_before out_after printed_before printed_after
-DoesCommand bytes_at Help out_before out_after printed_before printed_after returned =
-    (returned ≡ true) × Appends printed_before printed_after help_text
-DoesCommand bytes_at Version out_before out_after printed_before printed_after returned =
-    (returned ≡ true) × Appends printed_before printed_after version_text
 
 -- a text was not printed whole
 abbrev pub StopsPrinting : (text : List ℕ) (printed_before printed_after : Option (List ℕ)) → CliFault → Type 0
 StopsPrinting text printed_before printed_after fault =
     (fault ≡ faults.Write paths.StandardOutput) × WritesFront printed_before printed_after text
 
--- Why the command stopped, and what that left in the file that is made and in what is printed. What holds of the word of a file that was
--- not opened is `unopened` of it.
-abbrev pub StopsCommand : (List ℕ → Option (List ℕ)) → (unopened : List ℕ → Type 0) → Words
-    → (out_before out_after printed_before printed_after : Option (List ℕ)) → CliFault → Type 0
-StopsCommand bytes_at unopened (Chain frame) out_before out_after printed_before printed_after fault =
-    ChainStops (bytes_at frame.now) printed_before printed_after fault
-StopsCommand bytes_at unopened (Scan ranges file) out_before out_after printed_before printed_after fault =
-    ScanStops (bytes_at ranges.now) (bytes_at file.now) printed_before printed_after fault
-StopsCommand bytes_at unopened (Show recording) out_before out_after printed_before printed_after fault =
-    ShowStops recording.width recording.height (bytes_at recording.record.now) printed_before printed_after fault
-StopsCommand bytes_at unopened (Take recording out copies) out_before out_after printed_before printed_after fault =
-    TakeStops (bytes_at recording.record.now) recording.width recording.height (bytes_of_all bytes_at copies.items)
-    out_before out_after printed_before printed_after fault
-StopsCommand bytes_at unopened (Join out first others) out_before out_after printed_before printed_after fault =
-    JoinStops (bytes_at first.now ∷ bytes_of_all bytes_at others.items) out_before out_after printed_before printed_after fault
-StopsCommand bytes_at unopened (Merge out left right) out_before out_after printed_before printed_after fault =
-    StopsMerging (IsEither out.now left.now right.now) unopened left.now right.now (bytes_at left.now) (bytes_at right.now)
-    out_before out_after fault
-StopsCommand bytes_at unopened (Report file) out_before out_after printed_before printed_after fault =
-    ReportStops (bytes_at file.now) printed_before printed_after fault
-StopsCommand bytes_at unopened (Restore file out) out_before out_after printed_before printed_after fault =
-    RestoreStops (bytes_at file.now) out_before out_after printed_before printed_after fault
-StopsCommand bytes_at unopened (Picture file out) out_before out_after printed_before printed_after fault =
-    PictureStops (bytes_at file.now) out_before out_after printed_before printed_after fault
-StopsCommand bytes_at unopened (Splice out copies) out_before out_after printed_before printed_after fault =
-    StopsSplicing (bytes_of_all bytes_at copies.items) out_before out_after printed_before printed_after fault
-StopsCommand bytes_at unopened (Mend list out copies) out_before out_after printed_before printed_after fault =
-    StopsMendingFiles (IsInput out.now list.now copies.items) (bytes_at list.now) (bytes_of_all bytes_at copies.items)
-    out_before out_after printed_before printed_after fault
-StopsCommand bytes_at unopened (Decode recording frame out) out_before out_after printed_before printed_after fault =
-    DecodeStops (bytes_at recording.record.now) recording.width recording.height (bytes_at frame.now)
-    out_before out_after printed_before printed_after fault
-StopsCommand bytes_at unopened Help out_before out_after printed_before printed_after fault =
-    StopsPrinting help_text printed_before printed_after fault
-StopsCommand bytes_at unopened Version out_before out_after printed_before printed_after fault =
-    StopsPrinting version_text printed_before printed_after fault
+-- The files that are read, by their words: their bytes, if they are known; what holds of one that was not opened; and of one of which a
+-- source went so, or a source with a buffer.
+pub record FilesRead : Type 1 where
+  pub bytes_at : List ℕ → Option (List ℕ)
+  pub IsUnopened : List ℕ → Type 0
+  pub SourceWent : (ReadLog → ReadLog → Type 0) → List ℕ → Type 0
+  pub BufferedWent : (ReadLog → ReadLog → Type 0) → List ℕ → Type 0
 
--- What a fault of the command left as it was, of the file that is made and of what is printed.
-abbrev pub KeepsAtFault : Words → (Made Printed : Type 0) → CliFault → Type 0
-KeepsAtFault (Scan ranges file) Made Printed fault = IfOfList paths.Ranges fault Printed
-KeepsAtFault (Merge out left right) Made Printed fault = IfNotBegun fault Made × Printed
-KeepsAtFault (Mend list out copies) Made Printed fault = IfOfList paths.List fault (Made × Printed)
-KeepsAtFault _ Made Printed fault = UnlessWriting fault (Made × Printed)
+-- those of a file system, by its inputs, its sources and those with a buffer
+abbrev pub files_of : {Input Device Buffered : Type 0} → (bytes_at : List ℕ → Option (List ℕ)) → (is_input_at : List ℕ → Input → Type 0)
+    → (cannot_open : Input → Type 0) → (is_device_at : List ℕ → Device → Type 0) → (log : Device → ReadLog)
+    → (is_buffered_at : List ℕ → Buffered → Type 0) → (buffered_log : Buffered → ReadLog) → FilesRead
+files_of bytes_at is_input_at cannot_open is_device_at log is_buffered_at buffered_log =
+    record {
+      bytes_at = bytes_at;
+      IsUnopened = FailsToOpen is_input_at cannot_open;
+      SourceWent = SomeSource is_device_at log;
+      BufferedWent = SomeSource is_buffered_at buffered_log;
+    }
+
+-- What a command writes to: its bytes before and after, if they are known; that it is as it was; and that it is made, even of no bytes.
+pub record Written : Type 1 where
+  pub before : Option (List ℕ)
+  pub after : Option (List ℕ)
+  pub IsKept : Type 0
+  pub IsMade : Type 0
+
+-- what writer this is, before and after
+abbrev pub made_by : {Writer : Type 0} → (contents : Writer → Option (List ℕ)) → (is_made : Writer → Type 0) → (old new : Writer) → Written
+made_by contents is_made old new =
+    record { before = contents old; after = contents new; IsKept = new ≡ old; IsMade = is_made new }
+
+-- what is printed, which is always there
+abbrev pub printed_by : {Writer : Type 0} → (contents : Writer → Option (List ℕ)) → (old new : Writer) → Written
+printed_by contents old new = made_by contents (λ _. Unit {0}) old new
+
+-- What a command promises: what it did and returns; why it stopped; what a fault left as it was; what a fault rests on that says that a file
+-- was not read; what it returns where it refuses its words; and which of the file that is made and of what is printed it has no part in.
+pub record Promise : Type 1 where
+  pub Does : Bool → Type 0
+  pub Stops : CliFault → Type 0
+  pub Keeps : CliFault → Type 0
+  pub Unread : CliFault → Type 0
+  pub Refuses : Result Bool CliFault → Type 0
+  pub Leaves : (Made Printed : Type 0) → Type 0
+
+-- a command that prints a text
+abbrev pub prints_text : (text : List ℕ) → (printed : Written) → Promise
+prints_text text printed =
+    record {
+      Does = λ returned. (returned ≡ true) × Appends printed.before printed.after text;
+      Stops = StopsPrinting text printed.before printed.after;
+      Keeps = λ fault. UnlessWriting fault printed.IsKept;
+      Unread = λ _. Unit {0};
+      Refuses = λ _. Unit {0};
+      Leaves = λ Made Printed. Made;
+    }
+
+-- The promise of the command of these words.
+abbrev pub promise_of : FilesRead → (made printed : Written) → Words → Promise
+promise_of files made printed (Chain frame) =
+    record {
+      Does = λ returned. (returned ≡ true) × IfSome (files.bytes_at frame.now) (λ payload. PrintsChain payload printed.before printed.after);
+      Stops = ChainStops (files.bytes_at frame.now) printed.before printed.after;
+      Keeps = λ fault. UnlessWriting fault printed.IsKept;
+      Unread = IfUnread (λ _. files.SourceWent IsUnread frame.now);
+      Refuses = λ _. Unit {0};
+      Leaves = λ Made Printed. Made;
+    }
+promise_of files made printed (Scan ranges file) =
+    record {
+      Does = ScansFile (files.bytes_at ranges.now) (files.bytes_at file.now) printed.before printed.after;
+      Stops = ScanStops (files.bytes_at ranges.now) (files.bytes_at file.now) printed.before printed.after;
+      Keeps = λ fault. IfOfList paths.Ranges fault printed.IsKept;
+      Unread = IfUnread (IsUnscanned files.SourceWent ranges.now file.now);
+      Refuses = λ _. Unit {0};
+      Leaves = λ Made Printed. Made;
+    }
+promise_of files made printed (Show recording) =
+    record {
+      Does = λ returned. (returned ≡ true) × IfSome (files.bytes_at recording.record.now)
+          (λ config. PrintsSetup config recording.width recording.height printed.before printed.after);
+      Stops = ShowStops recording.width recording.height (files.bytes_at recording.record.now) printed.before printed.after;
+      Keeps = λ fault. UnlessWriting fault printed.IsKept;
+      Unread = IfUnread (λ _. files.SourceWent IsUnread recording.record.now);
+      Refuses = λ _. Unit {0};
+      Leaves = λ Made Printed. Made;
+    }
+promise_of files made printed (Take recording out copies) =
+    record {
+      Does = λ returned. (returned ≡ true) × TakesCopies (files.bytes_at recording.record.now) recording.width recording.height
+          (bytes_of_all files.bytes_at copies.items) made.before made.after printed.before printed.after;
+      Stops = TakeStops (files.bytes_at recording.record.now) recording.width recording.height (bytes_of_all files.bytes_at copies.items)
+          made.before made.after printed.before printed.after;
+      Keeps = λ fault. UnlessWriting fault (made.IsKept × printed.IsKept);
+      Unread = λ _. Unit {0};
+      Refuses = λ _. Unit {0};
+      Leaves = λ _ _. Unit {0};
+    }
+promise_of files made printed (Join out first others) =
+    record {
+      Does = λ returned. (returned ≡ true) × JoinsFiles (files.bytes_at first.now ∷ bytes_of_all files.bytes_at others.items)
+          made.before made.after printed.before printed.after;
+      Stops = JoinStops (files.bytes_at first.now ∷ bytes_of_all files.bytes_at others.items)
+          made.before made.after printed.before printed.after;
+      Keeps = λ fault. UnlessWriting fault (made.IsKept × printed.IsKept);
+      Unread = λ _. Unit {0};
+      Refuses = λ _. Unit {0};
+      Leaves = λ _ _. Unit {0};
+    }
+promise_of files made printed (Merge out left right) =
+    record {
+      Does = λ returned. (returned ≡ true) × MergesFiles (files.bytes_at left.now) (files.bytes_at right.now) made.before made.after;
+      Stops = StopsMerging (IsEither out.now left.now right.now) files.IsUnopened left.now right.now (files.bytes_at left.now) (files.bytes_at right.now)
+          made.before made.after;
+      Keeps = λ fault. IfNotBegun fault made.IsKept;
+      Unread = λ _. Unit {0};
+      Refuses = λ result. IsEither out.now left.now right.now → IsErrOf result (faults.Write paths.Out) × made.IsKept;
+      Leaves = λ Made Printed. Printed;
+    }
+promise_of files made printed (Report file) =
+    record {
+      Does = λ returned. (returned ≡ true) × ReportsFile (files.bytes_at file.now) printed.before printed.after;
+      Stops = ReportStops (files.bytes_at file.now) printed.before printed.after;
+      Keeps = λ fault. UnlessWriting fault printed.IsKept;
+      Unread = IfUnread (λ _. files.BufferedWent IsUnheld file.now);
+      Refuses = λ _. Unit {0};
+      Leaves = λ Made Printed. Made;
+    }
+promise_of files made printed (Restore file out) =
+    record {
+      Does = λ returned. (returned ≡ true) × RestoresFile (files.bytes_at file.now) made.before made.after printed.before printed.after;
+      Stops = RestoreStops (files.bytes_at file.now) made.before made.after printed.before printed.after;
+      Keeps = λ fault. UnlessWriting fault (made.IsKept × printed.IsKept);
+      Unread = IfUnread (λ _. files.BufferedWent IsUnheld file.now);
+      Refuses = λ _. Unit {0};
+      Leaves = λ _ _. Unit {0};
+    }
+promise_of files made printed (Picture file out) =
+    record {
+      Does = ShowsFile (files.bytes_at file.now) made.before made.after printed.before printed.after;
+      Stops = PictureStops (files.bytes_at file.now) made.before made.after printed.before printed.after;
+      Keeps = λ fault. UnlessWriting fault (made.IsKept × printed.IsKept);
+      Unread = IfUnread (λ _. files.BufferedWent IsUnheld file.now);
+      Refuses = λ _. Unit {0};
+      Leaves = λ _ _. Unit {0};
+    }
+promise_of files made printed (Splice out copies) =
+    record {
+      Does = λ returned. made.IsMade × SplicesCopies (bytes_of_all files.bytes_at copies.items) made.before made.after printed.before printed.after returned;
+      Stops = StopsSplicing (bytes_of_all files.bytes_at copies.items) made.before made.after printed.before printed.after;
+      Keeps = λ fault. UnlessWriting fault (made.IsKept × printed.IsKept);
+      Unread = λ _. Unit {0};
+      Refuses = λ _. Unit {0};
+      Leaves = λ _ _. Unit {0};
+    }
+promise_of files made printed (Mend list out copies) =
+    record {
+      Does = λ returned. made.IsMade × MendsFiles (files.bytes_at list.now) (bytes_of_all files.bytes_at copies.items)
+          made.before made.after printed.before printed.after returned;
+      Stops = StopsMendingFiles (IsInput out.now list.now copies.items) (files.bytes_at list.now) (bytes_of_all files.bytes_at copies.items)
+          made.before made.after printed.before printed.after;
+      Keeps = λ fault. IfOfList paths.List fault (made.IsKept × printed.IsKept);
+      Unread = λ _. Unit {0};
+      Refuses = λ result. IsInput out.now list.now copies.items → IsErrOf result (faults.Write paths.Out) × made.IsKept × printed.IsKept;
+      Leaves = λ _ _. Unit {0};
+    }
+promise_of files made printed (Decode recording frame out) =
+    record {
+      Does = λ returned. (returned ≡ true) × DecodesFile (files.bytes_at recording.record.now) recording.width recording.height
+          (files.bytes_at frame.now) made.before made.after printed.before printed.after;
+      Stops = DecodeStops (files.bytes_at recording.record.now) recording.width recording.height (files.bytes_at frame.now)
+          made.before made.after printed.before printed.after;
+      Keeps = λ fault. UnlessWriting fault (made.IsKept × printed.IsKept);
+      Unread = IfUnread (IsUndecoded files.SourceWent recording.record.now frame.now);
+      Refuses = λ _. Unit {0};
+      Leaves = λ _ _. Unit {0};
+    }
+promise_of files made printed Help = prints_text help_text printed
+promise_of files made printed Version = prints_text version_text printed
+
+-- What was returned is as promised, and a fault names no paths but these.
+pub record IsAsPromised (promise : Promise) (IsPath : CommandPath → Type 0) (result : Result Bool CliFault) : Type 0 where
+  pub does : IfOk result promise.Does
+  pub stops : IfErr result promise.Stops
+  pub keeps : IfErr result promise.Keeps
+  pub unread : IfErr result promise.Unread
+  pub refuses : promise.Refuses result
+  pub names : IfErr result (NamesPath IsPath)
+
+-- The command of these words keeps its promise.
+abbrev pub KeepsPromise : FilesRead → (made printed : Written) → Words → Result Bool CliFault → Type 0
+KeepsPromise files made printed words result = IsAsPromised (promise_of files made printed words) (IsPathOf words) result
+
+-- The command of these words runs: it keeps its promise, and what it has no part in is as it was.
+pub record RunsCommand (files : FilesRead) (made printed : Written) (words : Words) (result : Result Bool CliFault) : Type 0 where
+  pub promise : KeepsPromise files made printed words result
+  pub untouched : (promise_of files made printed words).Leaves made.IsKept printed.IsKept

@@ -1,10 +1,7 @@
 //! A command of words, run on the files that they name (own).
-ghost use Rattle.std.specs.Prelude.{◌≡◌, Ok, Err, IfOk, IfErr, IsErrOf, MatchResult, true};
-ghost use Rattle.ffv1_commands.specs.Fault.{NamesPath};
-ghost use Rattle.ffv1_words.specs.WordPaths.{IsPathOf};
-ghost use Rattle.ffv1_program.specs.Merging.{FailsToOpen};
-ghost use Rattle.ffv1_program.specs.Unread.{IsUnreadOf};
-ghost use Rattle.ffv1_program.specs.Running.{out_word, IfNoneMade, IfAlwaysMade, IsRefused, DoesCommand, StopsCommand, KeepsAtFault};
+ghost use Rattle.std.specs.Prelude.{◌≡◌, Ok, Err, MatchResult, true};
+ghost use Rattle.ffv1_program.specs.Running.{RunsCommand, files_of, made_by, printed_by, out_word};
+ghost use Rattle.ffv1_program.specs.Inner.Calls.{all_done};
 
 use crate::files::{FileSystem, MakeFile};
 use crate::frames::{chain_file, scan_files, show_record, splice_files};
@@ -37,7 +34,7 @@ pub fn out_word<'a>(words: &Words<'a>) -> &'a str
 
 /// What a command returns that has no more to say than that it was done.
 fn all_done(done: Result<(), CliFault>) -> Result<bool, CliFault>
-    ensures { MatchResult result (λ all. (all ≡ true) × (done ≡ Ok tt)) (λ fault. done ≡ Err fault) }
+    ensures { result ≡ all_done done }
 {
     match done {
         Ok(()) => Ok(true),
@@ -68,17 +65,10 @@ pub fn run<'a, F: FileSystem<'a>, O: MakeFile, W: Write>(
     output: &mut W,
 ) -> Result<bool, CliFault>
     requires { O.is_unmade_at made.old (out_word words.now) }
-    ensures ok { IfOk result (DoesCommand (F.bytes_at files.now) words.now
-        (O.contents made.old) (O.contents made.new) (W.contents output.old) (W.contents output.new)) }
-    ensures err { IfErr result (StopsCommand (F.bytes_at files.now) (FailsToOpen (F.is_input_at files.now) F.Input.cannot_open) words.now
-        (O.contents made.old) (O.contents made.new) (W.contents output.old) (W.contents output.new)) }
-    ensures kept { IfErr result (KeepsAtFault words.now (made.new ≡ made.old) (output.new ≡ output.old)) }
-    ensures refused { IsRefused words.now → IsErrOf result (CliFault.Write CommandPath.Out)
-        × (made.new ≡ made.old) × (output.new ≡ output.old) }
-    ensures none_made { IfNoneMade words.now (made.new ≡ made.old) }
-    ensures always_made { IfOk result (λ _. IfAlwaysMade words.now (O.is_made made.new)) }
-    ensures names { IfErr result (NamesPath (IsPathOf words.now)) }
-    ensures unread { IfErr result (IsUnreadOf (F.is_device_at files.now) F.Device.log (F.is_buffered_at files.now) F.Buffered.log words.now) }
+    ensures { RunsCommand
+        (files_of (F.bytes_at files.now) (F.is_input_at files.now) F.Input.cannot_open (F.is_device_at files.now) F.Device.log
+        (F.is_buffered_at files.now) F.Buffered.log)
+        (made_by O.contents O.is_made made.old made.new) (printed_by W.contents output.old output.new) words.now result }
 {
     match words {
         Words::Chain { frame } => all_done(chain_file(alloc, files, frame, output)),
@@ -88,9 +78,9 @@ pub fn run<'a, F: FileSystem<'a>, O: MakeFile, W: Write>(
             recording,
             copies,
             ..
-        } => all_done(take_files(alloc, files, recording, copies.as_slice(), made, output)),
+        } => all_done(take_files(alloc, files, recording, copies, made, output)),
         Words::Join { first, others, .. } => {
-            all_done(join_files(alloc, files, first, others.as_slice(), made, output))
+            all_done(join_files(alloc, files, first, others, made, output))
         }
         Words::Merge { out, left, right } => all_done(merge_files(
             alloc, files, left, right, out, made,
@@ -98,9 +88,9 @@ pub fn run<'a, F: FileSystem<'a>, O: MakeFile, W: Write>(
         Words::Report { file } => all_done(report_file(alloc, files, file, output)),
         Words::Restore { file, .. } => all_done(restore_file(alloc, files, file, made, output)),
         Words::Picture { file, .. } => picture_file(alloc, files, file, made, output),
-        Words::Splice { copies, .. } => splice_files(alloc, files, copies.as_slice(), made, output),
+        Words::Splice { copies, .. } => splice_files(alloc, files, copies, made, output),
         Words::Mend { list, out, copies } => {
-            mend_files(alloc, files, list, copies.as_slice(), out, made, output)
+            mend_files(alloc, files, list, copies, out, made, output)
         }
         Words::Decode {
             recording,

@@ -1,19 +1,14 @@
-//! The commands over frames and their records (own): `chain`, `scan`, `show` and `splice`.
-ghost use Rattle.std.specs.Prelude.{◌≡◌, length, map, IfOk, IfErr, IfSome, OnOk};
-ghost use Rattle.ffv1_commands.specs.Fault.{NamesPath};
-ghost use Rattle.ffv1_commands.specs.Paths.{IsChainPath, IsScanPath, IsShowPath, IsSplicePath};
-ghost use Rattle.ffv1_commands.specs.Devices.{UnlessWriting};
-ghost use Rattle.ffv1_commands.specs.Lists.{IfOfList};
-ghost use Rattle.ffv1_commands.specs.ChainText.{PrintsChain, ChainStops};
-ghost use Rattle.ffv1_commands.specs.ScanText.{ScansFile, ScanStops};
-ghost use Rattle.ffv1_commands.specs.ShowText.{PrintsSetup, ShowStops};
-ghost use Rattle.ffv1_commands.specs.SpliceText.{SplicesCopies};
-ghost use Rattle.ffv1_program.specs.Splicing.{StopsSplicing};
-ghost use Rattle.ffv1_program.specs.Unread.{IfUnread, IsUnreadAt, IsUnscanned};
+//! The commands over frames and their records (own): `chain`, `scan`, `show` and `splice`. Each keeps its promise, whatever the word is of
+//! the file that it makes.
+ghost use Rattle.std.specs.Prelude.{ℕ, List};
+ghost use Rattle.std.specs.Borrow.{Bor};
+ghost use Rattle.ffv1_words.specs.declared.words.Words.TheVariants.{Chain, Scan, Show, Splice};
+ghost use Rattle.ffv1_program.specs.Running.{KeepsPromise, files_of, made_by, printed_by};
+ghost use Rattle.ffv1_program.specs.Inner.Calls.{all_done, nothing_written};
 
 use crate::files::{FileSystem, MakeFile, make_after};
 use crate::inputs::inputs_of;
-use ffv1_commands::{CliFault, CommandPath, chain_of, run_splice, scan_of, show_of};
+use ffv1_commands::{CliFault, chain_of, run_splice, scan_of, show_of};
 use ffv1_devices::ThroughWrite;
 use ffv1_words::Recording;
 use std::alloc::Global;
@@ -28,12 +23,11 @@ pub(crate) fn chain_file<'a, F: FileSystem<'a>, W: Write>(
     frame: &'a str,
     output: &mut W,
 ) -> Result<(), CliFault>
-    ensures ok { OnOk result (IfSome (F.bytes_at files.now frame.now)
-        (λ payload. PrintsChain payload (W.contents output.old) (W.contents output.new))) }
-    ensures err { IfErr result (ChainStops (F.bytes_at files.now frame.now) (W.contents output.old) (W.contents output.new)) }
-    ensures untouched { IfErr result (λ fault. UnlessWriting fault (output.new ≡ output.old)) }
-    ensures names { IfErr result (NamesPath IsChainPath) }
-    ensures unread { IfErr result (IfUnread (λ _. IsUnreadAt (F.is_device_at files.now) F.Device.log frame.now)) }
+    ensures { KeepsPromise
+        (files_of (F.bytes_at files.now) (F.is_input_at files.now) F.Input.cannot_open (F.is_device_at files.now) F.Device.log
+        (F.is_buffered_at files.now) F.Buffered.log)
+        nothing_written (printed_by W.contents output.old output.new)
+        (Chain frame.entry) (all_done result) }
 {
     chain_of(
         alloc,
@@ -52,13 +46,11 @@ pub(crate) fn scan_files<'a, F: FileSystem<'a>, W: Write>(
     file: &'a str,
     output: &mut W,
 ) -> Result<bool, CliFault>
-    ensures ok { IfOk result (ScansFile (F.bytes_at files.now ranges.now) (F.bytes_at files.now file.now)
-        (W.contents output.old) (W.contents output.new)) }
-    ensures err { IfErr result (ScanStops (F.bytes_at files.now ranges.now) (F.bytes_at files.now file.now)
-        (W.contents output.old) (W.contents output.new)) }
-    ensures untouched { IfErr result (λ fault. IfOfList CommandPath.Ranges fault (output.new ≡ output.old)) }
-    ensures names { IfErr result (NamesPath IsScanPath) }
-    ensures unread { IfErr result (IfUnread (IsUnscanned (F.is_device_at files.now) F.Device.log ranges.now file.now)) }
+    ensures { KeepsPromise
+        (files_of (F.bytes_at files.now) (F.is_input_at files.now) F.Input.cannot_open (F.is_device_at files.now) F.Device.log
+        (F.is_buffered_at files.now) F.Buffered.log)
+        nothing_written (printed_by W.contents output.old output.new)
+        (Scan ranges.entry file.entry) result }
 {
     scan_of(
         alloc,
@@ -77,13 +69,11 @@ pub(crate) fn show_record<'a, F: FileSystem<'a>, W: Write>(
     recording: &Recording<'a>,
     output: &mut W,
 ) -> Result<(), CliFault>
-    ensures ok { OnOk result (IfSome (F.bytes_at files.now recording.now.record.now)
-        (λ config. PrintsSetup config recording.now.width recording.now.height (W.contents output.old) (W.contents output.new))) }
-    ensures err { IfErr result (ShowStops recording.now.width recording.now.height (F.bytes_at files.now recording.now.record.now)
-        (W.contents output.old) (W.contents output.new)) }
-    ensures untouched { IfErr result (λ fault. UnlessWriting fault (output.new ≡ output.old)) }
-    ensures names { IfErr result (NamesPath IsShowPath) }
-    ensures unread { IfErr result (IfUnread (λ _. IsUnreadAt (F.is_device_at files.now) F.Device.log recording.now.record.now)) }
+    ensures { KeepsPromise
+        (files_of (F.bytes_at files.now) (F.is_input_at files.now) F.Input.cannot_open (F.is_device_at files.now) F.Device.log
+        (F.is_buffered_at files.now) F.Buffered.log)
+        nothing_written (printed_by W.contents output.old output.new)
+        (Show recording.now) (all_done result) }
 {
     show_of(
         alloc,
@@ -102,22 +92,20 @@ pub(crate) fn show_record<'a, F: FileSystem<'a>, W: Write>(
 pub(crate) fn splice_files<'a, F: FileSystem<'a>, O: MakeFile, W: Write>(
     alloc: Global,
     files: &F,
-    copies: &[&'a str],
+    copies: &Vec<&'a str>,
     made: &mut O,
     output: &mut W,
 ) -> Result<bool, CliFault>
-    ensures ok { IfOk result (SplicesCopies (map (λ copy. F.bytes_at files.now copy.now) copies.now)
-        (O.contents made.old) (O.contents made.new) (W.contents output.old) (W.contents output.new)) }
-    ensures is_made { IfOk result (λ _. O.is_made made.new) }
-    ensures err { IfErr result (StopsSplicing (map (λ copy. F.bytes_at files.now copy.now) copies.now)
-        (O.contents made.old) (O.contents made.new) (W.contents output.old) (W.contents output.new)) }
-    ensures untouched { IfErr result (λ fault. UnlessWriting fault ((made.new ≡ made.old) × (output.new ≡ output.old))) }
-    ensures names { IfErr result (NamesPath (IsSplicePath (length copies.now))) }
+    ensures { (out : Bor (List ℕ)) → KeepsPromise
+        (files_of (F.bytes_at files.now) (F.is_input_at files.now) F.Input.cannot_open (F.is_device_at files.now) F.Device.log
+        (F.is_buffered_at files.now) F.Buffered.log)
+        (made_by O.contents O.is_made made.old made.new) (printed_by W.contents output.old output.new)
+        (Splice out copies.now) result }
 {
     if copies.is_empty() {
         return Err(CliFault::Words);
     }
-    let mut copies = inputs_of(alloc, files, copies)?;
+    let mut copies = inputs_of(alloc, files, copies.as_slice())?;
     let all = run_splice(alloc, copies.as_mut_slice(), made, output);
     make_after(all, made)
 }

@@ -1,13 +1,11 @@
-//! The commands that write samples (own): `picture` and `decode`.
-ghost use Rattle.std.specs.Prelude.{◌≡◌, IfOk, IfErr, OnOk};
-ghost use Rattle.ffv1_commands.specs.Fault.{NamesPath};
-ghost use Rattle.ffv1_commands.specs.Paths.{IsHoldPath, IsDecodePath};
-ghost use Rattle.ffv1_commands.specs.Devices.{UnlessWriting};
-ghost use Rattle.ffv1_commands.specs.PictureText.{ShowsFile, PictureStops};
-ghost use Rattle.ffv1_commands.specs.DecodeText.{DecodesFile, DecodeStops};
-ghost use Rattle.ffv1_program.specs.Unread.{IfUnread, IsUndecoded, IsUnheldAt};
+//! The commands that write samples (own): `picture` and `decode`. Each keeps its promise, whatever the word is of the file that it makes.
+ghost use Rattle.std.specs.Prelude.{ℕ, List};
+ghost use Rattle.std.specs.Borrow.{Bor};
+ghost use Rattle.ffv1_words.specs.declared.words.Words.TheVariants.{Picture, Decode};
+ghost use Rattle.ffv1_program.specs.Running.{KeepsPromise, files_of, made_by, printed_by};
+ghost use Rattle.ffv1_program.specs.Inner.Calls.{all_done};
 
-use crate::files::FileSystem;
+use crate::files::{FileSystem, MakeFile};
 use ffv1_commands::{CliFault, decode_of, picture_of};
 use ffv1_devices::ThroughWrite;
 use ffv1_words::Recording;
@@ -17,20 +15,18 @@ use std::io::Write;
 /// Writes what can be shown of the holding file of this path to the file that is made.
 ///
 /// It stops where `picture_of` does, and with `Memory` if a buffer can't be allocated. After a fault that is not `Write` nothing was written or printed.
-pub(crate) fn picture_file<'a, F: FileSystem<'a>, O: Write, W: Write>(
+pub(crate) fn picture_file<'a, F: FileSystem<'a>, O: MakeFile, W: Write>(
     alloc: Global,
     files: &F,
     file: &'a str,
     made: &mut O,
     output: &mut W,
 ) -> Result<bool, CliFault>
-    ensures ok { IfOk result (ShowsFile (F.bytes_at files.now file.now)
-        (O.contents made.old) (O.contents made.new) (W.contents output.old) (W.contents output.new)) }
-    ensures err { IfErr result (PictureStops (F.bytes_at files.now file.now)
-        (O.contents made.old) (O.contents made.new) (W.contents output.old) (W.contents output.new)) }
-    ensures untouched { IfErr result (λ fault. UnlessWriting fault ((made.new ≡ made.old) × (output.new ≡ output.old))) }
-    ensures names { IfErr result (NamesPath IsHoldPath) }
-    ensures unread { IfErr result (IfUnread (λ _. IsUnheldAt (F.is_buffered_at files.now) F.Buffered.log file.now)) }
+    ensures { (out : Bor (List ℕ)) → KeepsPromise
+        (files_of (F.bytes_at files.now) (F.is_input_at files.now) F.Input.cannot_open (F.is_device_at files.now) F.Device.log
+        (F.is_buffered_at files.now) F.Buffered.log)
+        (made_by O.contents O.is_made made.old made.new) (printed_by W.contents output.old output.new)
+        (Picture file.entry out) result }
 {
     let mut file = files.buffered(alloc, file)?;
     picture_of(
@@ -44,7 +40,7 @@ pub(crate) fn picture_file<'a, F: FileSystem<'a>, O: Write, W: Write>(
 /// Decodes the frame of these paths into the file that is made.
 ///
 /// It stops where `decode_of` does. After a fault that is not `Write` nothing was written or printed.
-pub(crate) fn decode_files<'a, F: FileSystem<'a>, O: Write, W: Write>(
+pub(crate) fn decode_files<'a, F: FileSystem<'a>, O: MakeFile, W: Write>(
     alloc: Global,
     files: &F,
     recording: &Recording<'a>,
@@ -52,13 +48,11 @@ pub(crate) fn decode_files<'a, F: FileSystem<'a>, O: Write, W: Write>(
     made: &mut O,
     output: &mut W,
 ) -> Result<(), CliFault>
-    ensures ok { OnOk result (DecodesFile (F.bytes_at files.now recording.now.record.now) recording.now.width recording.now.height
-        (F.bytes_at files.now frame.now) (O.contents made.old) (O.contents made.new) (W.contents output.old) (W.contents output.new)) }
-    ensures err { IfErr result (DecodeStops (F.bytes_at files.now recording.now.record.now) recording.now.width recording.now.height
-        (F.bytes_at files.now frame.now) (O.contents made.old) (O.contents made.new) (W.contents output.old) (W.contents output.new)) }
-    ensures untouched { IfErr result (λ fault. UnlessWriting fault ((made.new ≡ made.old) × (output.new ≡ output.old))) }
-    ensures names { IfErr result (NamesPath IsDecodePath) }
-    ensures unread { IfErr result (IfUnread (IsUndecoded (F.is_device_at files.now) F.Device.log recording.now.record.now frame.now)) }
+    ensures { (out : Bor (List ℕ)) → KeepsPromise
+        (files_of (F.bytes_at files.now) (F.is_input_at files.now) F.Input.cannot_open (F.is_device_at files.now) F.Device.log
+        (F.is_buffered_at files.now) F.Buffered.log)
+        (made_by O.contents O.is_made made.old made.new) (printed_by W.contents output.old output.new)
+        (Decode recording.now frame.entry out) (all_done result) }
 {
     decode_of(
         alloc,

@@ -1,11 +1,8 @@
 //! The command over the stretches of a file (own): `mend`.
-ghost use Rattle.std.specs.Prelude.{◌≡◌, ◌↔◌, length, map, IfOk, IfErr, IsErrOf, IsTrue};
+ghost use Rattle.std.specs.Prelude.{◌↔◌, map, IsTrue};
 ghost use Rattle.std.specs.List.{Contains};
-ghost use Rattle.ffv1_commands.specs.Fault.{NamesPath};
-ghost use Rattle.ffv1_commands.specs.Paths.{IsMendPath};
-ghost use Rattle.ffv1_commands.specs.Lists.{IfOfList};
-ghost use Rattle.ffv1_commands.specs.MendText.{MendsFiles};
-ghost use Rattle.ffv1_program.specs.Splicing.{IsInput, StopsMendingFiles};
+ghost use Rattle.ffv1_words.specs.declared.words.Words.TheVariants.{Mend};
+ghost use Rattle.ffv1_program.specs.Running.{KeepsPromise, files_of, made_by, printed_by};
 
 use crate::files::{FileSystem, MakeFile, make_after};
 use crate::inputs::inputs_of;
@@ -29,26 +26,21 @@ pub(crate) fn mend_files<'a, F: FileSystem<'a>, O: MakeFile, W: Write>(
     alloc: Global,
     files: &F,
     list: &'a str,
-    copies: &[&'a str],
+    copies: &Vec<&'a str>,
     out: &str,
     made: &mut O,
     output: &mut W,
 ) -> Result<bool, CliFault>
-    ensures ok { IfOk result (MendsFiles (F.bytes_at files.now list.now) (map (λ copy. F.bytes_at files.now copy.now) copies.now)
-        (O.contents made.old) (O.contents made.new) (W.contents output.old) (W.contents output.new)) }
-    ensures is_made { IfOk result (λ _. O.is_made made.new) }
-    ensures err { IfErr result (StopsMendingFiles (IsInput out.now list.now copies.now)
-        (F.bytes_at files.now list.now) (map (λ copy. F.bytes_at files.now copy.now) copies.now)
-        (O.contents made.old) (O.contents made.new) (W.contents output.old) (W.contents output.new)) }
-    ensures refused { IsInput out.now list.now copies.now → IsErrOf result (CliFault.Write CommandPath.Out)
-        × (made.new ≡ made.old) × (output.new ≡ output.old) }
-    ensures untouched { IfErr result (λ fault. IfOfList CommandPath.List fault ((made.new ≡ made.old) × (output.new ≡ output.old))) }
-    ensures names { IfErr result (NamesPath (IsMendPath (length copies.now))) }
+    ensures { KeepsPromise
+        (files_of (F.bytes_at files.now) (F.is_input_at files.now) F.Input.cannot_open (F.is_device_at files.now) F.Device.log
+        (F.is_buffered_at files.now) F.Buffered.log)
+        (made_by O.contents O.is_made made.old made.new) (printed_by W.contents output.old output.new)
+        (Mend list.entry out.entry copies.now) result }
 {
-    if out == list || is_among(out, copies) {
+    if out == list || is_among(out, copies.as_slice()) {
         return Err(CliFault::Write(CommandPath::Out));
     }
-    let copies = inputs_of(alloc, files, copies)?;
+    let copies = inputs_of(alloc, files, copies.as_slice())?;
     let good = run_mend(alloc, &mut files.input(list), copies, made, output);
     make_after(good, made)
 }

@@ -10,9 +10,10 @@ returns g c =
     let bytes = scan_of_bytes _ _ _ _ _ _ c.scan_of.result c.scan_of.ensures.scans in
     let kept = second_through Ranges _ c.scan_of.result _ _ _ c.new.ensures.writer c.scan_of.ensures.in_turn in
     record {
-      ok = search (rules, rw (c.device.ensures.bytes, c.device-2.ensures.bytes) at bytes.ok);
-      err = search (rules, rw (c.device.ensures.bytes, c.device-2.ensures.bytes) at bytes.err);
-      untouched = search (rules, kept);
+      does = search (rules, rw (c.device.ensures.bytes, c.device-2.ensures.bytes) at bytes.ok);
+      stops = search (rules, rw (c.device.ensures.bytes, c.device-2.ensures.bytes) at bytes.err);
+      keeps = search (rules, kept);
+      refuses = tt;
       names = c.scan_of.ensures.names;
       unread = scan_unread (g.F.FileSystem.is_device_at c.args.files.now) g.F.Device.Source.log _ _ c.device.result c.scan_of.new.ranges c.device-2.result
           c.scan_of.new.file c.device.ensures.at c.device-2.ensures.at _ _ c.scan_of.result c.scan_of.ensures.scans;

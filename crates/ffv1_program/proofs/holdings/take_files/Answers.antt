@@ -1,10 +1,16 @@
-use Rattle.std.proofs.Common.{◌∙◌, ap, map}
+use Rattle.std.proofs.Common.{◌∙◌, ap, map, rules}
+use Rattle.ffv1_program.proofs.Runs.{all_ok, all_err, no_more_said}
 use Rattle.ffv1_program.proofs.holdings.take_files.Goals as goal
 
-pub returns-clause-ok : goal.returns-clause-ok
-returns-clause-ok g c =
-    rw (c.input.ensures.bytes, ap (map g.F.Input.Read.remaining) c.as_mut_slice.ensures.value ∙ c.in_ok-copies.ensures.bytes) at c.run_take.ensures.ok
-
-pub returns-clause-err : goal.returns-clause-err
-returns-clause-err g c =
-    rw (c.input.ensures.bytes, ap (map g.F.Input.Read.remaining) c.as_mut_slice.ensures.value ∙ c.in_ok-copies.ensures.bytes) at c.run_take.ensures.err
+pub returns : goal.returns
+returns g c out =
+    let r = c.run_take.result in
+    let copies = ap (map g.F.Input.Read.remaining) c.as_mut_slice.ensures.value ∙ c.in_ok-copies.ensures.bytes in
+    record {
+      does = all_ok r _ (rw (c.input.ensures.bytes, copies, c.as_slice.ensures.value) at c.run_take.ensures.ok);
+      stops = all_err r _ (rw (c.input.ensures.bytes, copies, c.as_slice.ensures.value) at c.run_take.ensures.err);
+      keeps = all_err r _ (search rules);
+      unread = no_more_said _;
+      refuses = tt;
+      names = all_err r _ (search rules);
+    }

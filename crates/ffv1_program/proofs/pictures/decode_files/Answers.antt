@@ -1,19 +1,21 @@
 use Rattle.std.proofs.Common.{rules}
 use Rattle.ffv1_commands.proofs.DecodeSteps.{decode_of_bytes}
 use Rattle.ffv1_commands.proofs.Wrapped.{both_through}
+use Rattle.ffv1_program.proofs.Runs.{all_ok, all_err}
 use Rattle.ffv1_program.proofs.Unread.{decode_unread}
 use Rattle.ffv1_program.proofs.pictures.decode_files.Goals as goal
 
 pub returns : goal.returns
-returns g c =
+returns g c out =
     let r = c.decode_of.result in
     let bytes = decode_of_bytes _ _ _ _ _ _ _ _ _ _ r c.decode_of.ensures.reported in
     let kept = both_through r _ _ _ _ _ _ c.new.ensures.writer c.new-2.ensures.writer c.decode_of.ensures.untouched in
     record {
-      ok = search (rules, rw (c.device.ensures.bytes, c.device-2.ensures.bytes) at bytes.ok);
-      err = search (rules, rw (c.device.ensures.bytes, c.device-2.ensures.bytes) at bytes.err);
-      untouched = search (rules, kept);
-      names = bytes.names;
-      unread = decode_unread (g.F.FileSystem.is_device_at c.args.files.now) g.F.Device.Source.log _ _ c.device.result c.decode_of.new.configuration c.device-2.result
-          c.decode_of.new.input c.device.ensures.at c.device-2.ensures.at _ _ _ _ _ _ r c.decode_of.ensures.reported;
+      does = all_ok r _ (search (rules, rw (c.device.ensures.bytes, c.device-2.ensures.bytes) at bytes.ok));
+      stops = all_err r _ (search (rules, rw (c.device.ensures.bytes, c.device-2.ensures.bytes) at bytes.err));
+      keeps = all_err r _ (search (rules, kept));
+      names = all_err r _ bytes.names;
+      refuses = tt;
+      unread = all_err r _ (decode_unread (g.F.FileSystem.is_device_at c.args.files.now) g.F.Device.Source.log _ _ c.device.result c.decode_of.new.configuration c.device-2.result
+          c.decode_of.new.input c.device.ensures.at c.device-2.ensures.at _ _ _ _ _ _ r c.decode_of.ensures.reported);
     }

@@ -5,14 +5,15 @@ use Rattle.ffv1_program.proofs.Unread.{unread_as, picture_unread}
 use Rattle.ffv1_program.proofs.pictures.picture_file.Goals as goal
 
 pub returns : goal.returns
-returns g c =
+returns g c out =
     let r = c.picture_of.result in
     let bytes = picture_of_bytes _ _ _ _ _ _ r c.picture_of.ensures.reported in
     let kept = both_through r _ _ _ _ _ _ c.new.ensures.writer c.new-2.ensures.writer c.picture_of.ensures.untouched in
     record {
-      ok = search (rules, rw c.in_ok-file.ensures.bytes at bytes.ok);
-      err = search (rules, rw c.in_ok-file.ensures.bytes at bytes.err);
-      untouched = search (rules, kept);
+      does = search (rules, rw c.in_ok-file.ensures.bytes at bytes.ok);
+      stops = search (rules, rw c.in_ok-file.ensures.bytes at bytes.err);
+      keeps = search (rules, kept);
+      refuses = tt;
       names = bytes.names;
       unread = unread_as _ _ r (λ path unread. (c.in_ok-file.file, c.picture_of.new.file, c.in_ok-file.ensures.at, unread))
           (picture_unread _ _ _ _ _ _ r c.picture_of.ensures.reported);
