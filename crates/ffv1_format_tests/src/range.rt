@@ -1,23 +1,15 @@
 //! Worked values, records that FFmpeg 5.1 wrote, and records made by a program of its own.
 ghost use Rattle.std.specs.Prelude.{◌≡◌};
-ghost use Rattle.ffv1_range.specs.Decoder.{AreStates};
 
 use crate::recorded;
 use ffv1_range::{RangeDecoder, RangeFault, Setup, SetupFault};
 use std::alloc::Global;
 
-/// A row of states before its first bit.
-fn fresh_row() -> [u8; 32]
-    ensures { AreStates result }
-{
-    [128; 32]
-}
-
 /// Whether the next unsigned symbols of a row of their own are these values.
 fn reads(decoder: &mut RangeDecoder<'_>, values: &[u32]) -> bool
     ensures { decoder.new.closed ≡ decoder.old.closed }
 {
-    let mut states = fresh_row();
+    let mut states = [128; 32];
     for value in values {
         if decoder.unsigned(&mut states) != Ok(*value) {
             return false;
@@ -28,7 +20,7 @@ fn reads(decoder: &mut RangeDecoder<'_>, values: &[u32]) -> bool
 
 /// Whether the next signed symbols of a row of their own are these values.
 fn reads_signed(decoder: &mut RangeDecoder<'_>, values: &[i64]) -> bool {
-    let mut states = fresh_row();
+    let mut states = [128; 32];
     for value in values {
         if decoder.signed(&mut states) != Ok(*value) {
             return false;
@@ -73,7 +65,7 @@ fn slice_headers_end_before_their_codes(rt: HostRuntime) {
 fn short_content_is_reported_again(rt: HostRuntime) {
     let mut decoder = RangeDecoder::sentinel(&[0x3F, 0x2B]).expect(&rt, "a start");
     let is_read = reads(&mut decoder, &[1, 0, 0, 0, 0, 0, 0]);
-    let mut states = fresh_row();
+    let mut states = [128; 32];
     let unsigned = decoder.unsigned(&mut states).err();
     let faults = [
         unsigned,

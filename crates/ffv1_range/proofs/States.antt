@@ -1,7 +1,7 @@
 -- The states stay in their range: computed over the whole table.
-use Rattle.std.proofs.Common.{◌≡◌, ℕ, ◌<◌, Bool, true, leb, refl, arith, inl, inr}
-use Rattle.std.specs.Prelude.{◌&&◌, ◌||◌, not}
-use Rattle.std.proofs.lemmas.Bool.{agree_below_at, leb-true, and_parts, or_cases, le-leb, and_from, both_ways, not-true}
+use Rattle.std.proofs.Common.{◌≡◌, ◌≢◌, ℕ, ◌<◌, ◌-◌, ◌%◌, Bool, true, leb, refl, arith, inl, inr, ap}
+use Rattle.std.specs.Prelude.{◌&&◌, ◌||◌, not, if◌then◌else◌}
+use Rattle.std.proofs.lemmas.Bool.{agree_below_at, leb-true, and_parts, or_cases, le-leb, and_from, both_ways, not-true, ne_eqb}
 use Rattle.ffv1_range.specs.Coding.{IsBitState, one_state, zero_state}
 
 in_range : ℕ → Bool
@@ -37,3 +37,6 @@ one_stays s h = (both_stay s h).0
 
 pub zero_stays : (s : ℕ) → IsBitState s → IsBitState (zero_state s)
 zero_stays s h = (both_stay s h).1
+
+pub zero_state-some : (s : ℕ) → s ≢ 0 → zero_state s ≡ (256 - one_state (256 - s)) % 256
+zero_state-some s h = ap (λ b. if b then 0 else (256 - one_state (256 - s)) % 256) (ne_eqb s 0 h)

@@ -1,7 +1,6 @@
 -- A length cut into parts: where each part begins, that each place lies in one part, and so in one tile.
 use Rattle.std.proofs.Common.{◌≡◌, ℕ, ◌+◌, ◌-◌, ◌*◌, ◌/◌, ◌%◌, ◌<◌, ◌≤◌, sym, ap, subst, arith}
-use Rattle.std.proofs.Math.Nat.{div-lt_iff_lt-mul, le-div_iff_mul-le, div-mul-le_self, lt-div-mul-add, mul-le-mul_right, mul-le-mul_left, lt_of_mul-lt-mul_left, div-eq_of_lt-le, mod-add-div', mod-lt}
-use Rattle.ffv1_bits.specs.Limits.{most_tiles}
+use Rattle.std.proofs.Math.Nat.{div-lt_iff_lt-mul, le-div_iff_mul-le, div-mul-le_self, lt-div-mul-add, mul-le-mul_right, lt_of_mul-lt-mul_left, div-eq_of_lt-le, mod-add-div', mod-lt}
 use Rattle.ffv1_range.specs.Tiles.{GridValue, IsGrid, part_start, tile_rect, IsInside, EachPlaceInOneTile, EachTileInFrame}
 
 -- ---- one direction: part i begins at x or before exactly where i * len < (x + 1) * n

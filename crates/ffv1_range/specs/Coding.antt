@@ -1,5 +1,5 @@
 -- Range coding (RFC 9043, section 3.8.1.1 and the default state transition table of 3.8.1.5).
-use Rattle.std.specs.Prelude.{◌≡◌, ℕ, ◌+◌, ◌-◌, ◌*◌, ◌/◌, ◌≤◌, Bool, true, false, List, [], ◌∷◌, Result, Ok, Err, nat_lt, slice_index, slice_set, if◌then◌else◌}
+use Rattle.std.specs.Prelude.{◌≡◌, ℕ, ◌+◌, ◌-◌, ◌*◌, ◌/◌, ◌%◌, ◌≤◌, ◌==◌, Bool, true, false, List, [], ◌∷◌, Result, Ok, Err, nat_lt, slice_index, slice_set, if◌then◌else◌}
 use Rattle.ffv1_range.specs.Results.{◌>>>◌}
 use Rattle.ffv1_range.specs.declared.coding.RangeFault.{RangeFault}
 use Rattle.ffv1_range.specs.declared.coding.RangeFault.TheVariants.{Start, Short}
@@ -35,7 +35,7 @@ abbrev pub one_state : ℕ → ℕ
 one_state state = slice_index one_states state
 
 abbrev pub zero_state : ℕ → ℕ
-zero_state state = 256 - slice_index one_states (256 - state)
+zero_state state = if state == 0 then 0 else (256 - slice_index one_states (256 - state)) % 256
 
 abbrev pub bit_state_after : ℕ → Bool → ℕ
 bit_state_after state bit = if bit then one_state state else zero_state state

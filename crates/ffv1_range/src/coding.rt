@@ -1,12 +1,11 @@
 //! The range coder (RFC 9043, section 3.8.1.1): bits that are coded at states, read from the front of a content.
 //!
-//! An `Interval` keeps its range in 256..=65280 and its offset below the range. A state that is handed in within
-//! 8..=248 comes back within 8..=248. A decoder that met a fault keeps it.
+//! An `Interval` keeps its range in 256..=65280 and its offset below the range. A decoder that met a fault keeps it.
 ghost use Rattle.std.specs.Prelude.{◌≡◌, ℕ, ◌+◌, ◌≤◌, ◌<◌, length, IfOk, OnErr, false, true};
 ghost use Rattle.ffv1_range.specs.Coding.{start_of, started, IsBitState, bit_state_after, one_state, bit_at, refilled, slot_at};
 ghost use Rattle.ffv1_range.specs.Forms.{ReadsForm, same_fault, slot_form};
 ghost use Rattle.ffv1_range.specs.Inner.Forms.{Gives};
-ghost use Rattle.ffv1_range.specs.Decoder.{reader_at, ReadsBit, KeepsFault, AreStates, IsCoder, Starts, EndsAt};
+ghost use Rattle.ffv1_range.specs.Decoder.{reader_at, ReadsBit, KeepsFault, IsCoder, Starts, EndsAt};
 ghost use Rattle.ffv1_range.specs.Views.{coder_of};
 
 use std::marker::Model;
@@ -42,8 +41,8 @@ const ONE_STATES: [u8; 256] = [
 /// The range, the offset in it, and the bytes still to come.
 #[derive(Clone, Copy)]
 struct Interval<'a> {
-    range: u32,
-    low: u32,
+    range: u64,
+    low: u64,
     rest: &'a [u8],
 }
 
@@ -75,18 +74,21 @@ fn state_after_one(state: u8) -> u8
     ONE_STATES[state as usize]
 }
 
-/// The state after a bit that was coded at a state in 8..=248, by the default state transition table; it is in 8..=248
-/// again (RFC 9043, section 3.8.1.5).
+/// The state after a bit that was coded at a state, by the default state transition table (RFC 9043, section 3.8.1.5). From a state in
+/// 8..=248 it is in 8..=248 again, and from 0 it is 0 after a bit 0.
+#[inline(always)]
 pub fn next_state(state: u8, bit: bool) -> u8
-    requires { IsBitState state }
     ensures value { result ≡ bit_state_after state bit }
-    ensures in_range { IsBitState result }
+    ensures in_range { IsBitState state → IsBitState result }
 {
     if bit {
         return state_after_one(state);
     }
+    if state == 0 {
+        return 0;
+    }
     let mirrored = (256 - u32::from(state)) as u8;
-    (256 - u32::from(state_after_one(mirrored))) as u8
+    ((256 - u32::from(state_after_one(mirrored))) % 256) as u8
 }
 
 /// A decoder at the start of a content.
@@ -111,17 +113,17 @@ fn first_interval(content: &[u8], closed: bool) -> Result<Interval<'_>, RangeFau
 {
     match content {
         [first, second, rest @ ..] => interval_from(
-            256 * u32::from(*first) + u32::from(*second),
+            256 * u64::from(*first) + u64::from(*second),
             rest,
         ),
-        [first, rest @ ..] if closed => interval_from(256 * u32::from(*first), rest),
+        [first, rest @ ..] if closed => interval_from(256 * u64::from(*first), rest),
         [] if closed => interval_from(0, content),
         _ => Err(RangeFault::Short),
     }
 }
 
 /// The whole range, and the offset of the first bytes in it.
-fn interval_from(low: u32, rest: &[u8]) -> Result<Interval<'_>, RangeFault>
+fn interval_from(low: u64, rest: &[u8]) -> Result<Interval<'_>, RangeFault>
     ensures value { Gives coder_of result (started low rest.now) }
     ensures coder { IfOk result (λ x. IsCoder x.range x.low) }
     ensures rest { IfOk result (λ x. x.rest.now ≡ rest.entry.now) }
@@ -171,21 +173,30 @@ impl<'a> RangeDecoder<'a> {
         Ok(decoder.total - decoder.interval.rest.len() - 1)
     }
 
-    /// Reads one bit at a state in 8..=248 (RFC 9043, section 3.8.1.1). The state becomes the one that follows the bit.
+    /// Reads one bit at a state (RFC 9043, section 3.8.1.1). The state becomes the one that follows the bit.
     ///
     /// Refused with `Short` where a byte past the content is wanted in sentinel mode. A fault is returned by each later call too, and
     /// leaves the state as it was.
+    #[inline(always)]
     pub fn bit(&mut self, state: &mut u8) -> Result<bool, RangeFault>
-        requires { IsBitState state.old }
         ensures read { ReadsBit self.old state.old result self.new state.new }
         ensures kept { KeepsFault self.old result self.new }
-        ensures in_range { IsBitState state.new }
+        ensures unchanged { OnErr result (state.new ≡ state.old) }
+    {
+        self.read_bit(state, false)
+    }
+
+    /// Reads one bit at a state, as `bit` does; with no branch on it where it is even, as likely 0 as 1.
+    #[inline(always)]
+    fn read_bit(&mut self, state: &mut u8, is_even: bool) -> Result<bool, RangeFault>
+        ensures read { ReadsBit self.old state.old result self.new state.new }
+        ensures kept { KeepsFault self.old result self.new }
         ensures unchanged { OnErr result (state.new ≡ state.old) }
     {
         if let Some(fault) = self.fault {
             return Err(fault);
         }
-        match bit_of(self.closed, self.interval, *state) {
+        match bit_of(self.closed, self.interval, *state, is_even) {
             Ok((bit, interval)) => {
                 self.interval = interval;
                 *state = next_state(*state, bit);
@@ -199,14 +210,27 @@ impl<'a> RangeDecoder<'a> {
     }
 
     /// Reads one bit at a slot of the states.
+    #[inline(always)]
     pub(crate) fn slot(&mut self, states: &mut [u8; 32], slot: usize) -> Result<bool, RangeFault>
-        requires slot { slot < 32 }
-        requires states { AreStates states.old }
+        requires { slot < 32 }
         ensures read { ReadsForm same_fault (slot_form slot) self.old states.old result self.new states.new }
         ensures kept { KeepsFault self.old result self.new }
-        ensures in_range { AreStates states.new }
     {
         self.bit(&mut states[slot])
+    }
+
+    /// Reads one bit at a slot of the states, as `slot` does, with no branch on it.
+    #[inline(always)]
+    pub(crate) fn even_slot(
+        &mut self,
+        states: &mut [u8; 32],
+        slot: usize,
+    ) -> Result<bool, RangeFault>
+        requires { slot < 32 }
+        ensures read { ReadsForm same_fault (slot_form slot) self.old states.old result self.new states.new }
+        ensures kept { KeepsFault self.old result self.new }
+    {
+        self.read_bit(&mut states[slot], true)
     }
 
     /// Keeps a fault, so that it is returned from then on.
@@ -217,20 +241,40 @@ impl<'a> RangeDecoder<'a> {
     }
 }
 
-/// One bit at a state, and what is left of the interval.
-#[tactic(auto, unfolding(crate::specs::Coding::bit_at))]
+/// One bit at a state, and what is left of the interval; with no branch on an even one.
+#[inline(always)]
 fn bit_of(
     closed: bool,
     interval: Interval<'_>,
     state: u8,
+    is_even: bool,
 ) -> Result<(bool, Interval<'_>), RangeFault>
-    requires coder { IsCoder interval.range interval.low }
-    requires state { IsBitState state }
+    requires { IsCoder interval.range interval.low }
     ensures value { Gives (λ x. (x.0, coder_of x.1)) result (bit_at closed (coder_of interval.entry) state) }
     ensures coder { IfOk result (λ x. IsCoder x.1.range x.1.low) }
     ensures rest { IfOk result (λ x. length x.1.rest.now ≤ length interval.entry.rest.now) }
 {
-    let part = (interval.range * u32::from(state)) >> 8;
+    if is_even {
+        chosen_bit_of(closed, interval, state)
+    } else {
+        branched_bit_of(closed, interval, state)
+    }
+}
+
+/// One bit at a state: the part that holds the offset is computed.
+#[inline(always)]
+#[tactic(auto, unfolding(crate::specs::Coding::bit_at))]
+fn branched_bit_of(
+    closed: bool,
+    interval: Interval<'_>,
+    state: u8,
+) -> Result<(bool, Interval<'_>), RangeFault>
+    requires { IsCoder interval.range interval.low }
+    ensures value { Gives (λ x. (x.0, coder_of x.1)) result (bit_at closed (coder_of interval.entry) state) }
+    ensures coder { IfOk result (λ x. IsCoder x.1.range x.1.low) }
+    ensures rest { IfOk result (λ x. length x.1.rest.now ≤ length interval.entry.rest.now) }
+{
+    let part = (interval.range * u64::from(state)) >> 8;
     let low_part = interval.range - part;
     if interval.low < low_part {
         let next = refilled(
@@ -254,9 +298,43 @@ fn bit_of(
     Ok((true, next))
 }
 
+/// One bit at a state: both parts are computed, and one is chosen.
+#[inline(always)]
+#[tactic(auto, unfolding(crate::specs::Coding::bit_at))]
+fn chosen_bit_of(
+    closed: bool,
+    interval: Interval<'_>,
+    state: u8,
+) -> Result<(bool, Interval<'_>), RangeFault>
+    requires { IsCoder interval.range interval.low }
+    ensures value { Gives (λ x. (x.0, coder_of x.1)) result (bit_at closed (coder_of interval.entry) state) }
+    ensures coder { IfOk result (λ x. IsCoder x.1.range x.1.low) }
+    ensures rest { IfOk result (λ x. length x.1.rest.now ≤ length interval.entry.rest.now) }
+{
+    let part = (interval.range * u64::from(state)) >> 8;
+    let low_part = interval.range - part;
+    let bit = interval.low >= low_part;
+    let range = if bit { part } else { low_part };
+    let low = if bit {
+        interval.low - low_part
+    } else {
+        interval.low
+    };
+    let next = refilled(
+        closed,
+        Interval {
+            range,
+            low,
+            rest: interval.rest,
+        },
+    )?;
+    Ok((bit, next))
+}
+
 /// A byte more where the range is below 256.
+#[inline(always)]
 fn refilled(closed: bool, cut: Interval<'_>) -> Result<Interval<'_>, RangeFault>
-    requires wide { 8 ≤ cut.range }
+    requires some { 1 ≤ cut.range }
     requires narrow { cut.range ≤ 65280 }
     requires inside { cut.low < cut.range }
     ensures value { Gives coder_of result (refilled closed cut.entry.range cut.entry.low cut.entry.rest.now) }
@@ -269,7 +347,7 @@ fn refilled(closed: bool, cut: Interval<'_>) -> Result<Interval<'_>, RangeFault>
     match (cut.rest, closed) {
         ([byte, rest @ ..], _) => Ok(Interval {
             range: cut.range << 8,
-            low: (cut.low << 8) + u32::from(*byte),
+            low: (cut.low << 8) + u64::from(*byte),
             rest,
         }),
         ([], true) => Ok(Interval {

@@ -4,9 +4,7 @@
 //! Delta number k is read at row k of 32 rows, which start once a record and are kept over its sets.
 ghost use Rattle.std.specs.Prelude.{◌≡◌, ◌≤◌, ◌<◌, ℕ, [], IsOk, length, slice_index_or};
 ghost use Rattle.ffv1_range.specs.Forms.{ReadsForm};
-ghost use Rattle.ffv1_range.specs.Decoder.{AreStates};
 ghost use Rattle.ffv1_range.specs.TableForms.{delta_form, context_deltas, contexts_deltas, set_deltas, sets_deltas, deltas_form};
-ghost use Rattle.ffv1_range.specs.Inner.TableForms.{AreStateRows};
 ghost use Rattle.ffv1_range.specs.Inner.Views.{contexts_of};
 ghost use Rattle.ffv1_range.specs.declared.fault.SetupFault.TheVariants.{Range};
 
@@ -20,10 +18,8 @@ pub(crate) fn read_deltas(
     states: &mut [u8; 32],
     sets: &[TableSet],
 ) -> Result<(), SetupFault>
-    requires states { AreStates states.old }
-    requires alive { IsOk decoder.old.at }
-    ensures read { ReadsForm Range (deltas_form (contexts_of sets.now)) decoder.old states.old result decoder.new states.new }
-    ensures in_range { AreStates states.new }
+    requires { IsOk decoder.old.at }
+    ensures { ReadsForm Range (deltas_form (contexts_of sets.now)) decoder.old states.old result decoder.new states.new }
 {
     let mut rows = [[128; 32]; 32];
     for set in sets {
@@ -39,11 +35,7 @@ fn read_set_deltas(
     rows: &mut [[u8; 32]; 32],
     contexts: u32,
 ) -> Result<(), SetupFault>
-    requires states { AreStates states.old }
-    requires rows { AreStateRows rows.old }
-    ensures read { ReadsForm Range (set_deltas contexts) decoder.old (states.old, rows.old) result decoder.new (states.new, rows.new) }
-    ensures states_in_range { AreStates states.new }
-    ensures rows_in_range { AreStateRows rows.new }
+    ensures { ReadsForm Range (set_deltas contexts) decoder.old (states.old, rows.old) result decoder.new (states.new, rows.new) }
 {
     if decoder.slot(states, 0)? {
         return read_contexts_deltas(decoder, rows, contexts);
@@ -57,10 +49,8 @@ fn read_contexts_deltas(
     rows: &mut [[u8; 32]; 32],
     contexts: u32,
 ) -> Result<(), SetupFault>
-    requires rows { AreStateRows rows.old }
-    requires alive { IsOk decoder.old.at }
-    ensures read { ReadsForm Range (contexts_deltas contexts) decoder.old rows.old result decoder.new rows.new }
-    ensures in_range { AreStateRows rows.new }
+    requires { IsOk decoder.old.at }
+    ensures { ReadsForm Range (contexts_deltas contexts) decoder.old rows.old result decoder.new rows.new }
 {
     for _ in 0..contexts {
         read_context_deltas(decoder, rows)?;
@@ -73,9 +63,7 @@ fn read_context_deltas(
     decoder: &mut RangeDecoder<'_>,
     rows: &mut [[u8; 32]; 32],
 ) -> Result<(), SetupFault>
-    requires { AreStateRows rows.old }
-    ensures read { ReadsForm Range (context_deltas 32 0) decoder.old rows.old result decoder.new rows.new }
-    ensures in_range { AreStateRows rows.new }
+    ensures { ReadsForm Range (context_deltas 32 0) decoder.old rows.old result decoder.new rows.new }
 {
     for k in 0..32usize {
         read_delta(decoder, rows, k)?;
@@ -89,10 +77,8 @@ fn read_delta(
     rows: &mut [[u8; 32]; 32],
     k: usize,
 ) -> Result<i64, SetupFault>
-    requires number { k < 32 }
-    requires rows { AreStateRows rows.old }
-    ensures read { ReadsForm Range (delta_form k) decoder.old rows.old result decoder.new rows.new }
-    ensures in_range { AreStateRows rows.new }
+    requires { k < 32 }
+    ensures { ReadsForm Range (delta_form k) decoder.old rows.old result decoder.new rows.new }
 {
     let delta = decoder.signed(&mut rows[k])?;
     Ok(delta)

@@ -10,7 +10,6 @@ ghost use Rattle.ffv1_range.specs.Views.{planes_value, counts_of};
 ghost use Rattle.ffv1_range.specs.TableForms.{set_count};
 ghost use Rattle.ffv1_range.specs.Forms.{ReadsForm};
 ghost use Rattle.ffv1_range.specs.Inner.Forms.{ReadsFormAs};
-ghost use Rattle.ffv1_range.specs.Decoder.{AreStates};
 ghost use Rattle.ffv1_range.specs.Fields.{versions, planes, tile_counts, last_fields};
 ghost use Rattle.ffv1_range.specs.declared.fault.SetupFault.TheVariants.{Range};
 
@@ -54,9 +53,7 @@ pub(crate) fn read_versions(
     decoder: &mut RangeDecoder<'_>,
     states: &mut [u8; 32],
 ) -> Result<u32, SetupFault>
-    requires { AreStates states.old }
-    ensures read { ReadsForm Range versions decoder.old states.old result decoder.new states.new }
-    ensures in_range { AreStates states.new }
+    ensures { ReadsForm Range versions decoder.old states.old result decoder.new states.new }
 {
     if decoder.unsigned(states)? != 3 {
         return Err(SetupFault::Version);
@@ -73,9 +70,7 @@ pub(crate) fn read_planes(
     decoder: &mut RangeDecoder<'_>,
     states: &mut [u8; 32],
 ) -> Result<Planes, SetupFault>
-    requires { AreStates states.old }
-    ensures read { ReadsFormAs Range planes_value planes decoder.old states.old result decoder.new states.new }
-    ensures in_range { AreStates states.new }
+    ensures { ReadsFormAs Range planes_value planes decoder.old states.old result decoder.new states.new }
 {
     if decoder.unsigned(states)? != 0 {
         return Err(SetupFault::Coder);
@@ -121,11 +116,9 @@ pub(crate) fn read_counts(
     width: u32,
     height: u32,
 ) -> Result<Counts, SetupFault>
-    requires states { AreStates states.old }
     requires wide { width ≤ greatest_side }
     requires high { height ≤ greatest_side }
-    ensures read { ReadsFormAs Range counts_of (tile_counts width height) decoder.old states.old result decoder.new states.new }
-    ensures in_range { AreStates states.new }
+    ensures { ReadsFormAs Range counts_of (tile_counts width height) decoder.old states.old result decoder.new states.new }
 {
     let across_less = decoder.unsigned(states)?;
     let down_less = decoder.unsigned(states)?;
@@ -147,9 +140,7 @@ pub(crate) fn read_set_count(
     decoder: &mut RangeDecoder<'_>,
     states: &mut [u8; 32],
 ) -> Result<u32, SetupFault>
-    requires { AreStates states.old }
     ensures read { ReadsForm Range set_count decoder.old states.old result decoder.new states.new }
-    ensures in_range { AreStates states.new }
     ensures some { IfOk result (λ count. 1 ≤ count) }
     ensures few { IfOk result (λ count. count ≤ 8) }
 {
@@ -165,9 +156,7 @@ pub(crate) fn read_last_fields(
     decoder: &mut RangeDecoder<'_>,
     states: &mut [u8; 32],
 ) -> Result<u32, SetupFault>
-    requires { AreStates states.old }
-    ensures read { ReadsForm Range last_fields decoder.old states.old result decoder.new states.new }
-    ensures in_range { AreStates states.new }
+    ensures { ReadsForm Range last_fields decoder.old states.old result decoder.new states.new }
 {
     if decoder.unsigned(states)? != EC {
         return Err(SetupFault::ParityMode);
@@ -183,11 +172,9 @@ pub(crate) fn read_front(
     width: u32,
     height: u32,
 ) -> Result<Front, SetupFault>
-    requires states { AreStates states.old }
     requires wide { width ≤ greatest_side }
     requires high { height ≤ greatest_side }
     ensures read { ReadsFormAs Range front_value (front_form width height) decoder.old states.old result decoder.new states.new }
-    ensures in_range { AreStates states.new }
     ensures some { IfOk result (λ front. 1 ≤ front.sets) }
     ensures few { IfOk result (λ front. front.sets ≤ 8) }
 {

@@ -1,25 +1,21 @@
 //! Scalar symbols (RFC 9043, section 3.8.1.2): numbers whose bits are coded at the slots of a row of 32 states.
-//!
-//! A row that is handed in with all states in 8..=248 comes back so.
 ghost use Rattle.std.specs.Prelude.{◌≡◌, ◌<◌, IsOk, IfOk, pos, neg_ℤ, if◌then◌else◌};
 ghost use Rattle.ffv1_range.specs.Reading.{symbol_form, signed_symbol_form, exponent_form, low_form, SymbolIsSpelled, SignedSymbolIsSpelled};
 ghost use Rattle.ffv1_range.specs.Forms.{ReadsForm, same_fault};
-ghost use Rattle.ffv1_range.specs.Decoder.{KeepsFault, AreStates};
+ghost use Rattle.ffv1_range.specs.Decoder.{KeepsFault};
 
 use crate::coding::{RangeDecoder, RangeFault};
 
 impl RangeDecoder<'_> {
-    /// Reads an unsigned symbol at a row of 32 states, each in 8..=248 (RFC 9043, section 3.8.1.2). The states of the
+    /// Reads an unsigned symbol at a row of 32 states (RFC 9043, section 3.8.1.2). The states of the
     /// slots that it meets become those that follow its bits.
     ///
     /// Refused with `Short` where a byte past the content is wanted in sentinel mode, and with `SymbolTooLong` where
-    /// the exponent would pass 31. A fault is returned by each later call too, and leaves all states in 8..=248.
+    /// the exponent would pass 31. A fault is returned by each later call too.
     #[tactic(auto, unfolding(crate::specs::Reading::symbol_form))]
     pub fn unsigned(&mut self, states: &mut [u8; 32]) -> Result<u32, RangeFault>
-        requires { AreStates states.old }
         ensures read { ReadsForm same_fault symbol_form self.old states.old result self.new states.new }
         ensures kept { KeepsFault self.old result self.new }
-        ensures in_range { AreStates states.new }
     {
         if self.slot(states, 0)? {
             return Ok(0);
@@ -32,10 +28,8 @@ impl RangeDecoder<'_> {
     /// `unsigned` is.
     #[tactic(auto, unfolding(crate::specs::Reading::signed_symbol_form))]
     pub fn signed(&mut self, states: &mut [u8; 32]) -> Result<i64, RangeFault>
-        requires { AreStates states.old }
         ensures read { ReadsForm same_fault signed_symbol_form self.old states.old result self.new states.new }
         ensures kept { KeepsFault self.old result self.new }
-        ensures in_range { AreStates states.new }
     {
         if self.slot(states, 0)? {
             return Ok(0);
@@ -43,16 +37,14 @@ impl RangeDecoder<'_> {
         let exponent = self.exponent(states)?;
         let magnitude = self.magnitude(states, exponent)?;
         let slot = 11 + exponent.min(10) as usize;
-        let is_negative = self.slot(states, slot)?;
+        let is_negative = self.even_slot(states, slot)?;
         Ok(with_sign(magnitude, is_negative))
     }
 
     /// Reads the exponent of a symbol.
     fn exponent(&mut self, states: &mut [u8; 32]) -> Result<u32, RangeFault>
-        requires { AreStates states.old }
         ensures read { ReadsForm same_fault (exponent_form 32 0) self.old states.old result self.new states.new }
         ensures kept { KeepsFault self.old result self.new }
-        ensures in_range { AreStates states.new }
         ensures small { IfOk result (λ exponent. exponent < 32) }
     {
         for exponent in 0..32u32 {
@@ -67,17 +59,15 @@ impl RangeDecoder<'_> {
 
     /// Reads the bits of a magnitude under its highest.
     fn magnitude(&mut self, states: &mut [u8; 32], exponent: u32) -> Result<u32, RangeFault>
-        requires states { AreStates states.old }
         requires small { exponent < 32 }
         requires alive { IsOk self.old.at }
         ensures read { ReadsForm same_fault (low_form exponent 1) self.old states.old result self.new states.new }
         ensures kept { KeepsFault self.old result self.new }
-        ensures in_range { AreStates states.new }
     {
         let mut magnitude = 1;
         for place in (0..exponent).rev() {
             let slot = 22 + place.min(9) as usize;
-            let bit = self.slot(states, slot)?;
+            let bit = self.even_slot(states, slot)?;
             magnitude = 2 * magnitude + u32::from(bit);
         }
         Ok(magnitude)

@@ -3,7 +3,6 @@
 //!
 //! The lengths of `Runs` come to 128. The halves of a `TableSet` hold its entries 0 to 127 at their scale.
 ghost use Rattle.std.specs.Prelude.{◌≡◌, ◌≤◌, ◌<◌, ℕ, [], length, slice_index, slice_index_or, sum, vec_capacity};
-ghost use Rattle.ffv1_range.specs.Decoder.{AreStates};
 ghost use Rattle.ffv1_range.specs.Forms.{ReadsForm};
 ghost use Rattle.ffv1_range.specs.Inner.Forms.{ReadsFormAs, ReadsTo};
 ghost use Rattle.ffv1_range.specs.Views.{set_value, set_values};

@@ -6,12 +6,12 @@ use Rattle.ffv1_range.proofs.Forms.{Continues, at_ok}
 use Rattle.ffv1_range.proofs.DeltaSteps.{context_turn, context_fails, context_end}
 use Rattle.ffv1_range.proofs.deltas.read_context_deltas.Goals as goal
 
-pub returns-in_err-read_delta-clause-read : goal.returns-in_err-read_delta-clause-read
-returns-in_err-read_delta-clause-read c =
+pub returns-in_err-read_delta : goal.returns-in_err-read_delta
+returns-in_err-read_delta c =
     let p = err_from_is_err_and c.from_residual.result c.from_residual.ensures.1 in
     rw (p.1, p.2)
     (context_fails (context_deltas 32 0) (32 - c.loop-k.k) (31 - c.loop-k.k) c.loop-k.k c.in_err-read_delta.field-0.0 c.args.decoder.now c.loop-k.decoder
-    c.read_delta.new.decoder c.args.rows.now c.loop-k.rows c.read_delta.new.rows (omega arith) c.loop-k.invariant.going c.in_err-read_delta.ensures.read)
+    c.read_delta.new.decoder c.args.rows.now c.loop-k.rows c.read_delta.new.rows (omega arith) c.loop-k.invariant.going c.in_err-read_delta.ensures)
 
 pub loop-k-preserved : goal.loop-k-preserved
 loop-k-preserved c =
@@ -21,16 +21,15 @@ loop-k-preserved c =
           subst (λ n. Continues Range (context_deltas 32 0) c.args.decoder.now c.args.rows.now
           (context_deltas n (c.loop-k.k + 1)) c.read_delta.new.decoder c.read_delta.new.rows) left
           (context_turn (context_deltas 32 0) (32 - c.loop-k.k) (31 - c.loop-k.k) c.loop-k.k c.in_ok-read_delta.field-0 c.args.decoder.now c.loop-k.decoder
-          c.read_delta.new.decoder c.args.rows.now c.loop-k.rows c.read_delta.new.rows (omega arith) c.loop-k.invariant.going c.in_ok-read_delta.ensures.read);
-      rows = c.in_ok-read_delta.ensures.in_range;
+          c.read_delta.new.decoder c.args.rows.now c.loop-k.rows c.read_delta.new.rows (omega arith) c.loop-k.invariant.going c.in_ok-read_delta.ensures);
       alive = λ h. (
-        c.in_ok-read_delta.ensures.read.0,
-        at_ok c.loop-k.decoder c.read_delta.new.decoder c.in_ok-read_delta.ensures.read.0
-            c.in_ok-read_delta.ensures.read.2,
+        c.in_ok-read_delta.ensures.0,
+        at_ok c.loop-k.decoder c.read_delta.new.decoder c.in_ok-read_delta.ensures.0
+            c.in_ok-read_delta.ensures.2,
       );
     }
 
-pub returns-clause-read : goal.returns-clause-read
-returns-clause-read c =
+pub returns : goal.returns
+returns c =
     context_end (context_deltas 32 0) (32 - c.loop-k.k) c.loop-k.k c.args.decoder.now c.loop-k.decoder c.args.rows.now c.loop-k.rows (omega arith)
     (c.loop-k.invariant.alive (omega arith)) c.loop-k.invariant.going

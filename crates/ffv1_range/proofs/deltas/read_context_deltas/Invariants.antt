@@ -1,5 +1,4 @@
 use Rattle.std.proofs.Common.{◌-◌, ◌<◌}
-use Rattle.ffv1_range.specs.Inner.TableForms.{AreStateRows}
 use Rattle.ffv1_range.specs.TableForms.{context_deltas}
 use Rattle.ffv1_range.specs.declared.fault.SetupFault.TheVariants.{Range}
 use Rattle.ffv1_range.proofs.Forms.{Continues, IsAtPlace}
@@ -9,6 +8,5 @@ abbrev pub invariant-loop-k : goal.invariant-loop-k
 invariant-loop-k l =
     record {
       going : Continues Range (context_deltas 32 0) l.fn.decoder l.fn.rows (context_deltas (32 - l.k) l.k) l.decoder l.rows;
-      rows : AreStateRows l.rows;
       alive : 0 < l.k → IsAtPlace l.decoder;
     }

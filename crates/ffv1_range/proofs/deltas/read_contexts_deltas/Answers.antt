@@ -5,14 +5,14 @@ use Rattle.ffv1_range.proofs.Forms.{at_ok}
 use Rattle.ffv1_range.proofs.DeltaSteps.{contexts_turn, contexts_fails, contexts_end}
 use Rattle.ffv1_range.proofs.deltas.read_contexts_deltas.Goals as goal
 
-pub returns-in_err-read_context_deltas-clause-read : goal.returns-in_err-read_context_deltas-clause-read
-returns-in_err-read_context_deltas-clause-read c =
+pub returns-in_err-read_context_deltas : goal.returns-in_err-read_context_deltas
+returns-in_err-read_context_deltas c =
     let p = err_from_is_err_and c.from_residual.result c.from_residual.ensures.1 in
     rw (p.1, p.2)
     (contexts_fails (contexts_deltas c.args.contexts) (c.args.contexts - c.loop.counter)
     (c.args.contexts - (c.loop.counter + 1)) c.in_err-read_context_deltas.field-0.0
     c.args.decoder.now c.loop.decoder c.read_context_deltas.new.decoder c.args.rows.now c.loop.rows c.read_context_deltas.new.rows (omega arith)
-    c.loop.invariant.going c.in_err-read_context_deltas.ensures.read)
+    c.loop.invariant.going c.in_err-read_context_deltas.ensures)
 
 pub loop-preserved : goal.loop-preserved
 loop-preserved c =
@@ -20,16 +20,15 @@ loop-preserved c =
       going =
           contexts_turn (contexts_deltas c.args.contexts) (c.args.contexts - c.loop.counter) (c.args.contexts - (c.loop.counter + 1)) c.args.decoder.now
           c.loop.decoder c.read_context_deltas.new.decoder c.args.rows.now c.loop.rows c.read_context_deltas.new.rows (omega arith) c.loop.invariant.going
-          c.in_ok-read_context_deltas.ensures.read;
-      rows = c.in_ok-read_context_deltas.ensures.in_range;
+          c.in_ok-read_context_deltas.ensures;
       alive = (
-        c.in_ok-read_context_deltas.ensures.read.0,
-        at_ok c.loop.decoder c.read_context_deltas.new.decoder c.in_ok-read_context_deltas.ensures.read.0 c.in_ok-read_context_deltas.ensures.read.2,
+        c.in_ok-read_context_deltas.ensures.0,
+        at_ok c.loop.decoder c.read_context_deltas.new.decoder c.in_ok-read_context_deltas.ensures.0 c.in_ok-read_context_deltas.ensures.2,
       );
     }
 
-pub returns-clause-read : goal.returns-clause-read
-returns-clause-read c =
+pub returns : goal.returns
+returns c =
     contexts_end (contexts_deltas c.args.contexts) (c.args.contexts - c.loop.counter) c.args.decoder.now c.loop.decoder c.args.rows.now c.loop.rows
     (omega arith)
     c.loop.invariant.alive c.loop.invariant.going

@@ -1,6 +1,4 @@
 use Rattle.std.proofs.Common.{drop}
-use Rattle.ffv1_range.specs.Decoder.{AreStates}
-use Rattle.ffv1_range.specs.Inner.TableForms.{AreStateRows}
 use Rattle.ffv1_range.specs.TableForms.{fresh_rows, sets_deltas}
 use Rattle.ffv1_range.specs.Inner.Views.{contexts_of}
 use Rattle.ffv1_range.specs.declared.fault.SetupFault.TheVariants.{Range}
@@ -12,7 +10,5 @@ invariant-loop-set l =
     record {
       going : Continues Range (sets_deltas (contexts_of l.sets)) l.fn.decoder (l.fn.states, fresh_rows)
           (sets_deltas (contexts_of (drop l.set-index l.sets))) l.decoder (l.states, l.rows);
-      states : AreStates l.states;
-      rows : AreStateRows l.rows;
       alive : IsAtPlace l.decoder;
     }

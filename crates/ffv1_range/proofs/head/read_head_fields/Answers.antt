@@ -5,14 +5,12 @@ use Rattle.ffv1_range.specs.Forms.{same_fault, ReadsForm}
 use Rattle.ffv1_range.specs.TableForms.{fresh_row}
 use Rattle.ffv1_range.specs.HeaderForms.{symbols_onto, fields_form}
 use Rattle.ffv1_range.proofs.Forms.{Continues, continue_start, at_ok}
-use Rattle.ffv1_range.proofs.TableSteps.{fresh_row-states}
 use Rattle.ffv1_range.proofs.HeaderSteps.{symbol_turn, symbol_fails, fields_end}
 use Rattle.ffv1_range.proofs.head.read_head_fields.Goals as goal
 
 pub loop-index-init : goal.loop-index-init
 loop-index-init c = record {
   going = continue_start same_fault (symbols_onto 9 []) c.args.decoder.now fresh_row;
-  states = fresh_row-states;
   nine = search rules;
   alive = λ h. absurd (omega arith);
 }
@@ -33,7 +31,6 @@ loop-index-preserved c =
           (symbol_turn (symbols_onto 9 []) (9 - k) (8 - k) a (take k xs) c.args.decoder.now c.loop-index.decoder c.unsigned.new.self fresh_row
           c.loop-index.states
           c.unsigned.new.states (omega arith) c.loop-index.invariant.going c.in_ok-symbol.ensures.read));
-      states = c.in_ok-symbol.ensures.in_range;
       nine = search (rules, c.loop-index.invariant.nine);
       alive = λ h. (c.in_ok-symbol.ensures.read.0, at_ok c.loop-index.decoder c.unsigned.new.self c.in_ok-symbol.ensures.read.0 c.in_ok-symbol.ensures.read.2);
     }

@@ -6,14 +6,13 @@ use Rattle.std.proofs.lemmas.Result.{err_from_is_err_and}
 use Rattle.ffv1_range.specs.TableForms.{fresh_row, runs_from}
 use Rattle.ffv1_range.specs.declared.fault.SetupFault.TheVariants.{Range, TableRun}
 use Rattle.ffv1_range.proofs.Forms.{Continues, continue_start, at_ok}
-use Rattle.ffv1_range.proofs.TableSteps.{run_turn, run_fails, run_too_long, runs_end, table_fails, table_read, fresh_row-states}
+use Rattle.ffv1_range.proofs.TableSteps.{run_turn, run_fails, run_too_long, runs_end, table_fails, table_read}
 use Rattle.ffv1_range.proofs.tables.read_runs.Goals as goal
 
 pub loop-filled-init : goal.loop-filled-init
 loop-filled-init c =
     record {
       going = continue_start Range (runs_from 128 0 []) c.args.decoder.now fresh_row;
-      states = fresh_row-states;
       alive = λ h. absurd (omega arith);
       runs = omega arith;
       whole = omega arith;
@@ -57,7 +56,6 @@ loop-filled-preserved c =
           (take c.loop-filled.count c.loop-filled.lengths) c.args.decoder.now c.loop-filled.decoder c.unsigned.new.self fresh_row c.loop-filled.states
           c.unsigned.new.states (omega (arith, c.loop-filled.invariant.runs)) c.loop-filled-test.true (omega arith) c.loop-filled.invariant.going
           c.in_ok-less.ensures.read));
-      states = c.in_ok-less.ensures.in_range;
       alive = λ h. (c.in_ok-less.ensures.read.0, at_ok c.loop-filled.decoder c.unsigned.new.self c.in_ok-less.ensures.read.0 c.in_ok-less.ensures.read.2);
       runs = omega (arith, c.loop-filled.invariant.runs);
       whole = omega arith;

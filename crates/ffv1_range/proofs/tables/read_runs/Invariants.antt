@@ -1,6 +1,5 @@
 use Rattle.std.proofs.Common.{◌≡◌, ◌≤◌, ◌-◌, ◌<◌, [], take, length}
 use Rattle.std.specs.Prelude.{sum}
-use Rattle.ffv1_range.specs.Decoder.{AreStates}
 use Rattle.ffv1_range.specs.TableForms.{fresh_row, runs_from}
 use Rattle.ffv1_range.specs.declared.fault.SetupFault.TheVariants.{Range}
 use Rattle.ffv1_range.proofs.Forms.{Continues, IsAtPlace}
@@ -10,7 +9,6 @@ abbrev pub invariant-loop-filled : goal.invariant-loop-filled
 invariant-loop-filled l =
     record {
       going : Continues Range (runs_from 128 0 []) l.fn.decoder fresh_row (runs_from (128 - l.count) l.filled (take l.count l.lengths)) l.decoder l.states;
-      states : AreStates l.states;
       alive : 0 < l.filled → IsAtPlace l.decoder;
       runs : l.count ≤ l.filled;
       whole : l.filled ≤ 128;

@@ -8,10 +8,7 @@ use Rattle.ffv1_range.proofs.coding.RangeDecoder.exponent.Goals as goal
 
 pub loop-exponent-init : goal.loop-exponent-init
 loop-exponent-init c =
-    record { going = continue_start same_fault (exponent_form 32 0) c.args.self.now c.args.states.now; states = c.requires; alive = λ h. absurd (omega arith) }
-
-pub slot-requires-clause-states : goal.slot-requires-clause-states
-slot-requires-clause-states c = c.loop-exponent.invariant.states
+    record { going = continue_start same_fault (exponent_form 32 0) c.args.self.now c.args.states.now; alive = λ h. absurd (omega arith) }
 
 pub returns-in_err-slot-clause-read : goal.returns-in_err-slot-clause-read
 returns-in_err-slot-clause-read c =
@@ -37,7 +34,6 @@ loop-exponent-preserved c =
           (exponent_turn (32 - c.loop-exponent.exponent) (31 - c.loop-exponent.exponent) c.loop-exponent.exponent (1 + c.min.result) c.in_ok-slot.field-0
           c.args.self.now c.loop-exponent.self c.slot.new.self c.args.states.now c.loop-exponent.states c.slot.new.states
           (omega arith) (ap (λ x. 1 + x) c.min.ensures) c.if-not-branch.false c.loop-exponent.invariant.going c.in_ok-slot.ensures.read);
-      states = c.in_ok-slot.ensures.in_range;
       alive = λ h. (c.in_ok-slot.ensures.read.0, at_ok c.loop-exponent.self c.slot.new.self c.in_ok-slot.ensures.read.0 c.in_ok-slot.ensures.read.2);
     }
 
@@ -46,6 +42,3 @@ returns-clause-read c =
     let alive : IsAtPlace c.loop-exponent.self = c.loop-exponent.invariant.alive (omega arith) in
     c.loop-exponent.invariant.going.same
     ∙ exponent_over (32 - c.loop-exponent.exponent) c.loop-exponent.exponent c.loop-exponent.self alive.0 c.loop-exponent.states (omega arith) alive.1
-
-pub returns-clause-in_range : goal.returns-clause-in_range
-returns-clause-in_range c = c.loop-exponent.invariant.states

@@ -1,5 +1,4 @@
 use Rattle.std.proofs.Common.{◌-◌, ◌<◌}
-use Rattle.ffv1_range.specs.Decoder.{AreStates}
 use Rattle.ffv1_range.specs.Forms.{same_fault}
 use Rattle.ffv1_range.specs.Reading.{exponent_form}
 use Rattle.ffv1_range.proofs.Forms.{Continues, IsAtPlace}
@@ -9,6 +8,5 @@ abbrev pub invariant-loop-exponent : goal.invariant-loop-exponent
 invariant-loop-exponent l =
     record {
       going : Continues same_fault (exponent_form 32 0) l.fn.self l.fn.states (exponent_form (32 - l.exponent) l.exponent) l.self l.states;
-      states : AreStates l.states;
       alive : 0 < l.exponent → IsAtPlace l.self;
     }

@@ -10,7 +10,7 @@ returns-in_err-bit-clause-read c =
     let p = err_from_is_err_and c.from_residual.result c.from_residual.ensures.1 in
     rw (p.1, p.2)
     (low_fails c.args.exponent c.loop-place.place (c.loop-place.place - 1) c.loop-place.magnitude (22 + c.min.result) c.in_err-bit.field-0.0
-    c.args.self.now c.loop-place.self c.slot.new.self c.args.states.now c.loop-place.states c.slot.new.states
+    c.args.self.now c.loop-place.self c.even_slot.new.self c.args.states.now c.loop-place.states c.even_slot.new.states
     (omega arith) (ap (λ x. 22 + x) c.min.ensures) c.loop-place.invariant.going c.in_err-bit.ensures.read)
 
 fits : (c : After-from) → (2 * c.loop-place.magnitude + c.from.result + 1) * 2 ^ (c.loop-place.place - 1) ≤ 2 ^ 32
@@ -33,10 +33,9 @@ loop-place-preserved c =
     record {
       going =
           low_turn c.args.exponent c.loop-place.place (c.loop-place.place - 1) c.loop-place.magnitude (22 + c.min.result) c.from.result c.in_ok-bit.bit
-          c.args.self.now c.loop-place.self c.slot.new.self c.args.states.now c.loop-place.states c.slot.new.states
+          c.args.self.now c.loop-place.self c.even_slot.new.self c.args.states.now c.loop-place.states c.even_slot.new.states
           (omega arith) (ap (λ x. 22 + x) c.min.ensures) c.from.ensures c.loop-place.invariant.going c.in_ok-bit.ensures.read;
-      states = c.in_ok-bit.ensures.in_range;
-      alive = (c.in_ok-bit.ensures.read.0, at_ok c.loop-place.self c.slot.new.self c.in_ok-bit.ensures.read.0 c.in_ok-bit.ensures.read.2);
+      alive = (c.in_ok-bit.ensures.read.0, at_ok c.loop-place.self c.even_slot.new.self c.in_ok-bit.ensures.read.0 c.in_ok-bit.ensures.read.2);
       fits = fits c;
     }
 

@@ -3,14 +3,10 @@ use Rattle.std.proofs.lemmas.Result.{err_from_is_err_and}
 use Rattle.ffv1_range.specs.Views.{set_values}
 use Rattle.ffv1_range.specs.Inner.Views.{contexts_of, front_value}
 use Rattle.ffv1_range.specs.declared.fault.SetupFault.TheVariants.{Range, Size}
-use Rattle.ffv1_range.proofs.TableSteps.{fresh_row-states}
 use Rattle.ffv1_range.proofs.SetupSteps.{not_checked, width_refused, height_refused, start_refused, front_fails, memory_refused, sets_fail, deltas_fail, last_fails, all_read, contexts_of-values}
 use Rattle.ffv1_range.proofs.SetupLaws.{returned, refused_by, read_in_profile, refused_in, read_in}
 use Rattle.ffv1_range.proofs.setup.Setup.read.Goals as goal
 use Rattle.ffv1_range.proofs.setup.Setup.read.Goals.{then-not-is_size-via-then-not-is_size, then-not-is_size-via-else-not-is_size+then-not-is_size-2}
-
-pub read_front-requires-clause-states : goal.read_front-requires-clause-states
-read_front-requires-clause-states c = fresh_row-states
 
 pub returns-in_err-content : goal.returns-in_err-content
 returns-in_err-content c =
@@ -66,7 +62,7 @@ returns-in_err-read_deltas c =
     (refused_in _ _ _ _ _ c.in_ok-content.ensures c.if-not-is_size.ensures c.if-not-is_size-2.ensures c.in_ok-decoder.ensures true _
     (deltas_fail _ _ (front_value c.in_ok-front.front) (set_values c.read_sets.new.sets.items) _ _ _ _ _ _ _
     (ap contexts_of c.deref.ensures.value ∙ contexts_of-values c.read_sets.new.sets.items)
-    c.in_ok-front.ensures.read c.in_ok-read_sets.ensures.read c.in_err-read_deltas.ensures.read))
+    c.in_ok-front.ensures.read c.in_ok-read_sets.ensures.read c.in_err-read_deltas.ensures))
 
 pub returns-in_err-intra : goal.returns-in_err-intra
 returns-in_err-intra c =
@@ -75,13 +71,13 @@ returns-in_err-intra c =
     (refused_in _ _ _ _ _ c.in_ok-content.ensures c.if-not-is_size.ensures c.if-not-is_size-2.ensures c.in_ok-decoder.ensures true _
     (last_fails _ _ (front_value c.in_ok-front.front) (set_values c.read_sets.new.sets.items) _ _ _ _ _ _ _ _ _
     (ap contexts_of c.deref.ensures.value ∙ contexts_of-values c.read_sets.new.sets.items)
-    c.in_ok-front.ensures.read c.in_ok-read_sets.ensures.read c.in_ok-read_deltas.ensures.read c.in_err-intra.ensures.read))
+    c.in_ok-front.ensures.read c.in_ok-read_sets.ensures.read c.in_ok-read_deltas.ensures c.in_err-intra.ensures))
 
 pub invariant_of-result : goal.invariant_of-result
 invariant_of-result c =
     let read = all_read _ _ (front_value c.in_ok-front.front) (set_values c.read_sets.new.sets.items) _ _ _ _ _ _ _ _ _ _ _
     (ap contexts_of c.deref.ensures.value ∙ contexts_of-values c.read_sets.new.sets.items)
-    c.in_ok-front.ensures.read c.in_ok-read_sets.ensures.read c.in_ok-read_deltas.ensures.read c.in_ok-intra.ensures.read in
+    c.in_ok-front.ensures.read c.in_ok-read_sets.ensures.read c.in_ok-read_deltas.ensures c.in_ok-intra.ensures in
     read_in_profile c.args.config.now c.args.width c.args.height _
     (read_in _ _ _ _ _ c.in_ok-content.ensures c.if-not-is_size.ensures c.if-not-is_size-2.ensures c.in_ok-decoder.ensures _ _ read.1)
 
@@ -89,6 +85,6 @@ pub returns : goal.returns
 returns c =
     let read = all_read _ _ (front_value c.in_ok-front.front) (set_values c.read_sets.new.sets.items) _ _ _ _ _ _ _ _ _ _ _
     (ap contexts_of c.deref.ensures.value ∙ contexts_of-values c.read_sets.new.sets.items)
-    c.in_ok-front.ensures.read c.in_ok-read_sets.ensures.read c.in_ok-read_deltas.ensures.read c.in_ok-intra.ensures.read in
+    c.in_ok-front.ensures.read c.in_ok-read_sets.ensures.read c.in_ok-read_deltas.ensures c.in_ok-intra.ensures in
     returned c.args.config.now c.args.width c.args.height _
     (read_in _ _ _ _ _ c.in_ok-content.ensures c.if-not-is_size.ensures c.if-not-is_size-2.ensures c.in_ok-decoder.ensures _ _ read.1)

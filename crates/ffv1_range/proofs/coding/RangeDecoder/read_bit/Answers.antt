@@ -1,6 +1,6 @@
 use Rattle.std.proofs.Common.{rules}
 use Rattle.ffv1_range.proofs.Slots.{bit_read}
-use Rattle.ffv1_range.proofs.coding.RangeDecoder.bit.Goals as goal
+use Rattle.ffv1_range.proofs.coding.RangeDecoder.read_bit.Goals as goal
 
 pub returns-in-Ok-clause-read : goal.returns-in-Ok-clause-read
 returns-in-Ok-clause-read c =
