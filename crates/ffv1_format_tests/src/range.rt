@@ -2,12 +2,12 @@
 ghost use Rattle.std.specs.Prelude.{◌≡◌};
 
 use crate::recorded;
-use ffv1_range::{RangeDecoder, RangeFault, Setup, SetupFault};
+use ffv1_range::{RangeDecoder, RangeFault, Setup, SetupFault, Transitions};
 use std::alloc::Global;
 
 /// Whether the next unsigned symbols of a row of their own are these values.
 fn reads(decoder: &mut RangeDecoder<'_>, values: &[u32]) -> bool
-    ensures { decoder.new.closed ≡ decoder.old.closed }
+    ensures { decoder.new.mode ≡ decoder.old.mode }
 {
     let mut states = [128; 32];
     for value in values {
@@ -88,6 +88,37 @@ fn signed_symbols_have_their_sign(rt: HostRuntime) {
             &[0, 1, -1, 2, -5, 1000, -70000, 4294967295, -4294967295]
         )
     );
+}
+
+/// Whether the content of a slice that is range-coded to its end has a keyframe bit 1, a header of tile 0, and these differences.
+fn reads_slice(content: &[u8], transitions: &Transitions, differences: &[i64]) -> bool {
+    let Ok(mut decoder) = RangeDecoder::slice(content, transitions) else {
+        return false;
+    };
+    let mut state = 128;
+    decoder.bit(&mut state) == Ok(true)
+        && reads(&mut decoder, &[0, 0, 0, 0, 0, 0, 3, 1, 1])
+        && reads_signed(&mut decoder, differences)
+}
+
+#[test]
+fn one_zero_byte_follows_a_slice(rt: HostRuntime) {
+    let standard = Transitions::standard();
+    let whole = [0xFC, 0x16, 0x48, 0x2C, 0xE5, 0x9E, 0xC4];
+    assert!(rt; reads_slice(&whole, &standard, &[7, -63, 56]));
+    assert!(rt; reads_slice(&whole[..6], &standard, &[7, -63, -55]));
+    assert!(rt; reads_slice(&whole[..5], &standard, &[7, -63]));
+    assert!(rt; !reads_slice(&whole[..5], &standard, &[7, -63, -55]));
+    assert!(rt; !reads_slice(&whole[..5], &standard, &[7, -63, 56]));
+}
+
+#[test]
+fn slices_are_read_by_their_own_transitions(rt: HostRuntime) {
+    let content = [0xFB, 0x8D, 0x7E, 0xDE, 0xC3, 0xCB, 0x42];
+    let mut deltas = [0; 255];
+    deltas[127] = 5;
+    assert!(rt; reads_slice(&content, &Transitions::with_deltas(&deltas), &[7, -63, 56]));
+    assert!(rt; !reads_slice(&content, &Transitions::standard(), &[7, -63, 56]));
 }
 
 /// Records, sizes of their frames, and what is judged before any field.

@@ -4,7 +4,7 @@ use Rattle.std.proofs.Math.Path.{fun_ext}
 use Rattle.std.specs.Prelude.{nat_le, ◌==◌, ◌||◌, ◌&&◌, not, if◌then◌else◌}
 use Rattle.ffv1_bits.specs.Limits.{most_tiles}
 use Rattle.ffv1_range.specs.Results.{◌>>>◌}
-use Rattle.ffv1_range.specs.Coding.{PlaceOf, Place, IsRangeRun}
+use Rattle.ffv1_range.specs.Coding.{Mode, PlaceOf, Place, IsRangeRun}
 use Rattle.ffv1_range.specs.Forms.{Form, ◌>>=◌, giving, accepted, lifted_result, slot_form}
 use Rattle.ffv1_range.specs.Reading.{symbol_form}
 use Rattle.ffv1_range.specs.Symbols.{symbol_bits}
@@ -23,28 +23,28 @@ pub lifted_ok : {A E : Type 0} (lift : RangeFault → E) (r : Result A RangeFaul
 lifted_ok lift (Ok y) x h = ap (λ z. Ok z) (same_ok y x h)
 lifted_ok lift (Err e) x h = absurd cc
 
-pub number-found : (closed : Bool) (p : Place) (x : ℕ × Place) → number closed p ≡ Ok x → IsSymbol x.0 × IsRangeRun closed p (symbol_bits x.0) x.1
-number-found closed p x h = (symbol_is_spelled closed p x.1 x.0).0 (lifted_ok Range (symbol_form closed p) x h)
+pub number-found : (mode : Mode) (p : Place) (x : ℕ × Place) → number mode p ≡ Ok x → IsSymbol x.0 × IsRangeRun mode p (symbol_bits x.0) x.1
+number-found mode p x h = (symbol_is_spelled mode p x.1 x.0).0 (lifted_ok Range (symbol_form mode p) x h)
 
-pub number-run : (closed : Bool) (n : ℕ) (p q : Place) → IsSymbol n → IsRangeRun closed p (symbol_bits n) q → number closed p ≡ Ok (n, q)
-number-run closed n p q small run = ap (lifted_result Range) ((symbol_is_spelled closed p q n).1 (small, run))
+pub number-run : (mode : Mode) (n : ℕ) (p q : Place) → IsSymbol n → IsRangeRun mode p (symbol_bits n) q → number mode p ≡ Ok (n, q)
+number-run mode n p q small run = ap (lifted_result Range) ((symbol_is_spelled mode p q n).1 (small, run))
 
-pub flag-found : (closed : Bool) (p : Place) (x : Bool × Place) → flag closed p ≡ Ok x → IsRangeRun closed p (fields_bits (bit x.0 ∷ [])) x.1
+pub flag-found : (mode : Mode) (p : Place) (x : Bool × Place) → flag mode p ≡ Ok x → IsRangeRun mode p (fields_bits (bit x.0 ∷ [])) x.1
 unfolding IsRangeRun fields_bits
-flag-found closed p x h = (x.1, lifted_ok Range (slot_form 0 closed p) x h, refl)
+flag-found mode p x h = (x.1, lifted_ok Range (slot_form 0 mode p) x h, refl)
 
-pub flag-run : (closed : Bool) (b : Bool) (p q : Place) → IsRangeRun closed p (fields_bits (bit b ∷ [])) q → flag closed p ≡ Ok (b, q)
+pub flag-run : (mode : Mode) (b : Bool) (p q : Place) → IsRangeRun mode p (fields_bits (bit b ∷ [])) q → flag mode p ≡ Ok (b, q)
 unfolding IsRangeRun fields_bits
-flag-run closed b p q run = ap (lifted_result Range) run.1 ∙ ap (λ z. Ok (b, z)) run.2
+flag-run mode b p q run = ap (lifted_result Range) run.1 ∙ ap (λ z. Ok (b, z)) run.2
 
-pub accepted-found : {X A : Type 0} (closed : Bool) (p : PlaceOf X) (t : Bool) (f : SetupFault) (k : Bool → Form X A SetupFault) (y : A × PlaceOf X)
-    → (accepted t f >>= k) closed p ≡ Ok y → (t ≡ true) × (k true closed p ≡ Ok y)
-accepted-found closed p true f k y h = (refl, h)
-accepted-found closed p false f k y h = absurd cc
+pub accepted-found : {X A : Type 0} (mode : Mode) (p : PlaceOf X) (t : Bool) (f : SetupFault) (k : Bool → Form X A SetupFault) (y : A × PlaceOf X)
+    → (accepted t f >>= k) mode p ≡ Ok y → (t ≡ true) × (k true mode p ≡ Ok y)
+accepted-found mode p true f k y h = (refl, h)
+accepted-found mode p false f k y h = absurd cc
 
-pub accepted-run : {X A : Type 0} (closed : Bool) (p : PlaceOf X) (t : Bool) (f : SetupFault) (k : Bool → Form X A SetupFault) → t ≡ true
-    → (accepted t f >>= k) closed p ≡ k true closed p
-accepted-run closed p t f k e = ap (λ b. (accepted b f >>= k) closed p) e
+pub accepted-run : {X A : Type 0} (mode : Mode) (p : PlaceOf X) (t : Bool) (f : SetupFault) (k : Bool → Form X A SetupFault) → t ≡ true
+    → (accepted t f >>= k) mode p ≡ k true mode p
+accepted-run mode p t f k e = ap (λ b. (accepted b f >>= k) mode p) e
 
 -- ---- fields one after the other
 
@@ -105,42 +105,42 @@ Each-from (flag_then next) P h = λ b. Each-from (next b) (λ z. P (b, z)) (λ z
 Each-from (tested test fault next) P h = λ passed. Each-from next (λ z. P (passed, z)) (λ z. h (passed, z))
 
 -- From p to the end of what was read, fields that the plan takes are coded, and what was read is their value.
-abbrev pub PlanAt : {A : Type 0} → Plan A → Bool → Place → A × Place → Type 0
-PlanAt plan closed p y = (x : Taken plan) × (value_of plan x ≡ y.0) × IsRangeRun closed p (fields_bits (fields_of plan x)) y.1
+abbrev pub PlanAt : {A : Type 0} → Plan A → Mode → Place → A × Place → Type 0
+PlanAt plan mode p y = (x : Taken plan) × (value_of plan x ≡ y.0) × IsRangeRun mode p (fields_bits (fields_of plan x)) y.1
 
 -- Where a plan is read, fields that it takes are coded.
-pub plan-found : {A : Type 0} (plan : Plan A) (closed : Bool) (p : Place) (y : A × Place) → form_of plan closed p ≡ Ok y
-    → PlanAt plan closed p y
+pub plan-found : {A : Type 0} (plan : Plan A) (mode : Mode) (p : Place) (y : A × Place) → form_of plan mode p ≡ Ok y
+    → PlanAt plan mode p y
 unfolding form_of Taken fields_of value_of fields_bits IsRangeRun
-plan-found (done a) closed p y h = let same = same_ok (a, p) y h in (tt, ap (λ z. z.0) same, ap (λ z. z.1) same)
-plan-found (number_then next) closed p y h =
-    let n = bind_is_ok (number closed p) (λ x. form_of (next x.0) closed x.1) y h in
-    let s = number-found closed p n.0 n.1 in
-    let r = plan-found (next n.0.0) closed n.0.1 y n.2 in
-    ((n.0.0, s.0, r.0), r.1, run_append closed (symbol_bits n.0.0) (fields_bits (fields_of (next n.0.0) r.0)) p n.0.1 y.1 s.1 r.2)
-plan-found (flag_then next) closed p y h =
-    let b = bind_is_ok (flag closed p) (λ x. form_of (next x.0) closed x.1) y h in
-    let r = plan-found (next b.0.0) closed b.0.1 y b.2 in
-    ((b.0.0, r.0), r.1, (b.0.1, lifted_ok Range (slot_form 0 closed p) b.0 b.1, r.2))
-plan-found (tested test fault next) closed p y h =
-    let t = accepted-found closed p test fault (λ fits. form_of next) y h in
-    let r = plan-found next closed p y t.1 in
+plan-found (done a) mode p y h = let same = same_ok (a, p) y h in (tt, ap (λ z. z.0) same, ap (λ z. z.1) same)
+plan-found (number_then next) mode p y h =
+    let n = bind_is_ok (number mode p) (λ x. form_of (next x.0) mode x.1) y h in
+    let s = number-found mode p n.0 n.1 in
+    let r = plan-found (next n.0.0) mode n.0.1 y n.2 in
+    ((n.0.0, s.0, r.0), r.1, run_append mode (symbol_bits n.0.0) (fields_bits (fields_of (next n.0.0) r.0)) p n.0.1 y.1 s.1 r.2)
+plan-found (flag_then next) mode p y h =
+    let b = bind_is_ok (flag mode p) (λ x. form_of (next x.0) mode x.1) y h in
+    let r = plan-found (next b.0.0) mode b.0.1 y b.2 in
+    ((b.0.0, r.0), r.1, (b.0.1, lifted_ok Range (slot_form 0 mode p) b.0 b.1, r.2))
+plan-found (tested test fault next) mode p y h =
+    let t = accepted-found mode p test fault (λ fits. form_of next) y h in
+    let r = plan-found next mode p y t.1 in
     ((t.0, r.0), r.1, r.2)
 
 -- Where such fields are coded, it is read.
-pub plan-run : {A : Type 0} (plan : Plan A) (x : Taken plan) (closed : Bool) (p q : Place) → IsRangeRun closed p (fields_bits (fields_of plan x)) q
-    → form_of plan closed p ≡ Ok (value_of plan x, q)
+pub plan-run : {A : Type 0} (plan : Plan A) (x : Taken plan) (mode : Mode) (p q : Place) → IsRangeRun mode p (fields_bits (fields_of plan x)) q
+    → form_of plan mode p ≡ Ok (value_of plan x, q)
 unfolding form_of Taken fields_of value_of fields_bits IsRangeRun
-plan-run (done a) x closed p q run = ap (λ z. Ok (a, z)) run
-plan-run (number_then next) x closed p q run =
-    let s = run_split closed (symbol_bits x.0) (fields_bits (fields_of (next x.0) x.2)) p q run in
-    bind_ok (number closed p) (λ z. form_of (next z.0) closed z.1) (x.0, s.0) (number-run closed x.0 p s.0 x.1 s.1)
-    ∙ plan-run (next x.0) x.2 closed s.0 q s.2
-plan-run (flag_then next) x closed p q run =
-    bind_ok (flag closed p) (λ z. form_of (next z.0) closed z.1) (x.0, run.0) (ap (lifted_result Range) run.1)
-    ∙ plan-run (next x.0) x.1 closed run.0 q run.2
-plan-run (tested test fault next) x closed p q run =
-    accepted-run closed p test fault (λ fits. form_of next) x.0 ∙ plan-run next x.1 closed p q run
+plan-run (done a) x mode p q run = ap (λ z. Ok (a, z)) run
+plan-run (number_then next) x mode p q run =
+    let s = run_split mode (symbol_bits x.0) (fields_bits (fields_of (next x.0) x.2)) p q run in
+    bind_ok (number mode p) (λ z. form_of (next z.0) mode z.1) (x.0, s.0) (number-run mode x.0 p s.0 x.1 s.1)
+    ∙ plan-run (next x.0) x.2 mode s.0 q s.2
+plan-run (flag_then next) x mode p q run =
+    bind_ok (flag mode p) (λ z. form_of (next z.0) mode z.1) (x.0, run.0) (ap (lifted_result Range) run.1)
+    ∙ plan-run (next x.0) x.1 mode run.0 q run.2
+plan-run (tested test fault next) x mode p q run =
+    accepted-run mode p test fault (λ fits. form_of next) x.0 ∙ plan-run next x.1 mode p q run
 
 -- a plan, and then one that follows from its value
 unfoldable pub followed : {A B : Type 0} → Plan A → (A → Plan B) → Plan B
@@ -154,23 +154,23 @@ bind_each : {A B C E : Type 0} (r : Result A E) (f : A → Result B E) (g : B �
 bind_each (Ok x) f g both h = h x
 bind_each (Err e) f g both h = refl
 
-followed_at : {A B : Type 0} (plan : Plan A) (k : A → Plan B) (closed : Bool) (p : Place)
-    → form_of (followed plan k) closed p ≡ (form_of plan >>= λ a. form_of (k a)) closed p
+followed_at : {A B : Type 0} (plan : Plan A) (k : A → Plan B) (mode : Mode) (p : Place)
+    → form_of (followed plan k) mode p ≡ (form_of plan >>= λ a. form_of (k a)) mode p
 unfolding form_of followed
-followed_at (done a) k closed p = refl
-followed_at (number_then next) k closed p =
-    bind_each (number closed p) (λ x. form_of (next x.0) closed x.1) (λ x. form_of (k x.0) closed x.1) (λ x. form_of (followed (next x.0) k) closed x.1)
-    (λ x. followed_at (next x.0) k closed x.1)
-followed_at (flag_then next) k closed p =
-    bind_each (flag closed p) (λ x. form_of (next x.0) closed x.1) (λ x. form_of (k x.0) closed x.1) (λ x. form_of (followed (next x.0) k) closed x.1)
-    (λ x. followed_at (next x.0) k closed x.1)
-followed_at (tested true fault next) k closed p = followed_at next k closed p
-followed_at (tested false fault next) k closed p = refl
+followed_at (done a) k mode p = refl
+followed_at (number_then next) k mode p =
+    bind_each (number mode p) (λ x. form_of (next x.0) mode x.1) (λ x. form_of (k x.0) mode x.1) (λ x. form_of (followed (next x.0) k) mode x.1)
+    (λ x. followed_at (next x.0) k mode x.1)
+followed_at (flag_then next) k mode p =
+    bind_each (flag mode p) (λ x. form_of (next x.0) mode x.1) (λ x. form_of (k x.0) mode x.1) (λ x. form_of (followed (next x.0) k) mode x.1)
+    (λ x. followed_at (next x.0) k mode x.1)
+followed_at (tested true fault next) k mode p = followed_at next k mode p
+followed_at (tested false fault next) k mode p = refl
 
 form_of-followed : {A B : Type 0} (plan : Plan A) (k : A → Plan B) (rest : A → Form (List ℕ) B SetupFault) → ((a : A) → form_of (k a) ≡ rest a)
     → form_of (followed plan k) ≡ (form_of plan >>= rest)
 form_of-followed plan k rest h =
-    fun_ext (λ closed. fun_ext λ p. followed_at plan k closed p) ∙ ap (λ f. form_of plan >>= f) (fun_ext h)
+    fun_ext (λ mode. fun_ext λ p. followed_at plan k mode p) ∙ ap (λ f. form_of plan >>= f) (fun_ext h)
 
 -- ---- the fields of a record
 

@@ -2,7 +2,7 @@
 use Rattle.std.proofs.Common.{◌≡◌, ℕ, Bool, true, false, List, Result, Ok, Err, sym, ap, ◌∙◌, refl, inl, inr}
 use Rattle.std.specs.Prelude.{◌⊎◌, ◌&&◌, if◌then◌else◌}
 use Rattle.ffv1_range.specs.Results.{◌>>>◌}
-use Rattle.ffv1_range.specs.Coding.{Coder, PlaceOf, start_of}
+use Rattle.ffv1_range.specs.Coding.{record_mode, Coder, PlaceOf, start_of}
 use Rattle.ffv1_range.specs.Forms.{from_place}
 use Rattle.ffv1_range.specs.TableForms.{fresh_row}
 use Rattle.ffv1_range.specs.Setup.{SetupValue}
@@ -19,11 +19,11 @@ bind_first : {A B : Type 0} (r : Result A SetupFault) (without granted : A → R
 bind_first (Ok x) without granted f refused h = inl (let both = sym (refused x) ∙ h in cc)
 bind_first (Err e) without granted f refused h = inr h
 
-form_first : (width height : ℕ) (p : PlaceOf (List ℕ)) (f : SetupFault) → setup_form false width height true p ≡ Err f → (f ≡ Memory)
-    ⊎ (setup_form true width height true p ≡ Err f)
+form_first : (width height : ℕ) (p : PlaceOf (List ℕ)) (f : SetupFault) → setup_form false width height record_mode p ≡ Err f → (f ≡ Memory)
+    ⊎ (setup_form true width height record_mode p ≡ Err f)
 unfolding front_rest memory_rest sets_rest deltas_rest last_rest
 form_first width height p f h =
-    bind_first (front_form width height true p) (λ x. front_rest false width height x.0 true x.1) (λ x. front_rest true width height x.0 true x.1) f
+    bind_first (front_form width height record_mode p) (λ x. front_rest false width height x.0 record_mode x.1) (λ x. front_rest true width height x.0 record_mode x.1) f
     (λ x. refl) h
 
 -- the setup of what was read
@@ -39,15 +39,15 @@ either_value r f (inl m) = inl m
 either_value r f (inr h) = inr (ap value_of h)
 
 abbrev at_start : Bool → ℕ → ℕ → Result Coder RangeFault → Result SetupValue SetupFault
-at_start granted width height at = value_of (from_place Range at (λ c. setup_form granted width height true (record { coder = c; states = fresh_row })))
+at_start granted width height at = value_of (from_place Range at (λ c. setup_form granted width height record_mode (record { coder = c; states = fresh_row })))
 
 start_first : (width height : ℕ) (at : Result Coder RangeFault) (f : SetupFault) → at_start false width height at ≡ Err f → (f ≡ Memory)
     ⊎ (at_start true width height at ≡ Err f)
 start_first width height (Ok c) f h =
     let p : PlaceOf (List ℕ) = record { coder = c; states = fresh_row } in
-    either_value (setup_form true width height true (record { coder = c; states = fresh_row })) f
+    either_value (setup_form true width height record_mode (record { coder = c; states = fresh_row })) f
     (form_first width height (record { coder = c; states = fresh_row }) f
-    (value_err (setup_form false width height true (record { coder = c; states = fresh_row })) f h))
+    (value_err (setup_form false width height record_mode (record { coder = c; states = fresh_row })) f h))
 start_first width height (Err e) f h = inr h
 
 abbrev sized : Bool → ℕ → ℕ → Bool → List ℕ → Result SetupValue SetupFault

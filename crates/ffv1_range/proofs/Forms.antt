@@ -2,7 +2,7 @@
 use Rattle.std.proofs.Common.{◌≡◌, Bool, true, false, Result, Ok, Err, refl, sym, ap, ◌∙◌, subst}
 use Rattle.std.specs.Prelude.{IsOk}
 use Rattle.ffv1_range.specs.Results.{◌>>>◌}
-use Rattle.ffv1_range.specs.Coding.{Coder, PlaceOf}
+use Rattle.ffv1_range.specs.Coding.{Mode, Coder, PlaceOf}
 use Rattle.ffv1_range.specs.Decoder.{Reader, reader_at}
 use Rattle.ffv1_range.specs.Forms.{Form, ◌>>=◌, giving, accepted, on, lifted, lifted_result, same_fault, from_place, form_at, ReadsForm}
 use Rattle.ffv1_range.specs.declared.coding.RangeFault.{RangeFault}
@@ -23,8 +23,8 @@ place_of c states = record { coder = c; states = states }
 
 -- reading p and then q is reading q where p ended
 pub form_at-bind : {X A B E : Type 0} (lift : RangeFault → E) (p : Form X A E) (q : A → Form X B E) (r : Reader) (x : X)
-    → form_at lift (p >>= q) r x ≡ (form_at lift p r x >>> λ y. q y.0 r.closed y.1)
-form_at-bind lift p q r x = sym (from_place-bind lift r.at (λ c. p r.closed (place_of c x)) (λ y. q y.0 r.closed y.1))
+    → form_at lift (p >>= q) r x ≡ (form_at lift p r x >>> λ y. q y.0 r.mode y.1)
+form_at-bind lift p q r x = sym (from_place-bind lift r.at (λ c. p r.mode (place_of c x)) (λ y. q y.0 r.mode y.1))
 
 -- What is left to read of a form: from the second decoder and states the second form gives what the first gives from the first.
 pub record Continues {X A E : Type 0} (lift : RangeFault → E) (form : Form X A E) (r : Reader) (x : X) (rest : Form X A E) (s : Reader) (y : X) : Type 0 where
@@ -38,14 +38,14 @@ pub continue_step : {X A B E : Type 0} (lift : RangeFault → E) (p : Form X A E
     → ReadsForm lift p r x (Ok a) s y → Continues lift (p >>= q) r x (q a) s y
 continue_step lift p q r s x y a h =
     record {
-      same = form_at-bind lift p q r x ∙ bind_ok (form_at lift p r x) (λ z. q z.0 r.closed z.1) (a, place_of h.0 y) h.1
+      same = form_at-bind lift p q r x ∙ bind_ok (form_at lift p r x) (λ z. q z.0 r.mode z.1) (a, place_of h.0 y) h.1
           ∙ sym (ap (λ z. form_at lift (q a) z y) h.2);
       reader = h.2 ∙ ap (λ z. reader_at r z) (sym (ap (λ z. z.at) h.2));
     }
 
 pub stop : {X A B E : Type 0} (lift : RangeFault → E) (p : Form X A E) (q : A → Form X B E) (r s : Reader) (x y : X) (e : E)
     → ReadsForm lift p r x (Err e) s y → ReadsForm lift (p >>= q) r x (Err e) s y
-stop lift p q r s x y e h = form_at-bind lift p q r x ∙ bind_err (form_at lift p r x) (λ z. q z.0 r.closed z.1) e h
+stop lift p q r s x y e h = form_at-bind lift p q r x ∙ bind_err (form_at lift p r x) (λ z. q z.0 r.mode z.1) e h
 
 -- a decoder that comes from another, at one more place
 pub reader_at-again : (r s : Reader) (at : Result Coder RangeFault) → s ≡ reader_at r s.at → reader_at s at ≡ reader_at r at
@@ -77,9 +77,9 @@ continue_both lift form rest last r s t x y z k l =
 
 -- where nothing is left to read, the value is given
 pub continue_give : {X A E : Type 0} (lift : RangeFault → E) (r : Reader) (c : Coder) (x : X) (a : A) (form : Form X A E) → r.at ≡ Ok c
-    → form r.closed (place_of c x) ≡ Ok (a, place_of c x) → ReadsForm lift form r x (Ok a) r x
+    → form r.mode (place_of c x) ≡ Ok (a, place_of c x) → ReadsForm lift form r x (Ok a) r x
 continue_give lift r c x a form h g =
-    (c, ap (λ z. from_place lift z (λ d. form r.closed (place_of d x))) h ∙ g, ap (reader_at r) h)
+    (c, ap (λ z. from_place lift z (λ d. form r.mode (place_of d x))) h ∙ g, ap (reader_at r) h)
 
 -- one more form is read
 pub continue_next : {X A B E : Type 0} (lift : RangeFault → E) (form : Form X B E) (p : Form X A E) (q : A → Form X B E) (r s t : Reader) (x y z : X) (a : A)
@@ -110,41 +110,41 @@ end_of lift form rest r s x y a e at k =
 
 -- ---- a form as part of a larger one
 
-form_at-lifted : {X A E : Type 0} (lift : RangeFault → E) (form : Form X A RangeFault) (closed : Bool) (at : Result Coder RangeFault) (x : X)
-    → from_place lift at (λ c. lifted lift form closed (place_of c x)) ≡ lifted_result lift (from_place same_fault at (λ c. form closed (place_of c x)))
-form_at-lifted lift form closed (Ok c) x = refl
-form_at-lifted lift form closed (Err e) x = refl
+form_at-lifted : {X A E : Type 0} (lift : RangeFault → E) (form : Form X A RangeFault) (mode : Mode) (at : Result Coder RangeFault) (x : X)
+    → from_place lift at (λ c. lifted lift form mode (place_of c x)) ≡ lifted_result lift (from_place same_fault at (λ c. form mode (place_of c x)))
+form_at-lifted lift form mode (Ok c) x = refl
+form_at-lifted lift form mode (Err e) x = refl
 
 pub read_lifted : {X A E : Type 0} (lift : RangeFault → E) (form : Form X A RangeFault) (r s : Reader) (x y : X) (a : A)
     → ReadsForm same_fault form r x (Ok a) s y → ReadsForm lift (lifted lift form) r x (Ok a) s y
-read_lifted lift form r s x y a h = (h.0, form_at-lifted lift form r.closed r.at x ∙ ap (lifted_result lift) h.1, h.2)
+read_lifted lift form r s x y a h = (h.0, form_at-lifted lift form r.mode r.at x ∙ ap (lifted_result lift) h.1, h.2)
 
 pub fault_lifted : {X A E : Type 0} (lift : RangeFault → E) (form : Form X A RangeFault) (r s : Reader) (x y : X) (e : RangeFault)
     → ReadsForm same_fault form r x (Err e) s y → ReadsForm lift (lifted lift form) r x (Err (lift e)) s y
-fault_lifted lift form r s x y e h = form_at-lifted lift form r.closed r.at x ∙ ap (lifted_result lift) h
+fault_lifted lift form r s x y e h = form_at-lifted lift form r.mode r.at x ∙ ap (lifted_result lift) h
 
 put_back : {X Y A E : Type 0} → (X → Y → X) → X → Result (A × PlaceOf Y) E → Result (A × PlaceOf X) E
 put_back put x (Ok y) = Ok (y.0, place_of y.1.coder (put x y.1.states))
 put_back put x (Err e) = Err e
 
-form_at-on : {X Y A E : Type 0} (lift : RangeFault → E) (get : X → Y) (put : X → Y → X) (form : Form Y A E) (closed : Bool) (at : Result Coder RangeFault)
+form_at-on : {X Y A E : Type 0} (lift : RangeFault → E) (get : X → Y) (put : X → Y → X) (form : Form Y A E) (mode : Mode) (at : Result Coder RangeFault)
     (x : X)
-    → from_place lift at (λ c. on get put form closed (place_of c x)) ≡ put_back put x (from_place lift at (λ c. form closed (place_of c (get x))))
+    → from_place lift at (λ c. on get put form mode (place_of c x)) ≡ put_back put x (from_place lift at (λ c. form mode (place_of c (get x))))
 unfolding put_back
-form_at-on lift get put form closed (Ok c) x =
-    elim (form closed (place_of c (get x))) as (λ r. (r >>> λ y. Ok (y.0, place_of y.1.coder (put x y.1.states))) ≡ put_back put x r) [
+form_at-on lift get put form mode (Ok c) x =
+    elim (form mode (place_of c (get x))) as (λ r. (r >>> λ y. Ok (y.0, place_of y.1.coder (put x y.1.states))) ≡ put_back put x r) [
       | Ok y ↦ refl
       | Err e ↦
           refl
     ]
-form_at-on lift get put form closed (Err e) x = refl
+form_at-on lift get put form mode (Err e) x = refl
 
 pub read_on : {X Y A E : Type 0} (lift : RangeFault → E) (get : X → Y) (put : X → Y → X) (form : Form Y A E) (r s : Reader) (x : X) (y : Y)
     (result : Result A E)
     → ReadsForm lift form r (get x) result s y → ReadsForm lift (on get put form) r x result s (put x y)
 unfolding put_back
-read_on lift get put form r s x y (Ok a) h = (h.0, form_at-on lift get put form r.closed r.at x ∙ ap (put_back put x) h.1, h.2)
-read_on lift get put form r s x y (Err e) h = form_at-on lift get put form r.closed r.at x ∙ ap (put_back put x) h
+read_on lift get put form r s x y (Ok a) h = (h.0, form_at-on lift get put form r.mode r.at x ∙ ap (put_back put x) h.1, h.2)
+read_on lift get put form r s x y (Err e) h = form_at-on lift get put form r.mode r.at x ∙ ap (put_back put x) h
 
 -- what was accepted changes nothing, and what was not is the fault
 pub continue_accepted : {X B E : Type 0} (lift : RangeFault → E) (form : Form X B E) (test : Bool) (fault : E) (rest : Bool → Form X B E) (r s : Reader)

@@ -7,7 +7,8 @@ use Rattle.std.proofs.lemmas.List.{append-nil}
 use Rattle.std.proofs.lemmas.List.Elements.{All-cons, All-nil, All-head, All-tail}
 use Rattle.std.proofs.lemmas.Bool.{and_parts, and_from, ltb-true, lt-ltb, eqb-true, eq-eqb}
 use Rattle.ffv1_range.specs.Results.{◌>>>◌}
-use Rattle.ffv1_range.specs.Coding.{Coder, Place, PlaceOf, bit_at, slot_at, start_of, refilled, with_byte, bit_state_after, IsRangeRun}
+use Rattle.ffv1_range.specs.Coding.{header_mode, Mode, Coder, Place, PlaceOf, bit_at, slot_at, start_of, refilled, with_byte, IsRangeRun}
+use Rattle.ffv1_range.specs.Transitions.{state_following}
 use Rattle.ffv1_range.specs.Symbols.{symbol_bits}
 use Rattle.ffv1_range.specs.Forms.{lifted_result}
 use Rattle.ffv1_range.specs.Reading.{symbol_form}
@@ -26,56 +27,56 @@ use Rattle.ffv1_range.proofs.FieldRuns.{lifted_ok}
 -- ---- symbols in a row
 
 -- n symbols are coded from p up to q
-record AreSymbols (closed : Bool) (n : ℕ) (p q : Place) (symbols : List ℕ) : Type 0 where
+record AreSymbols (mode : Mode) (n : ℕ) (p q : Place) (symbols : List ℕ) : Type 0 where
   count : length symbols ≡ n
   fit : All (λ symbol. symbol < 2 ^ 32) symbols
-  coded : IsRangeRun closed p (flat_map symbol_bits symbols) q
+  coded : IsRangeRun mode p (flat_map symbol_bits symbols) q
 
-symbols_found : (closed : Bool) (n : ℕ) (done fields : List ℕ) (p q : Place) → symbols_onto n done closed p ≡ Ok (fields, q)
-    → (more : List ℕ) × (fields ≡ done ++ more) × AreSymbols closed n p q more
+symbols_found : (mode : Mode) (n : ℕ) (done fields : List ℕ) (p q : Place) → symbols_onto n done mode p ≡ Ok (fields, q)
+    → (more : List ℕ) × (fields ≡ done ++ more) × AreSymbols mode n p q more
 unfolding symbols_onto IsRangeRun
-symbols_found closed zero done fields p q h =
+symbols_found mode zero done fields p q h =
     let e = same_ok (done, p) (fields, q) h in
     ([], sym (ap (λ z. z.0) e) ∙ sym (append-nil done), record { count = refl; fit = All-nil (λ symbol. symbol < 2 ^ 32); coded = ap (λ z. z.1) e })
-symbols_found closed (suc n) done fields p q h =
-    let x = bind_is_ok (symbol_form closed p) (λ x. symbols_onto n (done ++ x.0 ∷ []) closed x.1) (fields, q) h in
-    let first = (symbol_is_spelled closed p x.0.1 x.0.0).0 x.1 in
-    let rest = symbols_found closed n (done ++ x.0.0 ∷ []) fields x.0.1 q x.2 in (
+symbols_found mode (suc n) done fields p q h =
+    let x = bind_is_ok (symbol_form mode p) (λ x. symbols_onto n (done ++ x.0 ∷ []) mode x.1) (fields, q) h in
+    let first = (symbol_is_spelled mode p x.0.1 x.0.0).0 x.1 in
+    let rest = symbols_found mode n (done ++ x.0.0 ∷ []) fields x.0.1 q x.2 in (
       x.0.0 ∷ rest.0,
       rest.1 ∙ append_assoc done (x.0.0 ∷ []) rest.0,
       record {
         count = ap suc rest.2.count;
         fit = All-cons (λ symbol. symbol < 2 ^ 32) x.0.0 rest.0 first.0 rest.2.fit;
-        coded = run_append closed (symbol_bits x.0.0) (flat_map symbol_bits rest.0) p x.0.1 q first.1 rest.2.coded;
+        coded = run_append mode (symbol_bits x.0.0) (flat_map symbol_bits rest.0) p x.0.1 q first.1 rest.2.coded;
       },
     )
 
-symbols_run : (closed : Bool) (done fields : List ℕ) (p q : Place) → All
-    (λ symbol. symbol < 2 ^ 32) fields → IsRangeRun closed p (flat_map symbol_bits fields) q
-    → symbols_onto (length fields) done closed p ≡ Ok (done ++ fields, q)
+symbols_run : (mode : Mode) (done fields : List ℕ) (p q : Place) → All
+    (λ symbol. symbol < 2 ^ 32) fields → IsRangeRun mode p (flat_map symbol_bits fields) q
+    → symbols_onto (length fields) done mode p ≡ Ok (done ++ fields, q)
 unfolding symbols_onto IsRangeRun
-symbols_run closed done [] p q fit run = ap (λ z. Ok (done, z)) run ∙ ap (λ z. Ok (z, q)) (sym (append-nil done))
-symbols_run closed done (a ∷ fields) p q fit run =
-    let parts = run_split closed (symbol_bits a) (flat_map symbol_bits fields) p q run in
-    let read = (symbol_is_spelled closed p parts.0 a).1 (All-head (λ symbol. symbol < 2 ^ 32) a fields fit, parts.1) in
-    bind_ok (symbol_form closed p) (λ x. symbols_onto (length fields) (done ++ x.0 ∷ []) closed x.1) (a, parts.0) read
-    ∙ symbols_run closed (done ++ a ∷ []) fields parts.0 q (All-tail (λ symbol. symbol < 2 ^ 32) a fields fit) parts.2
+symbols_run mode done [] p q fit run = ap (λ z. Ok (done, z)) run ∙ ap (λ z. Ok (z, q)) (sym (append-nil done))
+symbols_run mode done (a ∷ fields) p q fit run =
+    let parts = run_split mode (symbol_bits a) (flat_map symbol_bits fields) p q run in
+    let read = (symbol_is_spelled mode p parts.0 a).1 (All-head (λ symbol. symbol < 2 ^ 32) a fields fit, parts.1) in
+    bind_ok (symbol_form mode p) (λ x. symbols_onto (length fields) (done ++ x.0 ∷ []) mode x.1) (a, parts.0) read
+    ∙ symbols_run mode (done ++ a ∷ []) fields parts.0 q (All-tail (λ symbol. symbol < 2 ^ 32) a fields fit) parts.2
     ∙ ap (λ z. Ok (z, q)) (append_assoc done (a ∷ []) fields)
 
-fields_found : (c : Coder) (fields : List ℕ) (q : PlaceOf (Unit {0})) → fields_form false (place_of c tt) ≡ Ok (fields, q)
-    → (end : Place) × (q.coder ≡ end.coder) × AreSymbols false 9 (place_of c fresh_row) end fields
+fields_found : (c : Coder) (fields : List ℕ) (q : PlaceOf (Unit {0})) → fields_form header_mode (place_of c tt) ≡ Ok (fields, q)
+    → (end : Place) × (q.coder ≡ end.coder) × AreSymbols header_mode 9 (place_of c fresh_row) end fields
 fields_found c fields q h =
-    let x = bind_is_ok (symbols_onto 9 [] false (place_of c fresh_row)) (λ x. Ok (x.0, place_of x.1.coder tt)) (fields, q) h in
+    let x = bind_is_ok (symbols_onto 9 [] header_mode (place_of c fresh_row)) (λ x. Ok (x.0, place_of x.1.coder tt)) (fields, q) h in
     let e = same_ok (x.0.0, place_of x.0.1.coder tt) (fields, q) x.2 in
-    let found = symbols_found false 9 [] x.0.0 (place_of c fresh_row) x.0.1 x.1 in
+    let found = symbols_found header_mode 9 [] x.0.0 (place_of c fresh_row) x.0.1 x.1 in
     let same : fields ≡ found.0 = sym (ap (λ z. z.0) e) ∙ found.1 in
-    (x.0.1, sym (ap (λ z. z.1.coder) e), subst (λ z. AreSymbols false 9 (place_of c fresh_row) x.0.1 z) (sym same) found.2)
+    (x.0.1, sym (ap (λ z. z.1.coder) e), subst (λ z. AreSymbols header_mode 9 (place_of c fresh_row) x.0.1 z) (sym same) found.2)
 
 fields_run : (c : Coder) (fields : List ℕ) (end : Place) → length fields ≡ 9 → All (λ field. field < 2 ^ 32) fields
-    → IsRangeRun false (place_of c fresh_row) (flat_map symbol_bits fields) end → fields_form false (place_of c tt) ≡ Ok (fields, place_of end.coder tt)
+    → IsRangeRun header_mode (place_of c fresh_row) (flat_map symbol_bits fields) end → fields_form header_mode (place_of c tt) ≡ Ok (fields, place_of end.coder tt)
 fields_run c fields end nine fit run =
-    bind_ok (symbols_onto 9 [] false (place_of c fresh_row)) (λ x. Ok (x.0, place_of x.1.coder tt)) (fields, end)
-    (ap (λ n. symbols_onto n [] false (place_of c fresh_row)) (sym nine) ∙ symbols_run false [] fields (place_of c fresh_row) end fit run)
+    bind_ok (symbols_onto 9 [] header_mode (place_of c fresh_row)) (λ x. Ok (x.0, place_of x.1.coder tt)) (fields, end)
+    (ap (λ n. symbols_onto n [] header_mode (place_of c fresh_row)) (sym nine) ∙ symbols_run header_mode [] fields (place_of c fresh_row) end fit run)
 
 -- ---- what is still to come never grows
 
@@ -117,18 +118,18 @@ bit_shrinks closed c d state bit h =
       | false ↦ λ e. cut_shrinks closed (c.range * state / 256) (c.low - (c.range - c.range * state / 256)) c.rest true bit d e
     ] h
 
-slot_shrinks : (closed : Bool) (p q : Place) (slot : ℕ) (bit : Bool) → slot_at closed p slot ≡ Ok (bit, q) → length q.coder.rest ≤ length p.coder.rest
+slot_shrinks : (mode : Mode) (p q : Place) (slot : ℕ) (bit : Bool) → slot_at mode p slot ≡ Ok (bit, q) → length q.coder.rest ≤ length p.coder.rest
 unfolding slot_at
-slot_shrinks closed p q slot bit h =
-    let x = bind_is_ok (bit_at closed p.coder (slice_index p.states slot))
-    (λ x. Ok (x.0, place_of x.1 (slice_set p.states slot (bit_state_after (slice_index p.states slot) x.0)))) (bit, q) h in
-    let same = same_ok (x.0.0, place_of x.0.1 (slice_set p.states slot (bit_state_after (slice_index p.states slot) x.0.0))) (bit, q) x.2 in
-    omega (arith, bit_shrinks closed p.coder x.0.1 (slice_index p.states slot) x.0.0 x.1, ap (λ z. length z.1.coder.rest) same)
+slot_shrinks mode p q slot bit h =
+    let x = bind_is_ok (bit_at mode.closed p.coder (slice_index p.states slot))
+    (λ x. Ok (x.0, place_of x.1 (slice_set p.states slot (state_following mode.transitions (slice_index p.states slot) x.0)))) (bit, q) h in
+    let same = same_ok (x.0.0, place_of x.0.1 (slice_set p.states slot (state_following mode.transitions (slice_index p.states slot) x.0.0))) (bit, q) x.2 in
+    omega (arith, bit_shrinks mode.closed p.coder x.0.1 (slice_index p.states slot) x.0.0 x.1, ap (λ z. length z.1.coder.rest) same)
 
-run_shrinks : (closed : Bool) (p q : Place) (bits : List (ℕ × Bool)) → IsRangeRun closed p bits q → length q.coder.rest ≤ length p.coder.rest
+run_shrinks : (mode : Mode) (p q : Place) (bits : List (ℕ × Bool)) → IsRangeRun mode p bits q → length q.coder.rest ≤ length p.coder.rest
 unfolding IsRangeRun
-run_shrinks closed p q [] h = omega (arith, ap (λ z. length z.coder.rest) h)
-run_shrinks closed p q (x ∷ bits) h = omega (arith, slot_shrinks closed p h.0 x.0 x.1 h.1, run_shrinks closed h.0 q bits h.2)
+run_shrinks mode p q [] h = omega (arith, ap (λ z. length z.coder.rest) h)
+run_shrinks mode p q (x ∷ bits) h = omega (arith, slot_shrinks mode p h.0 x.0 x.1 h.1, run_shrinks mode h.0 q bits h.2)
 
 start_leaves : (content : List ℕ) (c : Coder) → start_of false content ≡ Ok c → length c.rest + 2 ≤ length content
 unfolding start_of
@@ -166,7 +167,7 @@ after_fields : List ℕ → List ℕ × PlaceOf (Unit {0}) → Result (List ℕ 
 after_fields content read = lifted_result Range (bit_at false read.1.coder 129) >>> λ last. Ok (read.0, length content - (length last.1.rest + 1))
 
 after_key : List ℕ → Coder → Result (List ℕ × ℕ) HeadFault
-after_key content coder = lifted_result Range (fields_form false (place_of coder tt)) >>> after_fields content
+after_key content coder = lifted_result Range (fields_form header_mode (place_of coder tt)) >>> after_fields content
 
 after_start : List ℕ → Bool → Coder → Result (List ℕ × ℕ) HeadFault
 after_start content first start = key_coder first start >>> after_key content
@@ -177,13 +178,13 @@ unfolding after_start after_key after_fields
 header_found content first fields place h =
     let start = bind_is_ok (lifted_result Range (start_of false content)) (after_start content first) (fields, place) h in
     let key = bind_is_ok (key_coder first start.0) (after_key content) (fields, place) start.2 in
-    let read = bind_is_ok (lifted_result Range (fields_form false (place_of key.0 tt))) (after_fields content) (fields, place) key.2 in
+    let read = bind_is_ok (lifted_result Range (fields_form header_mode (place_of key.0 tt))) (after_fields content) (fields, place) key.2 in
     let last = bind_is_ok (lifted_result Range (bit_at false read.0.1.coder 129))
     (λ last. Ok (read.0.0, length content - (length last.1.rest + 1))) (fields, place) read.2 in
     let end = same_ok (read.0.0, length content - (length last.0.1.rest + 1)) (fields, place) last.2 in
-    let got = fields_found key.0 read.0.0 read.0.1 (lifted_ok Range (fields_form false (place_of key.0 tt)) read.0 read.1) in
+    let got = fields_found key.0 read.0.0 read.0.1 (lifted_ok Range (fields_form header_mode (place_of key.0 tt)) read.0 read.1) in
     let same : read.0.0 ≡ fields = ap (λ z. z.0) end in
-    let symbols = subst (λ z. AreSymbols false 9 (place_of key.0 fresh_row) got.0 z) same got.2 in
+    let symbols = subst (λ z. AreSymbols header_mode 9 (place_of key.0 fresh_row) got.0 z) same got.2 in
     let started = lifted_ok Range (start_of false content) start.0 start.1 in
     let keyed = key_found first start.0 key.0 key.1 in
     let ended : bit_at false got.0.coder 129 ≡ Ok last.0 = ap (λ z. bit_at false z 129) (sym got.1)
@@ -203,7 +204,7 @@ header_found content first fields place h =
         arith,
         start_leaves content start.0 started,
         key_shrinks first start.0 key.0 keyed,
-        run_shrinks false (place_of key.0 fresh_row) got.0
+        run_shrinks header_mode (place_of key.0 fresh_row) got.0
             (flat_map symbol_bits fields) symbols.coded,
         bit_shrinks false got.0.coder last.0.1 129 last.0.0 ended,
         ap (λ z. z.1) end,
@@ -216,7 +217,7 @@ unfolding after_start after_key after_fields
 header_run content first fields place h =
     bind_ok (lifted_result Range (start_of false content)) (after_start content first) h.before_key (ap (lifted_result Range) h.start)
     ∙ bind_ok (key_coder first h.before_key) (after_key content) h.after_key (key_read first h.before_key h.after_key h.key)
-    ∙ bind_ok (lifted_result Range (fields_form false (place_of h.after_key tt))) (after_fields content) (fields, place_of h.end.coder tt)
+    ∙ bind_ok (lifted_result Range (fields_form header_mode (place_of h.after_key tt))) (after_fields content) (fields, place_of h.end.coder tt)
     (ap (lifted_result Range) (fields_run h.after_key fields h.end h.nine h.fit h.coded))
     ∙ bind_ok (lifted_result Range (bit_at false h.end.coder 129)) (λ last. Ok (fields, length content - (length last.1.rest + 1))) h.last
     (ap (lifted_result Range) h.ended)

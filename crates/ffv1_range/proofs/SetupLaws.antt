@@ -5,7 +5,7 @@ use Rattle.std.proofs.lemmas.Bool.{eqb-true, eq-eqb, leb-true, le-leb, and_parts
 use Rattle.ffv1_bits.specs.Limits.{greatest_side}
 use Rattle.ffv1_bits.specs.Bits.{bits_of}
 use Rattle.ffv1_bits.specs.Parity.{RecordPassesParity, remainder_of}
-use Rattle.ffv1_range.specs.Coding.{Coder, Place, start_of}
+use Rattle.ffv1_range.specs.Coding.{record_mode, Coder, Place, start_of}
 use Rattle.ffv1_range.specs.Decoder.{Reader, Starts}
 use Rattle.ffv1_range.specs.Forms.{from_place, form_at}
 use Rattle.ffv1_range.specs.TableForms.{fresh_row}
@@ -64,11 +64,11 @@ sized_ok granted false is_height width height content value h = absurd cc
 
 -- the start of the content, and what the fields give there
 started_ok : (granted : Bool) (width height : ℕ) (at : Result Coder RangeFault) (value : SetupValue)
-    → value_of (from_place Range at (λ c. setup_form granted width height true (place_of c fresh_row))) ≡ Ok value
-    → (c : Coder) × (at ≡ Ok c) × ((y : SetupValue × Place) × (setup_form granted width height true (place_of c fresh_row) ≡ Ok y) × (y.0 ≡ value))
+    → value_of (from_place Range at (λ c. setup_form granted width height record_mode (place_of c fresh_row))) ≡ Ok value
+    → (c : Coder) × (at ≡ Ok c) × ((y : SetupValue × Place) × (setup_form granted width height record_mode (place_of c fresh_row) ≡ Ok y) × (y.0 ≡ value))
 unfolding value_of
 started_ok granted width height (Ok c) value h =
-    let x = bind_is_ok (setup_form granted width height true (place_of c fresh_row)) (λ x. Ok x.0) value h in
+    let x = bind_is_ok (setup_form granted width height record_mode (place_of c fresh_row)) (λ x. Ok x.0) value h in
     (c, refl, (x.0, x.1, same_ok x.0.0 value x.2))
 started_ok granted width height (Err e) value h = absurd cc
 
@@ -81,7 +81,7 @@ record Opening (granted : Bool) (config : List ℕ) (width height : ℕ) (value 
   start : Coder
   started : start_of true content ≡ Ok start
   outcome : SetupValue × Place
-  read : setup_form granted width height true (place_of start fresh_row) ≡ Ok outcome
+  read : setup_form granted width height record_mode (place_of start fresh_row) ≡ Ok outcome
   is : outcome.0 ≡ value
 
 opening : (granted : Bool) (config : List ℕ) (width height : ℕ) (value : SetupValue) → setup_read granted config width height ≡ Ok value
@@ -119,7 +119,7 @@ unfolding fields_read value_of
 setup-run config width height value s =
     let r = setup_form-run width height s.start s.fields s.end s.accepted s.is_width.1 s.is_height.1 s.coded in
     sized_read true config (record_content config) width height (checked-run config s.passes) (size_test width s.is_width) (size_test height s.is_height)
-    ∙ ap (λ z. value_of (from_place Range z (λ c. setup_form true width height true (place_of c fresh_row)))) s.started
+    ∙ ap (λ z. value_of (from_place Range z (λ c. setup_form true width height record_mode (place_of c fresh_row)))) s.started
     ∙ ap value_of r.1
     ∙ ap (λ z. Ok z) (sym s.is)
 
@@ -166,10 +166,10 @@ without_memory : (config : List ℕ) (width height : ℕ) (value : SetupValue) �
 unfolding fields_read value_of front_rest memory_rest sets_rest deltas_rest last_rest
 without_memory config width height value h =
     let o = opening true config width height value h in
-    let a = bind_is_ok (front_form width height true (place_of o.start fresh_row)) (λ x. front_rest true width height x.0 true x.1) o.outcome o.read in
+    let a = bind_is_ok (front_form width height record_mode (place_of o.start fresh_row)) (λ x. front_rest true width height x.0 record_mode x.1) o.outcome o.read in
     sized_read false config o.content width height o.checked o.is_width o.is_height
-    ∙ ap (λ z. value_of (from_place Range z (λ c. setup_form false width height true (place_of c fresh_row)))) o.started
-    ∙ ap value_of (bind_ok (front_form width height true (place_of o.start fresh_row)) (λ x. front_rest false width height x.0 true x.1) a.0 a.1)
+    ∙ ap (λ z. value_of (from_place Range z (λ c. setup_form false width height record_mode (place_of c fresh_row)))) o.started
+    ∙ ap value_of (bind_ok (front_form width height record_mode (place_of o.start fresh_row)) (λ x. front_rest false width height x.0 record_mode x.1) a.0 a.1)
 
 -- ---- a result that reading gives
 
@@ -217,7 +217,7 @@ refused_by config width height granted e h =
 -- ---- the same once length, parity and size were found right, where the decoder has the content
 
 module _ (config content : List ℕ) (width height : ℕ) (r : Reader) (checked : checked_content config ≡ Ok content) (is_width : true ≡ is_size width)
-    (is_height : true ≡ is_size height) (starts : Starts true content (Ok r)) where
+    (is_height : true ≡ is_size height) (starts : Starts record_mode content (Ok r)) where
   abbrev is_opened : IsOpened config width height r
   is_opened = opened config content width height r checked (sym is_width) (sym is_height) starts
 

@@ -6,7 +6,7 @@ use Rattle.std.proofs.lemmas.Bool.{eqb-true, eq-eqb, leb-true, le-leb, and_parts
 use Rattle.std.proofs.lemmas.List.Elements.{All-map}
 use Rattle.std.proofs.lemmas.List.{length-replicate, get_or-replicate}
 use Rattle.ffv1_bits.specs.Limits.{greatest_side, most_tiles}
-use Rattle.ffv1_range.specs.Coding.{Coder, PlaceOf, Place, IsRangeRun}
+use Rattle.ffv1_range.specs.Coding.{record_mode, Coder, PlaceOf, Place, IsRangeRun}
 use Rattle.ffv1_range.specs.Rows.{Rows, with_row, RowBits, IsRowsRun}
 use Rattle.ffv1_range.specs.Forms.{apart}
 use Rattle.ffv1_range.specs.Fields.{last_fields}
@@ -77,41 +77,41 @@ pub record SetupAt (width height : ℕ) (c : Coder) (value : SetupValue) : Type 
   pub fields : RecordFields
   pub accepted : IsAccepted width height fields
   pub end : PlaceOf Rows
-  pub coded : IsRowsRun true (place_of c fresh_states) (record_row_bits fields) end
+  pub coded : IsRowsRun record_mode (place_of c fresh_states) (record_row_bits fields) end
   pub is : value ≡ setup_value width height fields
 
 -- the sets, read at rows of their own
 abbrev sets_apart : ℕ → Place → Result (List SetValue × Place) SetupFault
-sets_apart n p = apart tt (sets_from n []) true p
+sets_apart n p = apart tt (sets_from n []) record_mode p
 
 -- The parts of a record are coded one after the other.
 record PartsCoded (c : Coder) (first : List FieldValue) (sets : List SetFields) (last : List FieldValue) : Type 0 where
   front : Place
-  first_coded : IsRangeRun true (place_of c fresh_row) (fields_bits first) front
+  first_coded : IsRangeRun record_mode (place_of c fresh_row) (fields_bits first) front
   tables : Coder
   middle : Rows
-  tables_coded : IsRowsRun true (place_of front.coder (first_rows front.states)) (table_row_bits 0 (flat_map (λ set. set.tables) sets)) (place_of tables middle)
+  tables_coded : IsRowsRun record_mode (place_of front.coder (first_rows front.states)) (table_row_bits 0 (flat_map (λ set. set.tables) sets)) (place_of tables middle)
   deltas : Coder
   later : Rows
-  deltas_coded : IsRowsRun true (place_of tables middle) (flat_map (λ set. deltas_row_bits set.deltas) sets) (place_of deltas later)
+  deltas_coded : IsRowsRun record_mode (place_of tables middle) (flat_map (λ set. deltas_row_bits set.deltas) sets) (place_of deltas later)
   end : Place
-  last_coded : IsRangeRun true (place_of deltas (later 0)) (fields_bits last) end
+  last_coded : IsRangeRun record_mode (place_of deltas (later 0)) (fields_bits last) end
 
 -- the bits of a record by their rows of states, one part after the other
 rows_bits_coded : (r : RecordFields) (c : Coder) (first last : List FieldValue) (parts : PartsCoded c first r.sets last)
     → last ≡ back_fields r → first ≡ front_fields r
-    → IsRowsRun true (place_of c fresh_states) (record_row_bits r) (place_of parts.end.coder (with_row parts.later 0 parts.end.states))
+    → IsRowsRun record_mode (place_of c fresh_states) (record_row_bits r) (place_of parts.end.coder (with_row parts.later 0 parts.end.states))
 unfolding first_rows
 rows_bits_coded r c first last parts same_last same =
-    let h = subst (λ z. IsRangeRun true (place_of c fresh_row) (fields_bits z) parts.front) same parts.first_coded in
-    let m = subst (λ z. IsRangeRun true (place_of parts.deltas (parts.later 0)) (fields_bits z) parts.end) same_last parts.last_coded in
+    let h = subst (λ z. IsRangeRun record_mode (place_of c fresh_row) (fields_bits z) parts.front) same parts.first_coded in
+    let m = subst (λ z. IsRangeRun record_mode (place_of parts.deltas (parts.later 0)) (fields_bits z) parts.end) same_last parts.last_coded in
     let front : PlaceOf Rows = place_of parts.front.coder (first_rows parts.front.states) in
-    rows_append true ((0, fields_bits (front_fields r)) ∷ []) _ (place_of c fresh_states) front _
-    (one_row_bits true c fresh_states 0 fresh_row (fields_bits (front_fields r)) parts.front refl h)
-    (rows_append true (table_row_bits 0 (flat_map (λ set. set.tables) r.sets)) _ front (place_of parts.tables parts.middle) _ parts.tables_coded
-    (rows_append true (flat_map (λ set. deltas_row_bits set.deltas) r.sets) ((0, fields_bits (back_fields r)) ∷ []) (place_of parts.tables parts.middle)
+    rows_append record_mode ((0, fields_bits (front_fields r)) ∷ []) _ (place_of c fresh_states) front _
+    (one_row_bits record_mode c fresh_states 0 fresh_row (fields_bits (front_fields r)) parts.front refl h)
+    (rows_append record_mode (table_row_bits 0 (flat_map (λ set. set.tables) r.sets)) _ front (place_of parts.tables parts.middle) _ parts.tables_coded
+    (rows_append record_mode (flat_map (λ set. deltas_row_bits set.deltas) r.sets) ((0, fields_bits (back_fields r)) ∷ []) (place_of parts.tables parts.middle)
     (place_of parts.deltas parts.later) _ parts.deltas_coded
-    (one_row_bits true parts.deltas parts.later 0 (parts.later 0) (fields_bits (back_fields r)) parts.end refl m)))
+    (one_row_bits record_mode parts.deltas parts.later 0 (parts.later 0) (fields_bits (back_fields r)) parts.end refl m)))
 
 -- Fields that are coded before the tables and after the deltas, with sets between them, are those of a setup.
 abbrev AreOfSetup : (width height : ℕ) → Coder → List SetFields → Taken last_plan → Taken (front_plan width height) → Type 0
@@ -178,54 +178,54 @@ are_of_setup width height c sets z =
 -- the last fields
 record LastAt (width height : ℕ) (front : FrontValue) (sets : List SetValue) (p : Place) (y : SetupValue × Place) : Type 0 where
   read : ℕ × Place
-  fields : PlanAt last_plan true p read
+  fields : PlanAt last_plan record_mode p read
   is : y.0 ≡ setup_from front sets 1 read.0 width height
 
 last-found : (width height : ℕ) (front : FrontValue) (sets : List SetValue) (p : Place) (y : SetupValue × Place)
-    → deltas_rest width height front sets tt true p ≡ Ok y
+    → deltas_rest width height front sets tt record_mode p ≡ Ok y
     → LastAt width height front sets p y
 unfolding deltas_rest last_rest
 last-found width height front sets p y h =
-    let x = bind_is_ok (last_fields true p) (λ x. last_rest width height front sets x.0 true x.1) y h in
+    let x = bind_is_ok (last_fields record_mode p) (λ x. last_rest width height front sets x.0 record_mode x.1) y h in
     let pair = same_ok (setup_from front sets 1 x.0.0 width height, x.0.1) y x.2 in
-    record { read = x.0; fields = plan-found last_plan true p x.0 (ap (λ f. f true p) last_fields-plan ∙ x.1); is = sym (ap (λ z. z.0) pair) }
+    record { read = x.0; fields = plan-found last_plan record_mode p x.0 (ap (λ f. f record_mode p) last_fields-plan ∙ x.1); is = sym (ap (λ z. z.0) pair) }
 
 -- the deltas, and what is read after them
 record DeltasAt (width height : ℕ) (front : FrontValue) (sets : List SetValue) (contexts : List ℕ) (p : Place) (y : SetupValue × Place) : Type 0 where
   after : PlaceOf TwoRows
-  read : sets_deltas contexts true (place_of p.coder (p.states, fresh_rows)) ≡ Ok (tt, after)
-  rest : deltas_rest width height front sets tt true (place_of after.coder after.states.0) ≡ Ok y
+  read : sets_deltas contexts record_mode (place_of p.coder (p.states, fresh_rows)) ≡ Ok (tt, after)
+  rest : deltas_rest width height front sets tt record_mode (place_of after.coder after.states.0) ≡ Ok y
 
 deltas-found : (width height : ℕ) (front : FrontValue) (sets : List SetValue) (p : Place) (y : SetupValue × Place)
-    → sets_rest width height front sets true p ≡ Ok y
+    → sets_rest width height front sets record_mode p ≡ Ok y
     → DeltasAt width height front sets (map (λ set. set.contexts) sets) p y
 unfolding sets_rest
 deltas-found width height front sets p y h =
-    let x = bind_is_ok (deltas_form (map (λ set. set.contexts) sets) true p) (λ x. deltas_rest width height front sets x.0 true x.1) y h in
-    let d = bind_is_ok (sets_deltas (map (λ set. set.contexts) sets) true (place_of p.coder (p.states, fresh_rows)))
+    let x = bind_is_ok (deltas_form (map (λ set. set.contexts) sets) record_mode p) (λ x. deltas_rest width height front sets x.0 record_mode x.1) y h in
+    let d = bind_is_ok (sets_deltas (map (λ set. set.contexts) sets) record_mode (place_of p.coder (p.states, fresh_rows)))
     (λ x. Ok (x.0, place_of x.1.coder x.1.states.0)) x.0 x.1 in
     let pair = same_ok (d.0.0, place_of d.0.1.coder d.0.1.states.0) x.0 d.2 in
     record {
       after = d.0.1;
       read = d.1;
-      rest = ap (λ z. deltas_rest width height front sets z.0 true z.1) pair ∙ x.2;
+      rest = ap (λ z. deltas_rest width height front sets z.0 record_mode z.1) pair ∙ x.2;
     }
 
 -- the sets, and what is read after them
 record TablesAt (width height : ℕ) (front : FrontValue) (p : Place) (y : SetupValue × Place) : Type 0 where
   sets : List SetValue
   after : PlaceOf (Unit {0})
-  read : sets_from front.sets [] true (place_of p.coder tt) ≡ Ok (sets, after)
-  rest : sets_rest width height front sets true (place_of after.coder p.states) ≡ Ok y
+  read : sets_from front.sets [] record_mode (place_of p.coder tt) ≡ Ok (sets, after)
+  rest : sets_rest width height front sets record_mode (place_of after.coder p.states) ≡ Ok y
 
-tables-found : (width height : ℕ) (front : FrontValue) (p : Place) (y : SetupValue × Place) → front_rest true width height front true p ≡ Ok y
+tables-found : (width height : ℕ) (front : FrontValue) (p : Place) (y : SetupValue × Place) → front_rest true width height front record_mode p ≡ Ok y
     → TablesAt width height front p y
 unfolding front_rest memory_rest
 tables-found width height front p y h =
-    let x = bind_is_ok (sets_apart front.sets p) (λ x. sets_rest width height front x.0 true x.1) y h in
-    let d = bind_is_ok (sets_from front.sets [] true (place_of p.coder tt)) (λ x. Ok (x.0, place_of x.1.coder p.states)) x.0 x.1 in
+    let x = bind_is_ok (sets_apart front.sets p) (λ x. sets_rest width height front x.0 record_mode x.1) y h in
+    let d = bind_is_ok (sets_from front.sets [] record_mode (place_of p.coder tt)) (λ x. Ok (x.0, place_of x.1.coder p.states)) x.0 x.1 in
     let pair = same_ok (d.0.0, place_of d.0.1.coder p.states) x.0 d.2 in
-    record { sets = d.0.0; after = d.0.1; read = d.1; rest = ap (λ z. sets_rest width height front z.0 true z.1) pair ∙ x.2 }
+    record { sets = d.0.0; after = d.0.1; read = d.1; rest = ap (λ z. sets_rest width height front z.0 record_mode z.1) pair ∙ x.2 }
 
 tables_count : (sets : List SetFields) → length (map (λ set. set.tables) sets) ≡ length sets
 tables_count [] = refl
@@ -233,22 +233,22 @@ tables_count (set ∷ sets) = ap suc (tables_count sets)
 
 -- the parts that were read, as the fields of a record
 parts_found : (width height : ℕ) (c : Coder) (y : SetupValue × Place) (front : FrontValue) (p : Place)
-    → PlanAt (front_plan width height) true (place_of c fresh_row) (front, p)
+    → PlanAt (front_plan width height) record_mode (place_of c fresh_row) (front, p)
     → TablesAt width height front p y → SetupAt width height c y.0
 unfolding first_rows
 parts_found width height c y front p f t =
-    let s = sets-found true front.sets [] p.coder (t.sets, t.after) t.read in
+    let s = sets-found record_mode front.sets [] p.coder (t.sets, t.after) t.read in
     let d = deltas-found width height front t.sets (place_of t.after.coder p.states) y t.rest in
-    let e = sets-deltas-found true s.sets (place_of t.after.coder (p.states, fresh_rows)) (tt, d.after) s.each
-    (subst (λ z. sets_deltas (map (λ set. set.contexts) z) true (place_of t.after.coder (p.states, fresh_rows)) ≡ Ok (tt, d.after)) s.is d.read) in
+    let e = sets-deltas-found record_mode s.sets (place_of t.after.coder (p.states, fresh_rows)) (tt, d.after) s.each
+    (subst (λ z. sets_deltas (map (λ set. set.contexts) z) record_mode (place_of t.after.coder (p.states, fresh_rows)) ≡ Ok (tt, d.after)) s.is d.read) in
     let l = last-found width height front t.sets (place_of d.after.coder d.after.states.0) y d.rest in
     parts_coded width height c y front p f t s d e l
   where
     parts_coded : (width height : ℕ) (c : Coder) (y : SetupValue × Place) (front : FrontValue) (p : Place)
-        (f : PlanAt (front_plan width height) true (place_of c fresh_row) (front, p))
-        (t : TablesAt width height front p y) (s : SetsAt true front.sets [] p.coder (t.sets, t.after))
+        (f : PlanAt (front_plan width height) record_mode (place_of c fresh_row) (front, p))
+        (t : TablesAt width height front p y) (s : SetsAt record_mode front.sets [] p.coder (t.sets, t.after))
         (d : DeltasAt width height front t.sets (map (λ set. set.contexts) t.sets) (place_of t.after.coder p.states) y)
-        (e : SetsDeltasAt true s.sets (place_of t.after.coder (p.states, fresh_rows)) d.after)
+        (e : SetsDeltasAt record_mode s.sets (place_of t.after.coder (p.states, fresh_rows)) d.after)
         (l : LastAt width height front t.sets (place_of d.after.coder d.after.states.0) y) → SetupAt width height c y.0
     parts_coded width height c y front p f t s d e l =
         let values : List SetValue = map (λ set. set_of set.tables) e.sets in
@@ -268,22 +268,22 @@ parts_found width height c y front p f t =
           tables = t.after.coder;
           middle = k.after;
           tables_coded =
-              subst (λ z. IsRowsRun true (place_of p.coder (first_rows p.states)) (table_row_bits 0 z) (place_of t.after.coder k.after)) tables k.coded;
+              subst (λ z. IsRowsRun record_mode (place_of p.coder (first_rows p.states)) (table_row_bits 0 z) (place_of t.after.coder k.after)) tables k.coded;
           deltas = d.after.coder;
           later = m.0;
           deltas_coded = m.1;
           end = l.read.1;
-          last_coded = subst (λ z. IsRangeRun true (place_of d.after.coder z) (fields_bits (fields_of last_plan l.fields.0)) l.read.1) (sym m.2.main)
+          last_coded = subst (λ z. IsRangeRun record_mode (place_of d.after.coder z) (fields_bits (fields_of last_plan l.fields.0)) l.read.1) (sym m.2.main)
               l.fields.2;
         }))
 
-pub setup_form-found : (width height : ℕ) (c : Coder) (y : SetupValue × Place) → setup_form true width height true (place_of c fresh_row) ≡ Ok y
+pub setup_form-found : (width height : ℕ) (c : Coder) (y : SetupValue × Place) → setup_form true width height record_mode (place_of c fresh_row) ≡ Ok y
     → SetupAt width height c y.0
 unfolding front_rest memory_rest sets_rest deltas_rest last_rest
 setup_form-found width height c y h =
-    let a = bind_is_ok (front_form width height true (place_of c fresh_row)) (λ x. front_rest true width height x.0 true x.1) y h in
+    let a = bind_is_ok (front_form width height record_mode (place_of c fresh_row)) (λ x. front_rest true width height x.0 record_mode x.1) y h in
     parts_found width height c y a.0.0 a.0.1
-    (plan-found (front_plan width height) true (place_of c fresh_row) a.0 (ap (λ f. f true (place_of c fresh_row)) (front_form-plan width height) ∙ a.1))
+    (plan-found (front_plan width height) record_mode (place_of c fresh_row) a.0 (ap (λ f. f record_mode (place_of c fresh_row)) (front_form-plan width height) ∙ a.1))
     (tables-found width height a.0.0 a.0.1 y a.2)
 
 -- ---- what is coded is read
@@ -304,13 +304,13 @@ front_value r =
 
 -- the fields before the tables, where they are coded
 front-run : (width height : ℕ) (p : Place) (r : RecordFields) (z : Place) → IsAccepted width height r → width ≤ greatest_side → height ≤ greatest_side
-    → IsRangeRun true p (fields_bits (front_fields r)) z → front_form width height true p ≡ Ok (front_value r, z)
+    → IsRangeRun record_mode p (fields_bits (front_fields r)) z → front_form width height record_mode p ≡ Ok (front_value r, z)
 unfolding followed Taken Each fields_of value_of
 front-run width height p r z ok wide high run =
     let plan : Plan FrontValue = front_plan width height in
-    ap (λ f. f true p) (sym (front_form-plan width height))
-    ∙ Each-from plan (λ x. IsRangeRun true p (fields_bits (fields_of plan x)) z → form_of plan true p ≡ Ok (value_of plan x, z))
-    (λ x. plan-run plan x true p z)
+    ap (λ f. f record_mode p) (sym (front_form-plan width height))
+    ∙ Each-from plan (λ x. IsRangeRun record_mode p (fields_bits (fields_of plan x)) z → form_of plan record_mode p ≡ Ok (value_of plan x, z))
+    (λ x. plan-run plan x record_mode p z)
     r.version (omega (arith, ok.version)) (eq-eqb r.version 3 ok.version)
     r.micro_version ok.symbols.0 (le-leb 4 r.micro_version ok.micro_version)
     r.coder_type (omega (arith, ok.coder_type)) (eq-eqb r.coder_type 0 ok.coder_type)
@@ -329,62 +329,62 @@ front-run width height p r z ok wide high run =
 
 -- the fields after the deltas, where they are coded
 last-run : (width height : ℕ) (p : Place) (r : RecordFields) (z : Place) → IsAccepted width height r
-    → IsRangeRun true p (fields_bits (back_fields r)) z → last_fields true p ≡ Ok (r.intra, z)
+    → IsRangeRun record_mode p (fields_bits (back_fields r)) z → last_fields record_mode p ≡ Ok (r.intra, z)
 unfolding Taken fields_of value_of
 last-run width height p r z ok run =
-    ap (λ f. f true p) (sym last_fields-plan)
-    ∙ plan-run last_plan (r.ec, omega (arith, ok.ec), (eq-eqb r.ec 1 ok.ec, (r.intra, ok.symbols.3, tt))) true p z run
+    ap (λ f. f record_mode p) (sym last_fields-plan)
+    ∙ plan-run last_plan (r.ec, omega (arith, ok.ec), (eq-eqb r.ec 1 ok.ec, (r.intra, ok.symbols.3, tt))) record_mode p z run
 
 -- the parts of a setup, where each is read
 parts_read : (width height : ℕ) (c : Coder) (r : RecordFields) (p : Place) (q : Coder) (two : TwoRows) (d : Coder) (last : Place)
-    → front_form width height true (place_of c fresh_row) ≡ Ok (front_value r, p)
-    → sets_from (length r.sets) [] true (place_of p.coder tt) ≡ Ok (map (λ set. set_of set.tables) r.sets, place_of q tt)
-    → sets_deltas (map (λ set. set.contexts) (map (λ set. set_of set.tables) r.sets)) true (place_of q (p.states, fresh_rows)) ≡ Ok (tt, place_of d two)
-    → last_fields true (place_of d two.0) ≡ Ok (r.intra, last) → 1 ≡ r.ec
-    → setup_form true width height true (place_of c fresh_row) ≡ Ok (setup_value width height r, last)
+    → front_form width height record_mode (place_of c fresh_row) ≡ Ok (front_value r, p)
+    → sets_from (length r.sets) [] record_mode (place_of p.coder tt) ≡ Ok (map (λ set. set_of set.tables) r.sets, place_of q tt)
+    → sets_deltas (map (λ set. set.contexts) (map (λ set. set_of set.tables) r.sets)) record_mode (place_of q (p.states, fresh_rows)) ≡ Ok (tt, place_of d two)
+    → last_fields record_mode (place_of d two.0) ≡ Ok (r.intra, last) → 1 ≡ r.ec
+    → setup_form true width height record_mode (place_of c fresh_row) ≡ Ok (setup_value width height r, last)
 unfolding front_rest memory_rest sets_rest deltas_rest last_rest
 parts_read width height c r p q two d last h k l m one =
     let values : List SetValue = map (λ set. set_of set.tables) r.sets in
     let front : FrontValue = front_value r in
-    bind_ok (front_form width height true (place_of c fresh_row)) (λ x. front_rest true width height x.0 true x.1) (front, p) h
-    ∙ bind_ok (sets_apart (length r.sets) p) (λ x. sets_rest width height front x.0 true x.1) (values, place_of q p.states)
-    (bind_ok (sets_from (length r.sets) [] true (place_of p.coder tt)) (λ x. Ok (x.0, place_of x.1.coder p.states)) (values, place_of q tt) k)
-    ∙ bind_ok (deltas_form (map (λ set. set.contexts) values) true (place_of q p.states)) (λ x. deltas_rest width height front values x.0 true x.1)
+    bind_ok (front_form width height record_mode (place_of c fresh_row)) (λ x. front_rest true width height x.0 record_mode x.1) (front, p) h
+    ∙ bind_ok (sets_apart (length r.sets) p) (λ x. sets_rest width height front x.0 record_mode x.1) (values, place_of q p.states)
+    (bind_ok (sets_from (length r.sets) [] record_mode (place_of p.coder tt)) (λ x. Ok (x.0, place_of x.1.coder p.states)) (values, place_of q tt) k)
+    ∙ bind_ok (deltas_form (map (λ set. set.contexts) values) record_mode (place_of q p.states)) (λ x. deltas_rest width height front values x.0 record_mode x.1)
     (tt, place_of d two.0)
-    (bind_ok (sets_deltas (map (λ set. set.contexts) values) true (place_of q (p.states, fresh_rows))) (λ x. Ok (x.0, place_of x.1.coder x.1.states.0))
+    (bind_ok (sets_deltas (map (λ set. set.contexts) values) record_mode (place_of q (p.states, fresh_rows))) (λ x. Ok (x.0, place_of x.1.coder x.1.states.0))
     (tt, place_of d two) l)
-    ∙ bind_ok (last_fields true (place_of d two.0)) (λ x. last_rest width height front values x.0 true x.1) (r.intra, last) m
+    ∙ bind_ok (last_fields record_mode (place_of d two.0)) (λ x. last_rest width height front values x.0 record_mode x.1) (r.intra, last) m
     ∙ ap (λ e. Ok (setup_from front values e r.intra width height, last)) one
 
 pub setup_form-run : (width height : ℕ) (c : Coder) (r : RecordFields) (z : PlaceOf Rows) → IsAccepted width height r → width ≤ greatest_side
     → height ≤ greatest_side
-    → IsRowsRun true (place_of c fresh_states) (record_row_bits r) z
-    → (last : Place) × (setup_form true width height true (place_of c fresh_row) ≡ Ok (setup_value width height r, last))
+    → IsRowsRun record_mode (place_of c fresh_states) (record_row_bits r) z
+    → (last : Place) × (setup_form true width height record_mode (place_of c fresh_row) ≡ Ok (setup_value width height r, last))
 unfolding IsRowsRun first_rows
 setup_form-run width height c r z ok wide high run =
     let tables : List RowBits = table_row_bits 0 (flat_map (λ set. set.tables) r.sets) in
     let deltas : List RowBits = flat_map (λ set. deltas_row_bits set.deltas) r.sets in
     let back : List RowBits = (0, fields_bits (back_fields r)) ∷ [] in
     let front = front-run width height (place_of c fresh_row) r run.0 ok wide high run.1 in
-    let s = rows_split true tables (deltas ++ back) (place_of run.0.coder (first_rows run.0.states)) z run.2 in
-    let d = rows_split true deltas back s.0 z s.2 in
+    let s = rows_split record_mode tables (deltas ++ back) (place_of run.0.coder (first_rows run.0.states)) z run.2 in
+    let d = rows_split record_mode deltas back s.0 z s.2 in
     rest_run width height c r z run.0 s.0 d.0 ok front s.1 d.1 d.2
   where
     rest_run : (width height : ℕ) (c : Coder) (r : RecordFields) (z : PlaceOf Rows) (p : Place) (s d : PlaceOf Rows) → IsAccepted width height r
-        → front_form width height true (place_of c fresh_row) ≡ Ok (front_value r, p)
-        → IsRowsRun true (place_of p.coder (first_rows p.states)) (table_row_bits 0 (flat_map (λ set. set.tables) r.sets)) s
-        → IsRowsRun true s (flat_map (λ set. deltas_row_bits set.deltas) r.sets) d
-        → IsRowsRun true d ((0, fields_bits (back_fields r)) ∷ []) z
-        → (last : Place) × (setup_form true width height true (place_of c fresh_row) ≡ Ok (setup_value width height r, last))
+        → front_form width height record_mode (place_of c fresh_row) ≡ Ok (front_value r, p)
+        → IsRowsRun record_mode (place_of p.coder (first_rows p.states)) (table_row_bits 0 (flat_map (λ set. set.tables) r.sets)) s
+        → IsRowsRun record_mode s (flat_map (λ set. deltas_row_bits set.deltas) r.sets) d
+        → IsRowsRun record_mode d ((0, fields_bits (back_fields r)) ∷ []) z
+        → (last : Place) × (setup_form true width height record_mode (place_of c fresh_row) ≡ Ok (setup_value width height r, last))
     rest_run width height c r z p s d ok front run more end =
-        let t = sets-run true (length r.sets) [] (map (λ set. set.tables) r.sets) 0 p.coder (first_rows p.states) s (tables_count r.sets)
+        let t = sets-run record_mode (length r.sets) [] (map (λ set. set.tables) r.sets) 0 p.coder (first_rows p.states) s (tables_count r.sets)
         (All-map IsTableSet (λ set. set.tables) r.sets (λ k e h. (ok.sets k e h).tables))
         (λ j h. first_rows-fresh p.states (33 + j) (omega arith))
-        (subst (λ w. IsRowsRun true (place_of p.coder (first_rows p.states)) (table_row_bits 0 w) s) (sym (flat_tables r.sets)) run) in
-        let e = sets-deltas-run true r.sets (place_of s.coder (p.states, fresh_rows)) s.states d ok.sets
+        (subst (λ w. IsRowsRun record_mode (place_of p.coder (first_rows p.states)) (table_row_bits 0 w) s) (sym (flat_tables r.sets)) run) in
+        let e = sets-deltas-run record_mode r.sets (place_of s.coder (p.states, fresh_rows)) s.states d ok.sets
         (before_deltas (first_rows p.states) s.states p.states (with_row-same fresh_states 0 p.states) (first_rows-fresh p.states) t.kept) more in
         let l = last-run width height (place_of d.coder e.after.0) r end.0 ok
-        (subst (λ w. IsRangeRun true (place_of d.coder w) (fields_bits (back_fields r)) end.0) e.matches.main end.1) in (
+        (subst (λ w. IsRangeRun record_mode (place_of d.coder w) (fields_bits (back_fields r)) end.0) e.matches.main end.1) in (
           end.0,
           parts_read width height c r p s.coder e.after d.coder end.0 front
               (t.read ∙ ap (λ w. Ok (w, place_of s.coder tt)) (values_of r.sets)) e.read l (sym ok.ec),

@@ -2,7 +2,7 @@
 use Rattle.std.proofs.Common.{◌≡◌, ℕ, Bool, true, false, List, [], ◌∷◌, Result, Ok, Err, refl, sym, ap, ◌∙◌, subst, length}
 use Rattle.std.specs.Prelude.{map, ◌&&◌, if◌then◌else◌}
 use Rattle.ffv1_range.specs.Results.{◌>>>◌}
-use Rattle.ffv1_range.specs.Coding.{Coder, Place, start_of}
+use Rattle.ffv1_range.specs.Coding.{record_mode, Coder, Place, start_of}
 use Rattle.ffv1_range.specs.Decoder.{Reader, Starts}
 use Rattle.ffv1_range.specs.Forms.{Form, ◌>>=◌, giving, accepted, apart, from_place, form_at, ReadsForm}
 use Rattle.ffv1_range.specs.Fields.{last_fields}
@@ -28,7 +28,7 @@ pub record IsOpened (config : List ℕ) (width height : ℕ) (r : Reader) : Type
   pub is_height : is_size height ≡ true
   pub start : Coder
   pub started : start_of true content ≡ Ok start
-  pub reader : r ≡ record { closed = true; total = length content; at = Ok start }
+  pub reader : r ≡ record { mode = record_mode; total = length content; at = Ok start }
 
 unfoldable pub value_of : Result (SetupValue × Place) SetupFault → Result SetupValue SetupFault
 value_of outcome = outcome >>> λ x. Ok x.0
@@ -36,7 +36,7 @@ value_of outcome = outcome >>> λ x. Ok x.0
 -- what the record gives once it is opened
 unfoldable pub fields_read : Bool → ℕ → ℕ → List ℕ → Result SetupValue SetupFault
 fields_read granted width height content = value_of (from_place Range (start_of true content)
-    (λ c. setup_form granted width height true (place_of c fresh_row)))
+    (λ c. setup_form granted width height record_mode (place_of c fresh_row)))
 
 unfoldable pub sized : Bool → Bool → Bool → ℕ → ℕ → List ℕ → Result SetupValue SetupFault
 sized granted is_width is_height width height content = if is_width && is_height then fields_read granted width height content else Err Size
@@ -77,7 +77,7 @@ pub start_refused : (granted : Bool) (config content : List ℕ) (width height :
 unfolding fields_read value_of
 start_refused granted config content width height f h w v s =
     sized_read granted config content width height h w v
-    ∙ ap (λ z. value_of (from_place Range z (λ c. setup_form granted width height true (place_of c fresh_row)))) s
+    ∙ ap (λ z. value_of (from_place Range z (λ c. setup_form granted width height record_mode (place_of c fresh_row)))) s
 
 pub opened_read : (granted : Bool) (config : List ℕ) (width height : ℕ) (r : Reader) (outcome : Result (SetupValue × Place) SetupFault)
     → IsOpened config width height r
@@ -85,7 +85,7 @@ pub opened_read : (granted : Bool) (config : List ℕ) (width height : ℕ) (r :
 unfolding fields_read value_of
 opened_read granted config width height r outcome o h =
     sized_read granted config o.content width height o.checked o.is_width o.is_height
-    ∙ ap (λ z. value_of (from_place Range z (λ c. setup_form granted width height true (place_of c fresh_row)))) o.started
+    ∙ ap (λ z. value_of (from_place Range z (λ c. setup_form granted width height record_mode (place_of c fresh_row)))) o.started
     ∙ ap value_of (ap (λ z. form_at Range (setup_form granted width height) z fresh_row) (sym o.reader) ∙ h)
 
 -- ---- the fields
@@ -205,7 +205,7 @@ all_read width height f sets contexts intra r s t u v row a b d same h k l m =
 
 -- an opened record
 pub opened : (config content : List ℕ) (width height : ℕ) (r : Reader) → checked_content config ≡ Ok content → is_size width ≡ true → is_size height ≡ true
-    → Starts true content (Ok r) → IsOpened config width height r
+    → Starts record_mode content (Ok r) → IsOpened config width height r
 opened config content width height r h w v s =
     record { content = content; checked = h; is_width = w; is_height = v; start = s.0; started = s.1; reader = s.2 }
 

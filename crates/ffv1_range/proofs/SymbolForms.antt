@@ -60,7 +60,7 @@ pub exponent_over : (k e : ℕ) (r : Reader) (c : Coder) (row : List ℕ) → k 
 unfolding exponent_form
 exponent_over k e r c row l h =
     ap (λ z. form_at same_fault (exponent_form z e) r row) l
-    ∙ ap (λ z. from_place same_fault z (λ c. exponent_form 0 e r.closed (place_of c row))) h
+    ∙ ap (λ z. from_place same_fault z (λ c. exponent_form 0 e r.mode (place_of c row))) h
 
 -- ---- the bits of a magnitude
 

@@ -1,6 +1,8 @@
--- Range coding (RFC 9043, section 3.8.1.1 and the default state transition table of 3.8.1.5).
-use Rattle.std.specs.Prelude.{◌≡◌, ℕ, ◌+◌, ◌-◌, ◌*◌, ◌/◌, ◌%◌, ◌≤◌, ◌==◌, Bool, true, false, List, [], ◌∷◌, Result, Ok, Err, nat_lt, slice_index, slice_set, if◌then◌else◌}
+-- Range coding (RFC 9043, section 3.8.1.1).
+use Rattle.std.specs.Prelude.{◌≡◌, ℕ, ◌+◌, ◌-◌, ◌*◌, ◌/◌, Bool, true, false, List, [], ◌∷◌, Result, Ok, Err, nat_lt, slice_index, slice_set, if◌then◌else◌}
 use Rattle.ffv1_range.specs.Results.{◌>>>◌}
+use Rattle.ffv1_range.specs.Transitions.{standard_transitions, state_following}
+use Rattle.ffv1_range.specs.declared.transitions.Transitions.{Transitions}
 use Rattle.ffv1_range.specs.declared.coding.RangeFault.{RangeFault}
 use Rattle.ffv1_range.specs.declared.coding.RangeFault.TheVariants.{Start, Short}
 
@@ -9,40 +11,6 @@ pub record Coder : Type 0 where
   pub range : ℕ
   pub low : ℕ
   pub rest : List ℕ
-
--- what a state becomes after a bit 1 at it, for the states 0 to 255
-abbrev pub one_states : List ℕ
-one_states =
-    0 ∷ 0 ∷ 0 ∷ 0 ∷ 0 ∷ 0 ∷ 0 ∷ 0 ∷ 20 ∷ 21 ∷ 22 ∷ 23 ∷ 24 ∷ 25 ∷ 26 ∷ 27 ∷
-    28 ∷ 29 ∷ 30 ∷ 31 ∷ 32 ∷ 33 ∷ 34 ∷ 35 ∷ 36 ∷ 37 ∷ 37 ∷ 38 ∷ 39 ∷ 40 ∷ 41 ∷ 42 ∷
-    43 ∷ 44 ∷ 45 ∷ 46 ∷ 47 ∷ 48 ∷ 49 ∷ 50 ∷ 51 ∷ 52 ∷ 53 ∷ 54 ∷ 55 ∷ 56 ∷ 56 ∷ 57 ∷
-    58 ∷ 59 ∷ 60 ∷ 61 ∷ 62 ∷ 63 ∷ 64 ∷ 65 ∷ 66 ∷ 67 ∷ 68 ∷ 69 ∷ 70 ∷ 71 ∷ 72 ∷ 73 ∷
-    74 ∷ 75 ∷ 75 ∷ 76 ∷ 77 ∷ 78 ∷ 79 ∷ 80 ∷ 81 ∷ 82 ∷ 83 ∷ 84 ∷ 85 ∷ 86 ∷ 87 ∷ 88 ∷
-    89 ∷ 90 ∷ 91 ∷ 92 ∷ 93 ∷ 94 ∷ 94 ∷ 95 ∷ 96 ∷ 97 ∷ 98 ∷ 99 ∷ 100 ∷ 101 ∷ 102 ∷ 103 ∷
-    104 ∷ 105 ∷ 106 ∷ 107 ∷ 108 ∷ 109 ∷ 110 ∷ 111 ∷ 112 ∷ 113 ∷ 114 ∷ 114 ∷ 115 ∷ 116 ∷ 117 ∷ 118 ∷
-    119 ∷ 120 ∷ 121 ∷ 122 ∷ 123 ∷ 124 ∷ 125 ∷ 126 ∷ 127 ∷ 128 ∷ 129 ∷ 130 ∷ 131 ∷ 132 ∷ 133 ∷ 133 ∷
-    134 ∷ 135 ∷ 136 ∷ 137 ∷ 138 ∷ 139 ∷ 140 ∷ 141 ∷ 142 ∷ 143 ∷ 144 ∷ 145 ∷ 146 ∷ 147 ∷ 148 ∷ 149 ∷
-    150 ∷ 151 ∷ 152 ∷ 152 ∷ 153 ∷ 154 ∷ 155 ∷ 156 ∷ 157 ∷ 158 ∷ 159 ∷ 160 ∷ 161 ∷ 162 ∷ 163 ∷ 164 ∷
-    165 ∷ 166 ∷ 167 ∷ 168 ∷ 169 ∷ 170 ∷ 171 ∷ 171 ∷ 172 ∷ 173 ∷ 174 ∷ 175 ∷ 176 ∷ 177 ∷ 178 ∷ 179 ∷
-    180 ∷ 181 ∷ 182 ∷ 183 ∷ 184 ∷ 185 ∷ 186 ∷ 187 ∷ 188 ∷ 189 ∷ 190 ∷ 190 ∷ 191 ∷ 192 ∷ 194 ∷ 194 ∷
-    195 ∷ 196 ∷ 197 ∷ 198 ∷ 199 ∷ 200 ∷ 201 ∷ 202 ∷ 202 ∷ 204 ∷ 205 ∷ 206 ∷ 207 ∷ 208 ∷ 209 ∷ 209 ∷
-    210 ∷ 211 ∷ 212 ∷ 213 ∷ 215 ∷ 215 ∷ 216 ∷ 217 ∷ 218 ∷ 219 ∷ 220 ∷ 220 ∷ 222 ∷ 223 ∷ 224 ∷ 225 ∷
-    226 ∷ 227 ∷ 227 ∷ 229 ∷ 229 ∷ 230 ∷ 231 ∷ 232 ∷ 234 ∷ 234 ∷ 235 ∷ 236 ∷ 237 ∷ 238 ∷ 239 ∷ 240 ∷
-    241 ∷ 242 ∷ 243 ∷ 244 ∷ 245 ∷ 246 ∷ 247 ∷ 248 ∷ 248 ∷ 0 ∷ 0 ∷ 0 ∷ 0 ∷ 0 ∷ 0 ∷ 0 ∷
-    []
-
-abbrev pub one_state : ℕ → ℕ
-one_state state = slice_index one_states state
-
-abbrev pub zero_state : ℕ → ℕ
-zero_state state = if state == 0 then 0 else (256 - slice_index one_states (256 - state)) % 256
-
-abbrev pub bit_state_after : ℕ → Bool → ℕ
-bit_state_after state bit = if bit then one_state state else zero_state state
-
--- the states that are met from 128 on
-abbrev pub IsBitState : ℕ → Type 0
-IsBitState state = (8 ≤ state) × (state ≤ 248)
 
 -- Where the input is closed, zero bytes follow it; where it is not, no byte does.
 abbrev pub with_byte : Bool → ℕ → ℕ → List ℕ → Result Coder RangeFault
@@ -82,13 +50,36 @@ pub record PlaceOf (X : Type 0) : Type 0 where
 abbrev pub Place : Type 0
 Place = PlaceOf (List ℕ)
 
+-- How values are read: whether zero bytes follow the input, and what states become.
+pub record Mode : Type 0 where
+  pub closed : Bool
+  pub transitions : Transitions
+
+-- how a configuration record is read: closed, and by the default table
+abbrev pub record_mode : Mode
+record_mode = record { closed = true; transitions = standard_transitions }
+
+-- how a slice's content is read by some transitions: no byte follows it
+abbrev pub sentinel_mode : Transitions → Mode
+sentinel_mode transitions = record { closed = false; transitions = transitions }
+
+-- how a header before Golomb-Rice codes is read
+abbrev pub header_mode : Mode
+header_mode = sentinel_mode standard_transitions
+
 -- one bit at a slot of the row, whose state changes
-unfoldable pub slot_at : Bool → Place → ℕ → Result (Bool × Place) RangeFault
-slot_at closed p slot =
-    bit_at closed p.coder (slice_index p.states slot)
-    >>> λ x. Ok (x.0, record { coder = x.1; states = slice_set p.states slot (bit_state_after (slice_index p.states slot) x.0) })
+unfoldable pub slot_at : Mode → Place → ℕ → Result (Bool × Place) RangeFault
+slot_at mode p slot =
+    bit_at mode.closed p.coder (slice_index p.states slot)
+    >>> λ x. Ok (
+      x.0,
+      record {
+        coder = x.1;
+        states = slice_set p.states slot (state_following mode.transitions (slice_index p.states slot) x.0);
+      },
+    )
 
 -- From p these bits are coded at these slots, up to q.
-unfoldable pub IsRangeRun : Bool → Place → List (ℕ × Bool) → Place → Type 0
-IsRangeRun closed p [] q = p ≡ q
-IsRangeRun closed p (x ∷ xs) q = (m : Place) × (slot_at closed p x.0 ≡ Ok (x.1, m)) × IsRangeRun closed m xs q
+unfoldable pub IsRangeRun : Mode → Place → List (ℕ × Bool) → Place → Type 0
+IsRangeRun mode p [] q = p ≡ q
+IsRangeRun mode p (x ∷ xs) q = (m : Place) × (slot_at mode p x.0 ≡ Ok (x.1, m)) × IsRangeRun mode m xs q

@@ -1,11 +1,12 @@
--- What a range decoder stands for: whether zero bytes follow its content, how long that is, and where it is, or the fault that it met.
+-- What a range decoder stands for: how it reads, how long its content is, and where it is, or the fault that it met.
 use Rattle.std.specs.Prelude.{◌≡◌, ℕ, ◌+◌, ◌≤◌, ◌<◌, Bool, List, length, Result, Ok, Err, Option, Some, None, slice_index}
 use Rattle.ffv1_range.specs.Results.{◌>>>◌}
-use Rattle.ffv1_range.specs.Coding.{Coder, bit_at, bit_state_after, IsBitState, start_of}
+use Rattle.ffv1_range.specs.Coding.{Coder, Mode, bit_at, start_of}
+use Rattle.ffv1_range.specs.Transitions.{state_following, IsBitState}
 use Rattle.ffv1_range.specs.declared.coding.RangeFault.{RangeFault}
 
 pub record Reader : Type 0 where
-  pub closed : Bool
+  pub mode : Mode
   pub total : ℕ
   pub at : Result Coder RangeFault
 
@@ -16,16 +17,16 @@ at_of (Some fault) c = Err fault
 
 -- the same decoder at another place, or with a fault
 abbrev pub reader_at : Reader → Result Coder RangeFault → Reader
-reader_at r at = record { closed = r.closed; total = r.total; at = at }
+reader_at r at = record { mode = r.mode; total = r.total; at = at }
 
 -- what reading one bit gives
 abbrev pub reads_bit : Reader → ℕ → Result (Bool × Coder) RangeFault
-reads_bit r state = r.at >>> λ c. bit_at r.closed c state
+reads_bit r state = r.at >>> λ c. bit_at r.mode.closed c state
 
 -- A call read one bit at a state: decoder and state are as they are after it.
 abbrev pub ReadsBit : Reader → ℕ → Result Bool RangeFault → Reader → ℕ → Type 0
 ReadsBit r state (Ok bit) s after =
-    (c : Coder) × (reads_bit r state ≡ Ok (bit, c)) × (s ≡ reader_at r (Ok c)) × (after ≡ bit_state_after state bit)
+    (c : Coder) × (reads_bit r state ≡ Ok (bit, c)) × (s ≡ reader_at r (Ok c)) × (after ≡ state_following r.mode.transitions state bit)
 ReadsBit r state (Err e) s after = reads_bit r state ≡ Err e
 
 -- After a fault the decoder keeps that fault, and so returns it from then on.
@@ -37,10 +38,10 @@ abbrev pub AreStates : List ℕ → Type 0
 AreStates states = (i : ℕ) → i < length states → IsBitState (slice_index states i)
 
 -- A call made a decoder of this content.
-abbrev pub Starts : Bool → List ℕ → Result Reader RangeFault → Type 0
-Starts closed content (Ok r) =
-    (c : Coder) × (start_of closed content ≡ Ok c) × (r ≡ record { closed = closed; total = length content; at = Ok c })
-Starts closed content (Err e) = start_of closed content ≡ Err e
+abbrev pub Starts : Mode → List ℕ → Result Reader RangeFault → Type 0
+Starts mode content (Ok r) =
+    (c : Coder) × (start_of mode.closed content ≡ Ok c) × (r ≡ record { mode = mode; total = length content; at = Ok c })
+Starts mode content (Err e) = start_of mode.closed content ≡ Err e
 
 -- The end of the values: one bit of either value at state 129; the place is one byte before those that are still to come.
 abbrev pub EndsAt : Reader → Result ℕ RangeFault → Type 0

@@ -4,7 +4,7 @@ use Rattle.std.specs.Prelude.{◌≡◌, ◌↔◌, ℕ, ◌+◌, ◌-◌, ◌*�
 use Rattle.std.specs.Bool.{MatchBool}
 use Rattle.std.specs.List.{All, flat_map}
 use Rattle.ffv1_range.specs.Results.{◌>>>◌}
-use Rattle.ffv1_range.specs.Coding.{Coder, Place, bit_at, start_of, IsRangeRun}
+use Rattle.ffv1_range.specs.Coding.{header_mode, Coder, Place, bit_at, start_of, IsRangeRun}
 use Rattle.ffv1_range.specs.Symbols.{symbol_bits}
 use Rattle.ffv1_range.specs.Forms.{lifted_result}
 use Rattle.ffv1_range.specs.HeaderForms.{fields_form, key_coder}
@@ -23,7 +23,7 @@ pub record IsHeaderOf (content : List ℕ) (first : Bool) (fields : List ℕ) (p
   pub nine : length fields ≡ 9
   pub fit : All (λ field. field < 2 ^ 32) fields
   pub end : Place
-  pub coded : IsRangeRun false (record { coder = after_key; states = replicate 32 128 }) (flat_map symbol_bits fields) end
+  pub coded : IsRangeRun header_mode (record { coder = after_key; states = replicate 32 128 }) (flat_map symbol_bits fields) end
   pub last : Bool × Coder
   pub ended : bit_at false end.coder 129 ≡ Ok last
   pub at : place + 1 + length last.1.rest ≡ length content
@@ -74,7 +74,7 @@ abbrev pub header_read : List ℕ → Bool → Result (List ℕ × ℕ) HeadFaul
 header_read content first =
     lifted_result Range (start_of false content) >>> λ start.
     key_coder first start >>> λ coder.
-    lifted_result Range (fields_form false (record { coder = coder; states = tt })) >>> λ read.
+    lifted_result Range (fields_form header_mode (record { coder = coder; states = tt })) >>> λ read.
     lifted_result Range (bit_at false read.1.coder 129) >>> λ last.
     Ok (read.0, length content - (length last.1.rest + 1))
 

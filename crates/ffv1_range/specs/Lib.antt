@@ -1,4 +1,5 @@
 pub mod Results
+pub mod Transitions
 pub mod Coding
 pub mod Symbols
 pub mod Reading

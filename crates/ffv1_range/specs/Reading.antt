@@ -1,7 +1,7 @@
 -- Symbols read from left to right, with the first fault that is met (RFC 9043, section 3.8.1.2).
-use Rattle.std.specs.Prelude.{◌≡◌, ◌↔◌, ◌<◌, ◌^◌, ℕ, zero, suc, ◌+◌, ◌*◌, Bool, List, Ok, min, ℤ, pos, neg_ℤ, unsigned_abs, if◌then◌else◌}
+use Rattle.std.specs.Prelude.{◌≡◌, ◌↔◌, ◌<◌, ◌^◌, ℕ, zero, suc, ◌+◌, ◌*◌, List, Ok, min, ℤ, pos, neg_ℤ, unsigned_abs, if◌then◌else◌}
 use Rattle.ffv1_bits.specs.Bits.{bit_value}
-use Rattle.ffv1_range.specs.Coding.{Place, IsRangeRun}
+use Rattle.ffv1_range.specs.Coding.{Mode, Place, IsRangeRun}
 use Rattle.ffv1_range.specs.Forms.{Form, ◌>>=◌, giving, refusing, slot_form}
 use Rattle.ffv1_range.specs.Symbols.{symbol_bits, signed_symbol_bits}
 use Rattle.ffv1_range.specs.declared.coding.RangeFault.{RangeFault}
@@ -33,9 +33,9 @@ signed_symbol_form =
 -- A symbol is read where its bits are coded, and nowhere else.
 abbrev pub SymbolIsSpelled : Type 0
 SymbolIsSpelled =
-    (closed : Bool) (p q : Place) (a : ℕ) → (symbol_form closed p ≡ Ok (a, q)) ↔ ((a < 2 ^ 32) × IsRangeRun closed p (symbol_bits a) q)
+    (mode : Mode) (p q : Place) (a : ℕ) → (symbol_form mode p ≡ Ok (a, q)) ↔ ((a < 2 ^ 32) × IsRangeRun mode p (symbol_bits a) q)
 
 abbrev pub SignedSymbolIsSpelled : Type 0
 SignedSymbolIsSpelled =
-    (closed : Bool) (p q : Place) (z : ℤ)
-    → (signed_symbol_form closed p ≡ Ok (z, q)) ↔ ((unsigned_abs z < 2 ^ 32) × IsRangeRun closed p (signed_symbol_bits z) q)
+    (mode : Mode) (p q : Place) (z : ℤ)
+    → (signed_symbol_form mode p ≡ Ok (z, q)) ↔ ((unsigned_abs z < 2 ^ 32) × IsRangeRun mode p (signed_symbol_bits z) q)

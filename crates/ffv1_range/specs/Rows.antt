@@ -1,6 +1,6 @@
 -- Range-coded values at several rows of states: one coder reads them all, and each row has states of its own.
 use Rattle.std.specs.Prelude.{◌≡◌, ℕ, Bool, List, [], ◌∷◌, ◌==◌, if◌then◌else◌}
-use Rattle.ffv1_range.specs.Coding.{PlaceOf, Place, IsRangeRun}
+use Rattle.ffv1_range.specs.Coding.{Mode, PlaceOf, Place, IsRangeRun}
 
 -- rows of states, by their numbers
 abbrev pub Rows : Type 0
@@ -15,8 +15,8 @@ abbrev pub RowBits : Type 0
 RowBits = ℕ × List (ℕ × Bool)
 
 -- From p these bits are coded, those at one row of states after those at another, up to q.
-unfoldable pub IsRowsRun : Bool → PlaceOf Rows → List RowBits → PlaceOf Rows → Type 0
-IsRowsRun closed p [] q = p ≡ q
-IsRowsRun closed p (row_bits ∷ rows_bits) q =
-    (m : Place) × IsRangeRun closed (record { coder = p.coder; states = p.states row_bits.0 }) row_bits.1 m
-    × IsRowsRun closed (record { coder = m.coder; states = with_row p.states row_bits.0 m.states }) rows_bits q
+unfoldable pub IsRowsRun : Mode → PlaceOf Rows → List RowBits → PlaceOf Rows → Type 0
+IsRowsRun mode p [] q = p ≡ q
+IsRowsRun mode p (row_bits ∷ rows_bits) q =
+    (m : Place) × IsRangeRun mode (record { coder = p.coder; states = p.states row_bits.0 }) row_bits.1 m
+    × IsRowsRun mode (record { coder = m.coder; states = with_row p.states row_bits.0 m.states }) rows_bits q

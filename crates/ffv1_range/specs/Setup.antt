@@ -4,7 +4,7 @@ use Rattle.std.specs.Coded.{Coded, code_by, coded×, coded_ℕ, coded_bool, code
 use Rattle.std.specs.List.{All, flat_map}
 use Rattle.ffv1_bits.specs.Limits.{greatest_side, most_tiles}
 use Rattle.ffv1_bits.specs.Parity.{RecordPassesParity}
-use Rattle.ffv1_range.specs.Coding.{Coder, PlaceOf, start_of}
+use Rattle.ffv1_range.specs.Coding.{record_mode, Coder, PlaceOf, start_of}
 use Rattle.ffv1_range.specs.Rows.{Rows, RowBits, IsRowsRun}
 use Rattle.ffv1_range.specs.Symbols.{symbol_bits, signed_symbol_bits}
 use Rattle.ffv1_range.specs.Tables.{SetValue, IsTableSet, HaveContexts, set_of, table_entry}
@@ -211,7 +211,7 @@ pub record IsSetupOf (config : List ℕ) (width height : ℕ) (value : SetupValu
   pub start : Coder
   pub started : start_of true (record_content config) ≡ Ok start
   pub end : PlaceOf Rows
-  pub coded : IsRowsRun true (record { coder = start; states = fresh_states }) (record_row_bits fields) end
+  pub coded : IsRowsRun record_mode (record { coder = start; states = fresh_states }) (record_row_bits fields) end
   pub is : value ≡ setup_value width height fields
 
 -- What each setup of the profile keeps.

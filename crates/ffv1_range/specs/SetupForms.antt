@@ -5,7 +5,7 @@ use Rattle.ffv1_bits.specs.Limits.{greatest_side}
 use Rattle.ffv1_bits.specs.Bits.{bits_of}
 use Rattle.ffv1_bits.specs.Parity.{remainder_of}
 use Rattle.ffv1_range.specs.Results.{◌>>>◌}
-use Rattle.ffv1_range.specs.Coding.{start_of}
+use Rattle.ffv1_range.specs.Coding.{record_mode, start_of}
 use Rattle.ffv1_range.specs.Forms.{Form, ◌>>=◌, giving, accepted, apart, from_place}
 use Rattle.ffv1_range.specs.Fields.{PlanesValue, TileCounts, versions, planes, tile_counts, last_fields}
 use Rattle.ffv1_range.specs.Tables.{SetValue}
@@ -70,5 +70,5 @@ abbrev pub setup_read : Bool → List ℕ → ℕ → ℕ → Result SetupValue 
 setup_read granted config width height =
     checked_content config >>> λ content.
     if is_size width && is_size height
-    then (from_place Range (start_of true content) (λ c. setup_form granted width height true (record { coder = c; states = fresh_row })) >>> λ x. Ok x.0)
+    then (from_place Range (start_of true content) (λ c. setup_form granted width height record_mode (record { coder = c; states = fresh_row })) >>> λ x. Ok x.0)
     else Err Size

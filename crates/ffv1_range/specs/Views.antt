@@ -1,5 +1,5 @@
 -- The code's own values as those of the definitions.
-use Rattle.std.specs.Prelude.{List, map}
+use Rattle.std.specs.Prelude.{List, map, ◌++◌, replicate}
 use Rattle.ffv1_range.specs.Coding.{Coder}
 use Rattle.ffv1_range.specs.Fields.{PlanesValue, TileCounts}
 use Rattle.ffv1_range.specs.Tables.{SetValue}
@@ -11,7 +11,7 @@ use Rattle.ffv1_range.specs.declared.grid.Grid.TheInside.{Inside}
 use Rattle.ffv1_range.specs.declared.tables.TableSet.{TableSet}
 
 abbrev pub coder_of : Interval → Coder
-coder_of x = record { range = x.range; low = x.low; rest = x.rest.now }
+coder_of x = record { range = x.range; low = x.low; rest = x.rest.now ++ replicate x.zeros 0 }
 
 abbrev pub planes_value : Planes → PlanesValue
 planes_value x = record { has_chroma = x.has_chroma; shift_h = x.shift_h; shift_v = x.shift_v }

@@ -1,13 +1,14 @@
 //! The range coder (RFC 9043, section 3.8.1.1): bits that are coded at states, read from the front of a content.
 //!
 //! An `Interval` keeps its range in 256..=65280 and its offset below the range. A decoder that met a fault keeps it.
-ghost use Rattle.std.specs.Prelude.{◌≡◌, ℕ, ◌+◌, ◌≤◌, ◌<◌, length, IfOk, OnErr, false, true};
-ghost use Rattle.ffv1_range.specs.Coding.{start_of, started, IsBitState, bit_state_after, one_state, bit_at, refilled, slot_at};
+ghost use Rattle.std.specs.Prelude.{◌≡◌, ◌++◌, ◌∷◌, [], replicate, true, ℕ, ◌+◌, ◌≤◌, ◌<◌, length, IfOk, OnErr, false, true};
+ghost use Rattle.ffv1_range.specs.Coding.{start_of, started, bit_at, refilled, slot_at, record_mode, header_mode, sentinel_mode};
 ghost use Rattle.ffv1_range.specs.Forms.{ReadsForm, same_fault, slot_form};
 ghost use Rattle.ffv1_range.specs.Inner.Forms.{Gives};
 ghost use Rattle.ffv1_range.specs.Decoder.{reader_at, ReadsBit, KeepsFault, IsCoder, Starts, EndsAt};
 ghost use Rattle.ffv1_range.specs.Views.{coder_of};
 
+use crate::transitions::{Transitions, standard};
 use std::marker::Model;
 
 /// Why a range-coded value can't be read.
@@ -21,29 +22,14 @@ pub enum RangeFault {
     SymbolTooLong,
 }
 
-/// What a state becomes after a bit 1 (RFC 9043, section 3.8.1.5).
-const ONE_STATES: [u8; 256] = [
-    0, 0, 0, 0, 0, 0, 0, 0, 20, 21, 22, 23, 24, 25, 26, 27, 28, 29, 30, 31, 32, 33, 34, 35, 36, 37,
-    37, 38, 39, 40, 41, 42, 43, 44, 45, 46, 47, 48, 49, 50, 51, 52, 53, 54, 55, 56, 56, 57, 58, 59,
-    60, 61, 62, 63, 64, 65, 66, 67, 68, 69, 70, 71, 72, 73, 74, 75, 75, 76, 77, 78, 79, 80, 81, 82,
-    83, 84, 85, 86, 87, 88, 89, 90, 91, 92, 93, 94, 94, 95, 96, 97, 98, 99, 100, 101, 102, 103,
-    104, 105, 106, 107, 108, 109, 110, 111, 112, 113, 114, 114, 115, 116, 117, 118, 119, 120, 121,
-    122, 123, 124, 125, 126, 127, 128, 129, 130, 131, 132, 133, 133, 134, 135, 136, 137, 138, 139,
-    140, 141, 142, 143, 144, 145, 146, 147, 148, 149, 150, 151, 152, 152, 153, 154, 155, 156, 157,
-    158, 159, 160, 161, 162, 163, 164, 165, 166, 167, 168, 169, 170, 171, 171, 172, 173, 174, 175,
-    176, 177, 178, 179, 180, 181, 182, 183, 184, 185, 186, 187, 188, 189, 190, 190, 191, 192, 194,
-    194, 195, 196, 197, 198, 199, 200, 201, 202, 202, 204, 205, 206, 207, 208, 209, 209, 210, 211,
-    212, 213, 215, 215, 216, 217, 218, 219, 220, 220, 222, 223, 224, 225, 226, 227, 227, 229, 229,
-    230, 231, 232, 234, 234, 235, 236, 237, 238, 239, 240, 241, 242, 243, 244, 245, 246, 247, 248,
-    248, 0, 0, 0, 0, 0, 0, 0,
-];
-
-/// The range, the offset in it, and the bytes still to come.
+/// The range, the offset in it, and the bytes still to come: those of the content, and zero bytes after them. It has whole words alone,
+/// so that it is kept in registers.
 #[derive(Clone, Copy)]
 struct Interval<'a> {
     range: u64,
     low: u64,
     rest: &'a [u8],
+    zeros: usize,
 }
 
 /// Reads range-coded values from the front of a content. Once it met a fault, it returns that fault.
@@ -52,6 +38,7 @@ pub struct RangeDecoder<'a> {
     interval: Interval<'a>,
     total: usize,
     closed: bool,
+    transitions: &'a Transitions,
     fault: Option<RangeFault>,
 }
 
@@ -62,71 +49,61 @@ impl<'a> Model for RangeDecoder<'a> {
 
     ghost Value = { Reader };
 
-    ghost view = { λ a. record { closed = a.closed; total = a.total; at = at_of a.fault (coder_of a.interval) } };
+    ghost view = { λ a. record { mode = record { closed = a.closed; transitions = a.transitions.now }; total = a.total; at = at_of a.fault (coder_of a.interval) } };
 
-    ghost invariant = { λ a. IsCoder a.interval.range a.interval.low × (a.closed ≡ false → length a.interval.rest.now + 2 ≤ a.total) };
+    ghost invariant = { λ a. IsCoder a.interval.range a.interval.low × (a.closed ≡ false → length a.interval.rest.now + a.interval.zeros + 2 ≤ a.total) };
 }
 
-/// The state after a bit 1.
-fn state_after_one(state: u8) -> u8
-    ensures { result ≡ one_state state }
+/// A decoder at the start of a content and of the zero bytes after it, at most one in sentinel mode and none in closed mode.
+fn start<'a>(
+    content: &'a [u8],
+    zeros: usize,
+    closed: bool,
+    transitions: &'a Transitions,
+) -> Result<RangeDecoder<'a>, RangeFault>
+    requires one { zeros ≤ 1 }
+    requires none { closed ≡ true → zeros ≡ 0 }
+    ensures { Starts (record { closed = closed; transitions = transitions.now }) (content.now ++ replicate zeros 0) result }
 {
-    ONE_STATES[state as usize]
-}
-
-/// The state after a bit that was coded at a state, by the default state transition table (RFC 9043, section 3.8.1.5). From a state in
-/// 8..=248 it is in 8..=248 again, and from 0 it is 0 after a bit 0.
-#[inline(always)]
-pub fn next_state(state: u8, bit: bool) -> u8
-    ensures value { result ≡ bit_state_after state bit }
-    ensures in_range { IsBitState state → IsBitState result }
-{
-    if bit {
-        return state_after_one(state);
-    }
-    if state == 0 {
-        return 0;
-    }
-    let mirrored = (256 - u32::from(state)) as u8;
-    ((256 - u32::from(state_after_one(mirrored))) % 256) as u8
-}
-
-/// A decoder at the start of a content.
-fn start(content: &[u8], closed: bool) -> Result<RangeDecoder<'_>, RangeFault>
-    ensures { Starts closed content.now result }
-{
-    let interval = first_interval(content, closed)?;
+    let interval = first_interval(content, zeros, closed)?;
     Ok(RangeDecoder {
         interval,
-        total: content.len(),
+        total: content.len() + zeros,
         closed,
+        transitions,
         fault: None,
     })
 }
 
 /// The interval of the first two bytes.
 #[tactic(auto, unfolding(crate::specs::Coding::start_of))]
-fn first_interval(content: &[u8], closed: bool) -> Result<Interval<'_>, RangeFault>
-    ensures value { Gives coder_of result (start_of closed content.now) }
+fn first_interval(content: &[u8], zeros: usize, closed: bool) -> Result<Interval<'_>, RangeFault>
+    requires one { zeros ≤ 1 }
+    requires none { closed ≡ true → zeros ≡ 0 }
+    ensures value { Gives coder_of result (start_of closed (content.now ++ replicate zeros 0)) }
     ensures coder { IfOk result (λ x. IsCoder x.range x.low) }
-    ensures rest { IfOk result (λ x. closed ≡ false → length x.rest.now + 2 ≤ length content.now) }
+    ensures rest { IfOk result (λ x. closed ≡ false → length x.rest.now + x.zeros + 2 ≤ length content.now + zeros) }
 {
     match content {
         [first, second, rest @ ..] => interval_from(
             256 * u64::from(*first) + u64::from(*second),
             rest,
+            zeros,
         ),
-        [first, rest @ ..] if closed => interval_from(256 * u64::from(*first), rest),
-        [] if closed => interval_from(0, content),
+        [first, rest @ ..] if closed || zeros == 1 => {
+            interval_from(256 * u64::from(*first), rest, 0)
+        }
+        [] if closed => interval_from(0, content, 0),
         _ => Err(RangeFault::Short),
     }
 }
 
 /// The whole range, and the offset of the first bytes in it.
-fn interval_from(low: u64, rest: &[u8]) -> Result<Interval<'_>, RangeFault>
-    ensures value { Gives coder_of result (started low rest.now) }
+fn interval_from(low: u64, rest: &[u8], zeros: usize) -> Result<Interval<'_>, RangeFault>
+    ensures value { Gives coder_of result (started low (rest.now ++ replicate zeros 0)) }
     ensures coder { IfOk result (λ x. IsCoder x.range x.low) }
     ensures rest { IfOk result (λ x. x.rest.now ≡ rest.entry.now) }
+    ensures zeros { IfOk result (λ x. x.zeros ≡ zeros) }
 {
     if low >= 65280 {
         return Err(RangeFault::Start);
@@ -135,27 +112,42 @@ fn interval_from(low: u64, rest: &[u8]) -> Result<Interval<'_>, RangeFault>
         range: 65280,
         low,
         rest,
+        zeros,
     })
 }
 
 impl<'a> RangeDecoder<'a> {
-    /// A decoder of a content that zero bytes follow (closed mode, RFC 9043, section 3.8.1.1.1).
+    /// A decoder of a content that zero bytes follow (closed mode, RFC 9043, section 3.8.1.1.1), by the default table.
     ///
     /// Refused with `Start` where the first two bytes, most significant first, make 65280 or more.
     pub fn closed(content: &'a [u8]) -> Result<RangeDecoder<'a>, RangeFault>
-        ensures { Starts true content.now result }
+        ensures { Starts record_mode content.now result }
     {
-        start(content, true)
+        start(content, 0, true, standard())
     }
 
-    /// A decoder of a content that nothing follows (sentinel mode, RFC 9043, section 3.8.1.1.1).
+    /// A decoder of a content that nothing follows (sentinel mode, RFC 9043, section 3.8.1.1.1), by the default table.
     ///
     /// Refused with `Short` where there are fewer than two bytes, and with `Start` where the first two, most
     /// significant first, make 65280 or more.
     pub fn sentinel(content: &'a [u8]) -> Result<RangeDecoder<'a>, RangeFault>
-        ensures { Starts false content.now result }
+        ensures { Starts header_mode content.now result }
     {
-        start(content, false)
+        start(content, 0, false, standard())
+    }
+
+    /// A decoder of a slice of coder_type 1 or 2 by these transitions: one zero byte follows its content (own), and nothing that byte. The
+    /// byte counts as one of the content.
+    ///
+    /// Refused with `Short` where the content is empty, and with `Start` where its first two bytes, that byte included, make 65280 or more,
+    /// the most significant first.
+    pub fn slice(
+        content: &'a [u8],
+        transitions: &'a Transitions,
+    ) -> Result<RangeDecoder<'a>, RangeFault>
+        ensures { Starts (sentinel_mode transitions.now) (content.now ++ 0 ∷ []) result }
+    {
+        start(content, 1, false, transitions)
     }
 
     /// Reads the bit at state 129 that ends the values, and returns the place, in bytes from the content's start, of the
@@ -163,14 +155,15 @@ impl<'a> RangeDecoder<'a> {
     ///
     /// Refused with `Short` where that bit wants a byte past the content, or with the fault that was met before.
     pub fn finish(self) -> Result<usize, RangeFault>
-        requires { self.closed ≡ false }
+        requires { self.mode.closed ≡ false }
         ensures { EndsAt self.entry result }
     {
         let _closed = self.closed;
         let mut decoder = self;
         let mut state = 129;
         decoder.bit(&mut state)?;
-        Ok(decoder.total - decoder.interval.rest.len() - 1)
+        let Interval { rest, zeros, .. } = decoder.interval;
+        Ok(decoder.total - rest.len() - zeros - 1)
     }
 
     /// Reads one bit at a state (RFC 9043, section 3.8.1.1). The state becomes the one that follows the bit.
@@ -199,7 +192,7 @@ impl<'a> RangeDecoder<'a> {
         match bit_of(self.closed, self.interval, *state, is_even) {
             Ok((bit, interval)) => {
                 self.interval = interval;
-                *state = next_state(*state, bit);
+                *state = self.transitions.after(*state, bit);
                 Ok(bit)
             }
             Err(fault) => {
@@ -252,7 +245,7 @@ fn bit_of(
     requires { IsCoder interval.range interval.low }
     ensures value { Gives (λ x. (x.0, coder_of x.1)) result (bit_at closed (coder_of interval.entry) state) }
     ensures coder { IfOk result (λ x. IsCoder x.1.range x.1.low) }
-    ensures rest { IfOk result (λ x. length x.1.rest.now ≤ length interval.entry.rest.now) }
+    ensures rest { IfOk result (λ x. length x.1.rest.now + x.1.zeros ≤ length interval.entry.rest.now + interval.entry.zeros) }
 {
     if is_even {
         chosen_bit_of(closed, interval, state)
@@ -272,7 +265,7 @@ fn branched_bit_of(
     requires { IsCoder interval.range interval.low }
     ensures value { Gives (λ x. (x.0, coder_of x.1)) result (bit_at closed (coder_of interval.entry) state) }
     ensures coder { IfOk result (λ x. IsCoder x.1.range x.1.low) }
-    ensures rest { IfOk result (λ x. length x.1.rest.now ≤ length interval.entry.rest.now) }
+    ensures rest { IfOk result (λ x. length x.1.rest.now + x.1.zeros ≤ length interval.entry.rest.now + interval.entry.zeros) }
 {
     let part = (interval.range * u64::from(state)) >> 8;
     let low_part = interval.range - part;
@@ -282,7 +275,7 @@ fn branched_bit_of(
             Interval {
                 range: low_part,
                 low: interval.low,
-                rest: interval.rest,
+                ..interval
             },
         )?;
         return Ok((false, next));
@@ -292,7 +285,7 @@ fn branched_bit_of(
         Interval {
             range: part,
             low: interval.low - low_part,
-            rest: interval.rest,
+            ..interval
         },
     )?;
     Ok((true, next))
@@ -309,7 +302,7 @@ fn chosen_bit_of(
     requires { IsCoder interval.range interval.low }
     ensures value { Gives (λ x. (x.0, coder_of x.1)) result (bit_at closed (coder_of interval.entry) state) }
     ensures coder { IfOk result (λ x. IsCoder x.1.range x.1.low) }
-    ensures rest { IfOk result (λ x. length x.1.rest.now ≤ length interval.entry.rest.now) }
+    ensures rest { IfOk result (λ x. length x.1.rest.now + x.1.zeros ≤ length interval.entry.rest.now + interval.entry.zeros) }
 {
     let part = (interval.range * u64::from(state)) >> 8;
     let low_part = interval.range - part;
@@ -325,7 +318,7 @@ fn chosen_bit_of(
         Interval {
             range,
             low,
-            rest: interval.rest,
+            ..interval
         },
     )?;
     Ok((bit, next))
@@ -337,24 +330,32 @@ fn refilled(closed: bool, cut: Interval<'_>) -> Result<Interval<'_>, RangeFault>
     requires some { 1 ≤ cut.range }
     requires narrow { cut.range ≤ 65280 }
     requires inside { cut.low < cut.range }
-    ensures value { Gives coder_of result (refilled closed cut.entry.range cut.entry.low cut.entry.rest.now) }
+    ensures value { Gives coder_of result (refilled closed cut.entry.range cut.entry.low (coder_of cut.entry).rest) }
     ensures coder { IfOk result (λ x. IsCoder x.range x.low) }
-    ensures rest { IfOk result (λ x. length x.rest.now ≤ length cut.entry.rest.now) }
+    ensures rest { IfOk result (λ x. length x.rest.now + x.zeros ≤ length cut.entry.rest.now + cut.entry.zeros) }
 {
     if cut.range >= 256 {
         return Ok(cut);
     }
-    match (cut.rest, closed) {
-        ([byte, rest @ ..], _) => Ok(Interval {
+    match cut.rest {
+        [byte, rest @ ..] => Ok(Interval {
             range: cut.range << 8,
             low: (cut.low << 8) + u64::from(*byte),
             rest,
+            zeros: cut.zeros,
         }),
-        ([], true) => Ok(Interval {
+        [] if cut.zeros > 0 => Ok(Interval {
             range: cut.range << 8,
             low: cut.low << 8,
             rest: cut.rest,
+            zeros: cut.zeros - 1,
         }),
-        ([], false) => Err(RangeFault::Short),
+        [] if closed => Ok(Interval {
+            range: cut.range << 8,
+            low: cut.low << 8,
+            rest: cut.rest,
+            zeros: 0,
+        }),
+        [] => Err(RangeFault::Short),
     }
 }

@@ -118,7 +118,7 @@ fn read_head_within(
 
 /// Reads the keyframe bit where the content is the payload's first. It has to be 1.
 fn read_key(decoder: &mut RangeDecoder<'_>, first: bool) -> Result<(), HeadFault>
-    requires sentinel { decoder.old.closed ≡ false }
+    requires sentinel { decoder.old.mode.closed ≡ false }
     requires alive { IsAtPlace decoder.old }
     ensures { ReadsKey first decoder.old result decoder.new }
 {

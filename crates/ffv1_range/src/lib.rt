@@ -11,10 +11,12 @@ mod head;
 mod setup;
 mod symbols;
 mod tables;
+mod transitions;
 
-pub use coding::{RangeDecoder, RangeFault, next_state};
+pub use coding::{RangeDecoder, RangeFault};
 pub use fault::SetupFault;
 pub use grid::{Grid, TileRect, each_place_in_one_tile, each_tile_in_frame};
 pub use head::{HEAD_FIELDS, HeadFault, SliceHead, read_head, read_head_fields};
 pub use setup::{Setup, setup_is_in_profile, setup_is_one};
 pub use symbols::{signed_symbol_is_spelled, symbol_is_spelled};
+pub use transitions::{Transitions, next_state};

@@ -8,6 +8,7 @@ use Rattle.ffv1_bits.specs.Parity.{polynomial_of, divided, remainder_of, AreByte
 use Rattle.ffv1_bits.proofs.Burst.{burst}
 use Rattle.ffv1_range.specs.Setup.{SetupValue}
 use Rattle.ffv1_range.specs.Coding.{bit_at, slot_at, start_of}
+use Rattle.ffv1_range.specs.Transitions.{standard_transitions, one_states_with, zero_states_of, default_states}
 use Rattle.ffv1_range.specs.HeaderForms.{symbols_onto}
 use Rattle.ffv1_range.specs.Reading.{symbol_form, exponent_form, low_form}
 use Rattle.ffv1_slice.specs.Slices.{IsSliceOf, IsFoundIn, IsOriginal, slice_read}
@@ -92,11 +93,11 @@ setup = record {
 }
 
 first_read : slice_read setup first_slice true ≡ Ok 0
-unfolding slice_read number_bits bits_of polynomial_of divided remainder_of start_of bit_at slot_at symbol_form exponent_form low_form symbols_onto
+unfolding slice_read number_bits bits_of polynomial_of divided remainder_of start_of bit_at slot_at symbol_form exponent_form low_form symbols_onto standard_transitions one_states_with zero_states_of default_states
 first_read = refl
 
 second_read : slice_read setup second_slice false ≡ Ok 1
-unfolding slice_read number_bits bits_of polynomial_of divided remainder_of start_of bit_at slot_at symbol_form exponent_form low_form symbols_onto
+unfolding slice_read number_bits bits_of polynomial_of divided remainder_of start_of bit_at slot_at symbol_form exponent_form low_form symbols_onto standard_transitions one_states_with zero_states_of default_states
 second_read = refl
 
 pub is_original : IsOriginal setup frame slices

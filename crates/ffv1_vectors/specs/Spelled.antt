@@ -2,7 +2,7 @@
 use Rattle.std.specs.Prelude.{◌≡◌, ◌+◌, ◌<◌, ◌++◌, ℕ, Bool, false, List, length, Ok}
 use Rattle.std.specs.Bool.{MatchBool}
 use Rattle.ffv1_bits.specs.Parity.{PassesParity}
-use Rattle.ffv1_range.specs.Coding.{Coder, bit_at, start_of}
+use Rattle.ffv1_range.specs.Coding.{Coder, bit_at, start_of, header_mode}
 use Rattle.ffv1_range.specs.HeaderForms.{fields_form}
 use Rattle.ffv1_slice.specs.Chain.{IsFramed, status_before}
 
@@ -14,7 +14,7 @@ pub record ReadsAs (content : List ℕ) (first key : Bool) (fields : List ℕ) (
   pub after_key : Coder
   pub key_read : MatchBool first (bit_at false start 128 ≡ Ok (key, after_key)) (after_key ≡ start)
   pub end : Coder
-  pub fields_read : fields_form false (record { coder = after_key; states = tt }) ≡ Ok (fields, record { coder = end; states = tt })
+  pub fields_read : fields_form header_mode (record { coder = after_key; states = tt }) ≡ Ok (fields, record { coder = end; states = tt })
   pub last : Bool × Coder
   pub ended : bit_at false end 129 ≡ Ok last
   pub at : place + 1 + length last.1.rest ≡ length content

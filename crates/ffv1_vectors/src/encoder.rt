@@ -4,7 +4,7 @@
 //! its low end, the carry included, never passes 17 bits. Each bit adds one byte at most, so memory for all bits of a
 //! symbol is asked for before the first is written.
 ghost use Rattle.std.specs.Prelude.{◌≡◌, ◌+◌, ◌*◌, ◌≤◌, ◌<◌, OnOk, OnErr, IfErr, vec_len, vec_capacity};
-ghost use Rattle.ffv1_range.specs.Coding.{IsBitState, bit_state_after};
+ghost use Rattle.ffv1_range.specs.Transitions.{IsBitState, bit_state_after};
 ghost use Rattle.ffv1_range.specs.Decoder.{AreStates};
 ghost use Rattle.ffv1_vectors.specs.Inner.Encoder.{IsEncoder};
 ghost use Rattle.ffv1_vectors.specs.Encoder.{encoder_start};
