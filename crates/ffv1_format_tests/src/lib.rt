@@ -21,6 +21,8 @@ mod range;
 #[cfg(test)]
 mod recorded;
 #[cfg(test)]
+mod recordings;
+#[cfg(test)]
 mod records;
 #[cfg(test)]
 mod repair;

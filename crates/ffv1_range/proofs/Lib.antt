@@ -10,6 +10,7 @@ pub mod HeaderSteps
 pub mod HeaderFound
 pub mod DeltaSteps
 pub mod SetupSteps
+pub mod TransitionSteps
 pub mod FieldRuns
 pub mod RowRuns
 pub mod TableRuns

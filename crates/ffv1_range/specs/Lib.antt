@@ -6,6 +6,7 @@ pub mod Reading
 pub mod Forms
 pub mod Decoder
 pub mod Views
+pub mod Scopes
 pub mod Fields
 pub mod Tables
 pub mod TableForms

@@ -1,5 +1,5 @@
 -- A setup: what a configuration record says of its frames (RFC 9043, sections 4.2 and 4.3), for frames of one size.
-use Rattle.std.specs.Prelude.{◌≡◌, ℕ, ◌+◌, ◌-◌, ◌*◌, ◌^◌, ◌<◌, ◌≤◌, ◌⊎◌, Bool, true, false, List, [], ◌∷◌, ◌++◌, Ok, Option, Some, None, length, map, take, ℤ, unsigned_abs, slice_index_or, if◌then◌else◌, refl}
+use Rattle.std.specs.Prelude.{◌≡◌, ℕ, ◌+◌, ◌-◌, ◌*◌, ◌^◌, ◌<◌, ◌≤◌, ◌==◌, Bool, true, false, List, [], ◌∷◌, ◌++◌, Ok, Option, Some, None, length, map, take, ℤ, unsigned_abs, slice_index_or, if◌then◌else◌, refl}
 use Rattle.std.specs.Coded.{Coded, code_by, coded×, coded_ℕ, coded_bool, coded_list}
 use Rattle.std.specs.List.{All, flat_map}
 use Rattle.ffv1_bits.specs.Limits.{greatest_side, most_tiles}
@@ -9,6 +9,11 @@ use Rattle.ffv1_range.specs.Rows.{Rows, RowBits, IsRowsRun}
 use Rattle.ffv1_range.specs.Symbols.{symbol_bits, signed_symbol_bits}
 use Rattle.ffv1_range.specs.Tables.{SetValue, IsTableSet, HaveContexts, set_of, table_entry}
 use Rattle.ffv1_range.specs.TableForms.{fresh_row}
+use Rattle.ffv1_range.specs.Scopes.{accepts_coder, accepts_space, accepts_depth, accepts_chroma, accepts_shift, accepts_extra_plane, accepts_ec, delta_count}
+use Rattle.ffv1_range.specs.Transitions.{delta_bytes, transitions_with}
+use Rattle.ffv1_range.specs.declared.scope.Scope.{Scope}
+use Rattle.ffv1_range.specs.declared.scope.Scope.TheVariants.{Profile, Version3}
+use Rattle.ffv1_range.specs.declared.transitions.Transitions.{Transitions}
 
 pub record SetupValue : Type 0 where
   pub micro : ℕ
@@ -64,14 +69,16 @@ set_entry setup set table index = table_entry (slice_index_or (slice_index_or se
 
 -- ---- the fields of a record
 
--- One field as it is coded: an unsigned symbol, or one bit at slot 0.
+-- One field as it is coded: an unsigned symbol, one bit at slot 0, or a signed symbol.
 pub data FieldValue : Type 0 where
   symbol : ℕ → FieldValue
   bit : Bool → FieldValue
+  signed : ℤ → FieldValue
 
 abbrev pub field_bits : FieldValue → List (ℕ × Bool)
 field_bits (symbol n) = symbol_bits n
 field_bits (bit b) = (0, b) ∷ []
+field_bits (signed z) = signed_symbol_bits z
 
 unfoldable pub fields_bits : List FieldValue → List (ℕ × Bool)
 fields_bits [] = []
@@ -90,6 +97,7 @@ pub record RecordFields : Type 0 where
   pub version : ℕ
   pub micro_version : ℕ
   pub coder_type : ℕ
+  pub state_transition_delta : List ℤ
   pub colorspace_type : ℕ
   pub bits_per_raw_sample : ℕ
   pub chroma_planes : Bool
@@ -105,9 +113,10 @@ pub record RecordFields : Type 0 where
 -- the fields before the tables, in their order; the last is quant_table_set_count
 abbrev pub front_fields : RecordFields → List FieldValue
 front_fields r =
-    symbol r.version ∷ symbol r.micro_version ∷ symbol r.coder_type ∷ symbol r.colorspace_type ∷ symbol r.bits_per_raw_sample ∷
+    symbol r.version ∷ symbol r.micro_version ∷ symbol r.coder_type ∷ (map signed r.state_transition_delta ++
+    symbol r.colorspace_type ∷ symbol r.bits_per_raw_sample ∷
     bit r.chroma_planes ∷ symbol r.log2_h_chroma_subsample ∷ symbol r.log2_v_chroma_subsample ∷ bit r.extra_plane ∷
-    symbol r.num_h_slices_less_1 ∷ symbol r.num_v_slices_less_1 ∷ symbol (length r.sets) ∷ []
+    symbol r.num_h_slices_less_1 ∷ symbol r.num_v_slices_less_1 ∷ symbol (length r.sets) ∷ [])
 
 -- the fields after the deltas
 abbrev pub back_fields : RecordFields → List FieldValue
@@ -156,24 +165,38 @@ pub record IsSetFields (set : SetFields) : Type 0 where
   pub tables : IsTableSet set.tables
   pub deltas : AreDeltas (set_of set.tables).contexts set.deltas
 
--- The fields are those of the profile, for frames of this width and height.
-pub record IsAccepted (width height : ℕ) (r : RecordFields) : Type 0 where
+-- Symbols of a record, whatever they stand for.
+pub record AreSymbols (r : RecordFields) : Type 0 where
+  pub micro_version : IsSymbol r.micro_version
+  pub coder_type : IsSymbol r.coder_type
+  pub state_transition_delta : All (λ delta. IsSymbol (unsigned_abs delta)) r.state_transition_delta
+  pub colorspace_type : IsSymbol r.colorspace_type
+  pub bits_per_raw_sample : IsSymbol r.bits_per_raw_sample
+  pub log2_h_chroma_subsample : IsSymbol r.log2_h_chroma_subsample
+  pub log2_v_chroma_subsample : IsSymbol r.log2_v_chroma_subsample
+  pub ec : IsSymbol r.ec
+  pub intra : IsSymbol r.intra
+
+-- The fields are those that a scope accepts, for frames of this width and height.
+pub record IsAccepted (scope : Scope) (width height : ℕ) (r : RecordFields) : Type 0 where
   pub version : r.version ≡ 3
   pub micro_version : 4 ≤ r.micro_version
-  pub coder_type : r.coder_type ≡ 0
-  pub colorspace_type : r.colorspace_type ≡ 0
-  pub bits_per_raw_sample : (r.bits_per_raw_sample ≡ 0) ⊎ (r.bits_per_raw_sample ≡ 8)
-  pub log2_h_chroma_subsample : r.chroma_planes ≡ true → r.log2_h_chroma_subsample ≤ 2
-  pub log2_v_chroma_subsample : r.chroma_planes ≡ true → r.log2_v_chroma_subsample ≤ 2
-  pub extra_plane : r.extra_plane ≡ false
+  pub coder_type : accepts_coder scope r.coder_type ≡ true
+  pub state_transition_delta : length r.state_transition_delta ≡ delta_count r.coder_type
+  pub colorspace_type : accepts_space scope r.colorspace_type ≡ true
+  pub bits_per_raw_sample : accepts_depth scope r.bits_per_raw_sample ≡ true
+  pub chroma_planes : accepts_chroma r.colorspace_type r.chroma_planes ≡ true
+  pub log2_h_chroma_subsample : accepts_shift scope r.colorspace_type r.chroma_planes r.log2_h_chroma_subsample ≡ true
+  pub log2_v_chroma_subsample : accepts_shift scope r.colorspace_type r.chroma_planes r.log2_v_chroma_subsample ≡ true
+  pub extra_plane : accepts_extra_plane scope r.extra_plane ≡ true
   pub across : r.num_h_slices_less_1 + 1 ≤ width
   pub down : r.num_v_slices_less_1 + 1 ≤ height
   pub tiles : (r.num_h_slices_less_1 + 1) * (r.num_v_slices_less_1 + 1) ≤ most_tiles
   pub some_set : 1 ≤ length r.sets
   pub few_sets : length r.sets ≤ 8
   pub sets : All IsSetFields r.sets
-  pub ec : r.ec ≡ 1
-  pub symbols : IsSymbol r.micro_version × IsSymbol r.log2_h_chroma_subsample × IsSymbol r.log2_v_chroma_subsample × IsSymbol r.intra
+  pub ec : accepts_ec scope r.ec ≡ true
+  pub symbols : AreSymbols r
 
 -- what the fields say; the shifts of a gray record are taken as 0
 abbrev pub setup_value : ℕ → ℕ → RecordFields → SetupValue
@@ -192,6 +215,27 @@ setup_value width height r =
       height = height;
     }
 
+-- What a record says of any recording of version 3: what it says of one of the profile, and how samples are coded.
+pub record RecordingValue : Type 0 where
+  pub setup : SetupValue
+  pub coder : ℕ
+  pub transitions : Transitions
+  pub is_rgb : Bool
+  pub depth : ℕ
+  pub has_alpha : Bool
+
+-- 0 bits a sample stand for 8
+abbrev pub recording_value : ℕ → ℕ → RecordFields → RecordingValue
+recording_value width height r =
+    record {
+      setup = setup_value width height r;
+      coder = r.coder_type;
+      transitions = transitions_with (delta_bytes r.coder_type r.state_transition_delta);
+      is_rgb = r.colorspace_type == 1;
+      depth = if r.bits_per_raw_sample == 0 then 8 else r.bits_per_raw_sample;
+      has_alpha = r.extra_plane;
+    }
+
 -- a width or a height of the profile, in samples
 abbrev pub IsSize : ℕ → Type 0
 IsSize n = (1 ≤ n) × (n ≤ greatest_side)
@@ -200,19 +244,48 @@ IsSize n = (1 ≤ n) × (n ≤ greatest_side)
 abbrev pub record_content : List ℕ → List ℕ
 record_content config = take (length config - 4) config
 
--- The setup of a configuration record, for frames of this width and height: the record passes its parity, and some
--- fields that are accepted are range-coded in what stands before it.
-pub record IsSetupOf (config : List ℕ) (width height : ℕ) (value : SetupValue) : Type 0 where
+-- A configuration record, for frames of this width and height: it passes its parity, and some fields that the scope accepts are range-coded
+-- in what stands before it.
+pub record IsScopedRecord (config : List ℕ) (scope : Scope) (width height : ℕ) (value : RecordingValue) : Type 0 where
   pub passes : RecordPassesParity config
   pub is_width : IsSize width
   pub is_height : IsSize height
   pub fields : RecordFields
-  pub accepted : IsAccepted width height fields
+  pub accepted : IsAccepted scope width height fields
   pub start : Coder
   pub started : start_of true (record_content config) ≡ Ok start
   pub end : PlaceOf Rows
   pub coded : IsRowsRun record_mode (record { coder = start; states = fresh_states }) (record_row_bits fields) end
-  pub is : value ≡ setup_value width height fields
+  pub is : value ≡ recording_value width height fields
+
+-- what a record of version 3 says
+abbrev pub IsRecordingOf : List ℕ → ℕ → ℕ → RecordingValue → Type 0
+IsRecordingOf config width height value = IsScopedRecord config Version3 width height value
+
+-- The setup of a configuration record: what it says, where it is one of the profile.
+pub record IsSetupOf (config : List ℕ) (width height : ℕ) (value : SetupValue) : Type 0 where
+  pub recording : RecordingValue
+  pub record_of : IsScopedRecord config Profile width height recording
+  pub is : value ≡ recording.setup
+
+-- What each recording of version 3 keeps.
+pub record IsInVersion3 (r : RecordingValue) : Type 0 where
+  pub coder : r.coder ≤ 2
+  pub some_depth : 8 ≤ r.depth
+  pub few_depth : r.depth ≤ 16
+  pub late : 4 ≤ r.setup.micro
+  pub small_h : r.setup.shift_h ≤ 4
+  pub small_v : r.setup.shift_v ≤ 4
+  pub some_across : 1 ≤ r.setup.across
+  pub coarse_across : r.setup.across ≤ r.setup.width
+  pub some_down : 1 ≤ r.setup.down
+  pub coarse_down : r.setup.down ≤ r.setup.height
+  pub few_tiles : r.setup.across * r.setup.down ≤ most_tiles
+  pub narrow : r.setup.width ≤ greatest_side
+  pub low : r.setup.height ≤ greatest_side
+  pub some_set : 1 ≤ length r.setup.sets
+  pub few_sets : length r.setup.sets ≤ 8
+  pub contexts : HaveContexts r.setup.sets
 
 -- What each setup of the profile keeps.
 pub record IsInProfile (setup : SetupValue) : Type 0 where
@@ -240,3 +313,19 @@ SetupIsOne =
 -- A record's setup is of the profile.
 abbrev pub SetupIsInProfile : Type 0
 SetupIsInProfile = (config : List ℕ) (width height : ℕ) (setup : SetupValue) → IsSetupOf config width height setup → IsInProfile setup
+
+-- One record and size say one thing of a recording.
+abbrev pub RecordingIsOne : Type 0
+RecordingIsOne =
+    (config : List ℕ) (width height : ℕ) (a b : RecordingValue) → IsRecordingOf config width height a → IsRecordingOf config width height b
+    → a ≡ b
+
+-- A record's recording keeps the bounds of version 3.
+abbrev pub RecordingIsInVersion3 : Type 0
+RecordingIsInVersion3 = (config : List ℕ) (width height : ℕ) (r : RecordingValue) → IsRecordingOf config width height r → IsInVersion3 r
+
+-- A record of the profile is one of version 3, with the same values.
+abbrev pub SetupIsRecording : Type 0
+SetupIsRecording =
+    (config : List ℕ) (width height : ℕ) (setup : SetupValue) → IsSetupOf config width height setup
+    → (r : RecordingValue) × IsRecordingOf config width height r × (setup ≡ r.setup)

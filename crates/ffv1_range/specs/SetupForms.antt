@@ -7,27 +7,29 @@ use Rattle.ffv1_bits.specs.Parity.{remainder_of}
 use Rattle.ffv1_range.specs.Results.{◌>>>◌}
 use Rattle.ffv1_range.specs.Coding.{record_mode, start_of}
 use Rattle.ffv1_range.specs.Forms.{Form, ◌>>=◌, giving, accepted, apart, from_place}
-use Rattle.ffv1_range.specs.Fields.{PlanesValue, TileCounts, versions, planes, tile_counts, last_fields}
+use Rattle.ffv1_range.specs.Fields.{PlanesValue, ShapeValue, TileCounts, versions, shape_fields, tile_counts, last_fields}
 use Rattle.ffv1_range.specs.Tables.{SetValue}
 use Rattle.ffv1_range.specs.TableForms.{fresh_row, set_count, sets_from, deltas_form}
-use Rattle.ffv1_range.specs.Setup.{SetupValue, record_content}
+use Rattle.ffv1_range.specs.Setup.{SetupValue, RecordingValue, record_content}
+use Rattle.ffv1_range.specs.declared.scope.Scope.{Scope}
+use Rattle.ffv1_range.specs.declared.scope.Scope.TheVariants.{Profile}
 use Rattle.ffv1_range.specs.declared.fault.SetupFault.{SetupFault}
 use Rattle.ffv1_range.specs.declared.fault.SetupFault.TheVariants.{TooShort, Parity, Range, Size, Memory}
 
 -- what stands before the tables
 pub record FrontValue : Type 0 where
   pub micro : ℕ
-  pub planes : PlanesValue
+  pub shape : ShapeValue
   pub tiles : TileCounts
   pub sets : ℕ
 
-abbrev pub front_form : ℕ → ℕ → Form (List ℕ) FrontValue SetupFault
-front_form width height = do
+abbrev pub front_form : Scope → ℕ → ℕ → Form (List ℕ) FrontValue SetupFault
+front_form scope width height = do
   micro ← versions
-  shape ← planes
+  shape ← shape_fields scope
   tiles ← tile_counts width height
   sets ← set_count
-  giving (record { micro = micro; planes = shape; tiles = tiles; sets = sets })
+  giving (record { micro = micro; shape = shape; tiles = tiles; sets = sets })
 
 -- a setup from its parts
 abbrev pub setup_of : ℕ → PlanesValue → TileCounts → List SetValue → ℕ → ℕ → ℕ → ℕ → SetupValue
@@ -46,15 +48,26 @@ setup_of micro shape tiles sets ec intra width height =
       height = height;
     }
 
+abbrev pub recording_of : FrontValue → List SetValue → ℕ × ℕ → ℕ → ℕ → RecordingValue
+recording_of front sets last width height =
+    record {
+      setup = setup_of front.micro front.shape.planes front.tiles sets last.0 last.1 width height;
+      coder = front.shape.coder;
+      transitions = front.shape.transitions;
+      is_rgb = front.shape.is_rgb;
+      depth = front.shape.depth;
+      has_alpha = front.shape.has_alpha;
+    }
+
 -- The record's fields; after quant_table_set_count memory for the sets is wanted, which is granted or refused.
-abbrev pub setup_form : Bool → ℕ → ℕ → Form (List ℕ) SetupValue SetupFault
-setup_form granted width height = do
-  front ← front_form width height
+abbrev pub record_form : Bool → Scope → ℕ → ℕ → Form (List ℕ) RecordingValue SetupFault
+record_form granted scope width height = do
+  front ← front_form scope width height
   has_memory ← accepted granted Memory
   sets ← apart tt (sets_from front.sets [])
   done ← deltas_form (map (λ set. set.contexts) sets)
-  intra ← last_fields
-  giving (setup_of front.micro front.planes front.tiles sets 1 intra width height)
+  last ← last_fields scope
+  giving (recording_of front sets last width height)
 
 -- the bytes before the parity, where that passes
 abbrev pub checked_content : List ℕ → Result (List ℕ) SetupFault
@@ -65,10 +78,15 @@ checked_content config =
 abbrev pub is_size : ℕ → Bool
 is_size n = nat_le 1 n && nat_le n greatest_side
 
--- the setup of a record, or the first fault
-abbrev pub setup_read : Bool → List ℕ → ℕ → ℕ → Result SetupValue SetupFault
-setup_read granted config width height =
+-- what a record says, or the first fault
+abbrev pub record_read : Bool → List ℕ → Scope → ℕ → ℕ → Result RecordingValue SetupFault
+record_read granted config scope width height =
     checked_content config >>> λ content.
     if is_size width && is_size height
-    then (from_place Range (start_of true content) (λ c. setup_form granted width height record_mode (record { coder = c; states = fresh_row })) >>> λ x. Ok x.0)
+    then (from_place Range (start_of true content) (λ c. record_form granted scope width height record_mode (record { coder = c; states = fresh_row }))
+    >>> λ x. Ok x.0)
     else Err Size
+
+-- the setup of a record, or the first fault
+abbrev pub setup_read : Bool → List ℕ → ℕ → ℕ → Result SetupValue SetupFault
+setup_read granted config width height = record_read granted config Profile width height >>> λ r. Ok r.setup

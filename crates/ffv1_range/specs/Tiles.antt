@@ -31,24 +31,26 @@ pub record IsGrid (g : GridValue) : Type 0 where
   pub few_tiles : tile_count g ≤ most_tiles
   pub width_limit : g.width ≤ greatest_side
   pub height_limit : g.height ≤ greatest_side
-  pub shift_h_limit : g.shift_h ≤ 2
-  pub shift_v_limit : g.shift_v ≤ 2
+  pub shift_h_limit : g.shift_h ≤ 4
+  pub shift_v_limit : g.shift_v ≤ 4
 
 -- where part i begins of a length that is cut into n parts
 abbrev pub part_start : ℕ → ℕ → ℕ → ℕ
 part_start len n i = i * len / n
 
--- tile t in luma: tiles are counted row by row
-abbrev pub tile_rect : GridValue → ℕ → TileRect
-tile_rect g t =
-    let i = t % g.across in
-    let j = t / g.across in
+-- some tiles in luma, so many across and down, from the one in column i and row j on
+abbrev pub tiles_rect : GridValue → ℕ → ℕ → ℕ → ℕ → TileRect
+tiles_rect g i j columns rows =
     record {
       x = part_start g.width g.across i;
       y = part_start g.height g.down j;
-      w = part_start g.width g.across (i + 1) - part_start g.width g.across i;
-      h = part_start g.height g.down (j + 1) - part_start g.height g.down j;
+      w = part_start g.width g.across (i + columns) - part_start g.width g.across i;
+      h = part_start g.height g.down (j + rows) - part_start g.height g.down j;
     }
+
+-- tile t in luma: tiles are counted row by row
+abbrev pub tile_rect : GridValue → ℕ → TileRect
+tile_rect g t = tiles_rect g (t % g.across) (t / g.across) 1 1
 
 -- a rectangle of luma in a plane: 0 is luma; in a chroma plane its place is rounded down, its size rounded up
 abbrev pub rect_in_plane : GridValue → ℕ → TileRect → TileRect

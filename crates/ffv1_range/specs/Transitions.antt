@@ -1,5 +1,5 @@
 -- State transitions: what a state becomes after a bit (RFC 9043, sections 3.8.1.4 to 3.8.1.6).
-use Rattle.std.specs.Prelude.{ℕ, ◌+◌, ◌-◌, ◌%◌, ◌≤◌, ◌==◌, Bool, List, [], ◌∷◌, map, replicate, slice_index, if◌then◌else◌}
+use Rattle.std.specs.Prelude.{ℕ, suc, ℤ, pos, negsuc, ◌+◌, ◌-◌, ◌%◌, ◌≤◌, ◌==◌, Bool, List, [], ◌∷◌, map, replicate, slice_index, if◌then◌else◌}
 use Rattle.std.specs.List.{range_with_len}
 use Rattle.ffv1_range.specs.declared.transitions.Transitions.{Transitions}
 
@@ -23,6 +23,15 @@ default_states =
     226 ∷ 227 ∷ 227 ∷ 229 ∷ 229 ∷ 230 ∷ 231 ∷ 232 ∷ 234 ∷ 234 ∷ 235 ∷ 236 ∷ 237 ∷ 238 ∷ 239 ∷ 240 ∷
     241 ∷ 242 ∷ 243 ∷ 244 ∷ 245 ∷ 246 ∷ 247 ∷ 248 ∷ 248 ∷ 0 ∷ 0 ∷ 0 ∷ 0 ∷ 0 ∷ 0 ∷ 0 ∷
     []
+
+-- a delta modulo 256
+abbrev pub delta_byte : ℤ → ℕ
+delta_byte (pos n) = n % 256
+delta_byte (negsuc n) = (256 - suc n % 256) % 256
+
+-- the deltas of a record modulo 256: those that are coded with coder_type 2, and else all 0
+abbrev pub delta_bytes : ℕ → List ℤ → List ℕ
+delta_bytes coder deltas = if coder == 2 then map delta_byte deltas else replicate 255 0
 
 -- the states after a bit 1: those of the default table plus the deltas of the states 1 to 255, modulo 256; state 0 stays
 abbrev pub one_state_with : List ℕ → ℕ → ℕ

@@ -5,7 +5,7 @@ ghost use Rattle.std.specs.Prelude.{◌≡◌, ◌+◌, ◌*◌, ◌≤◌, ◌<
 ghost use Rattle.ffv1_bits.specs.Limits.{greatest_side, most_tiles};
 ghost use Rattle.ffv1_range.specs.Tiles.{part_start, EachPlaceInOneTile, EachTileInFrame};
 
-use crate::setup::Setup;
+use crate::recording::Recording;
 use std::marker::Model;
 
 /// A rectangle of samples in a plane: the place of its first sample, counted from the plane's first column and row, and
@@ -48,20 +48,20 @@ impl Model for Grid {
 }
 
 impl Grid {
-    ghost use Rattle.ffv1_range.specs.Tiles.{GridValue, IsGrid, tile_count, plane_count, tile_rect, plane_rect, frame_rect, rect_in_plane, grid_of};
+    ghost use Rattle.ffv1_range.specs.Tiles.{GridValue, IsGrid, tile_count, plane_count, tile_rect, tiles_rect, plane_rect, frame_rect, rect_in_plane, grid_of};
 
-    /// The grid of a setup's frames.
-    pub(crate) fn of(setup: &Setup) -> Grid
-        ensures { result ≡ grid_of setup.now }
+    /// The grid of a recording's frames.
+    pub(crate) fn of(recording: &Recording) -> Grid
+        ensures { result ≡ grid_of recording.now.setup }
     {
         Grid {
-            width: setup.width,
-            height: setup.height,
-            across: setup.counts.across,
-            down: setup.counts.down,
-            has_chroma: setup.planes.has_chroma,
-            shift_h: setup.planes.shift_h,
-            shift_v: setup.planes.shift_v,
+            width: recording.width,
+            height: recording.height,
+            across: recording.counts.across,
+            down: recording.counts.down,
+            has_chroma: recording.shape.planes.has_chroma,
+            shift_h: recording.shape.planes.shift_h,
+            shift_v: recording.shape.planes.shift_v,
         }
     }
 
@@ -104,6 +104,23 @@ impl Grid {
             y,
             w: part_start(self.width, across, column + 1) - x,
             h: part_start(self.height, self.down, row + 1) - y,
+        }
+    }
+
+    /// Where some tiles lie in luma: so many across and down, from the tile in this column and row on. All have to be of the grid.
+    pub fn rect(&self, column: u32, row: u32, columns: u32, rows: u32) -> TileRect
+        requires columns { column + columns ≤ self.now.across }
+        requires rows { row + rows ≤ self.now.down }
+        ensures { result ≡ tiles_rect self.now column row columns rows }
+    {
+        let across = self.across();
+        let x = part_start(self.width, across, column);
+        let y = part_start(self.height, self.down, row);
+        TileRect {
+            x,
+            y,
+            w: part_start(self.width, across, column + columns) - x,
+            h: part_start(self.height, self.down, row + rows) - y,
         }
     }
 

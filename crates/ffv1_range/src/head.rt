@@ -94,9 +94,9 @@ fn limits_of(setup: &Setup) -> Limits
     ensures { limits_of result ≡ header_limits setup.now }
 {
     Limits {
-        across: setup.counts.across,
-        down: setup.counts.down,
-        sets: setup.sets.len(),
+        across: setup.recording.counts.across,
+        down: setup.recording.counts.down,
+        sets: setup.recording.sets.len(),
     }
 }
 

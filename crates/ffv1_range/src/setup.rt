@@ -1,47 +1,35 @@
-//! The configuration record (RFC 9043, sections 4.2 and 4.3), and the setup that it gives for frames of one size.
+//! The setup that a configuration record of the profile gives for frames of one size (RFC 9043, sections 4.2 and 4.3).
 //!
 //! A `Setup` is of the profile: version 3 with micro_version 4 or greater, Golomb-Rice codes, 8 bits a sample, gray or
 //! Y Cb Cr with chroma shifts of at most 2, at most `MOST_TILES` tiles, and 1 to 8 sets of quantization tables.
 ghost use Rattle.std.specs.Prelude.{◌≡◌, ◌<◌, ◌⊎◌, Bool, length, MatchResult, IfOk, IfErr};
-ghost use Rattle.ffv1_range.specs.Setup.{SetupValue, set_contexts, set_entry, IsSetupOf, IsInProfile, SetupIsOne, SetupIsInProfile};
+ghost use Rattle.ffv1_range.specs.Setup.{SetupValue, set_contexts, set_entry, IsSetupOf, IsInProfile, SetupIsOne, SetupIsInProfile, SetupIsRecording};
 ghost use Rattle.ffv1_range.specs.SetupFaults.{FirstSetupFault};
-ghost use Rattle.ffv1_range.specs.SetupForms.{checked_content, is_size, setup_read};
+ghost use Rattle.ffv1_range.specs.SetupForms.{setup_read};
 ghost use Rattle.ffv1_range.specs.Tiles.{grid_of};
-ghost use Rattle.ffv1_range.specs.Inner.Forms.{Gives};
 ghost use Rattle.ffv1_range.specs.declared.fault.SetupFault.TheVariants.{Memory};
 
-use crate::coding::RangeDecoder;
-use crate::deltas::read_deltas;
 use crate::fault::SetupFault;
-use crate::fields::{Counts, EC, Planes, read_front, read_last_fields};
 use crate::grid::Grid;
-use crate::tables::{TableSet, read_sets};
-use ffv1_bits::{GREATEST_SIDE, remainder};
+use crate::recording::{Recording, read_scoped};
+use crate::scope::Scope;
 use std::alloc::Global;
 use std::marker::Model;
 
-/// What a configuration record says of its frames.
+/// What a configuration record of the profile says of its frames.
 #[derive(Drop)]
 pub struct Setup {
-    pub(crate) micro: u32,
-    pub(crate) planes: Planes,
-    pub(crate) counts: Counts,
-    pub(crate) sets: Vec<TableSet>,
-    pub(crate) intra: u32,
-    pub(crate) width: u32,
-    pub(crate) height: u32,
+    pub(crate) recording: Recording,
 }
 
 impl Model for Setup {
     ghost use Rattle.ffv1_range.specs.Setup.{SetupValue, IsInProfile};
-    ghost use Rattle.ffv1_range.specs.SetupForms.{setup_of};
-    ghost use Rattle.ffv1_range.specs.Views.{planes_value, counts_of, set_values};
 
     ghost Value = { SetupValue };
 
-    ghost view = { λ x. setup_of x.micro (planes_value x.planes) (counts_of x.counts) (set_values x.sets.items) 1 x.intra x.width x.height };
+    ghost view = { λ x. x.recording.setup };
 
-    ghost invariant = { λ x. IsInProfile (setup_of x.micro (planes_value x.planes) (counts_of x.counts) (set_values x.sets.items) 1 x.intra x.width x.height) };
+    ghost invariant = { λ x. IsInProfile x.recording.setup };
 }
 
 impl Setup {
@@ -64,61 +52,43 @@ impl Setup {
         // .. which stands after the fields before the sets.
         ensures fault { IfErr result (λ fault. (granted : Bool) × (setup_read granted config.now width height ≡ Err fault)) }
     {
-        let content = checked_content(config)?;
-        if !is_size(width) || !is_size(height) {
-            return Err(SetupFault::Size);
-        }
-        let mut decoder = RangeDecoder::closed(content)?;
-        let mut states = [128; 32];
-        let front = read_front(&mut decoder, &mut states, width, height)?;
-        let mut sets = Vec::with_capacity(alloc, front.sets as usize)?;
-        read_sets(&mut decoder, &mut sets, front.sets)?;
-        read_deltas(&mut decoder, &mut states, &sets)?;
-        let intra = read_last_fields(&mut decoder, &mut states)?;
-        Ok(Setup {
-            micro: front.micro,
-            planes: front.planes,
-            counts: front.counts,
-            sets,
-            intra,
-            width,
-            height,
-        })
+        let recording = read_scoped(alloc, Scope::Profile, config, width, height)?;
+        Ok(Setup { recording })
     }
 
     /// micro_version, 4 or greater.
     pub fn micro(&self) -> u32
         ensures { result ≡ self.now.micro }
     {
-        self.micro
+        self.recording.micro()
     }
 
     /// Whether planes Cb and Cr follow plane Y.
     pub fn has_chroma(&self) -> bool
         ensures { result ≡ self.now.has_chroma }
     {
-        self.planes.has_chroma
+        self.recording.has_chroma()
     }
 
     /// log2_h_chroma_subsample: the logarithm of a chroma sample's width in luma samples, at most 2; 0 of a gray frame.
     pub fn shift_h(&self) -> u32
         ensures { result ≡ self.now.shift_h }
     {
-        self.planes.shift_h
+        self.recording.shift_h()
     }
 
     /// log2_v_chroma_subsample: the logarithm of a chroma sample's height in luma samples, at most 2; 0 of a gray frame.
     pub fn shift_v(&self) -> u32
         ensures { result ≡ self.now.shift_v }
     {
-        self.planes.shift_v
+        self.recording.shift_v()
     }
 
     /// quant_table_set_count: the number of sets of quantization tables, 1 to 8.
     pub fn sets(&self) -> usize
         ensures { result ≡ length self.now.sets }
     {
-        self.sets.len()
+        self.recording.sets()
     }
 
     /// The number of contexts of a set.
@@ -126,7 +96,7 @@ impl Setup {
         requires { set < length self.now.sets }
         ensures { result ≡ set_contexts self.now set }
     {
-        self.sets[set].contexts
+        self.recording.contexts(set)
     }
 
     /// An entry of a table of a set, at its scale: the tables count from 0, and the 256 entries are indexed by a
@@ -137,72 +107,50 @@ impl Setup {
         requires index { index < 256 }
         ensures { result ≡ set_entry self.now set table index }
     {
-        self.sets[set].entry(table, index)
+        self.recording.entry(set, table, index)
     }
 
     /// ec: 1, each slice has its parity.
     pub fn ec(&self) -> u32
         ensures { result ≡ self.now.ec }
     {
-        // A setup is known as what it means where a field of it is read.
-        let _counts = self.counts;
-        EC
+        self.recording.ec()
     }
 
     /// intra, as the record has it.
     pub fn intra(&self) -> u32
         ensures { result ≡ self.now.intra }
     {
-        self.intra
+        self.recording.intra()
     }
 
     /// Each setup is of the profile, and its tables keep within its contexts.
     pub fn keeps_profile(&self)
         ensures { IsInProfile self.now }
     {
-        let _sets = &self.sets;
+        let _recording = &self.recording;
     }
 
     /// The tiles of the frames.
     pub fn grid(&self) -> Grid
         ensures { result ≡ grid_of self.now }
     {
-        Grid::of(self)
+        self.recording.grid()
     }
 
     /// The width of the frames, in samples, 1 to `GREATEST_SIDE`.
     pub fn width(&self) -> u32
         ensures { result ≡ self.now.width }
     {
-        self.width
+        self.recording.width()
     }
 
     /// The height of the frames, in samples, 1 to `GREATEST_SIDE`.
     pub fn height(&self) -> u32
         ensures { result ≡ self.now.height }
     {
-        self.height
+        self.recording.height()
     }
-}
-
-/// The bytes before the parity, where that passes.
-fn checked_content(config: &[u8]) -> Result<&[u8], SetupFault>
-    ensures { Gives (λ content. content.now) result (checked_content config.now) }
-{
-    if config.len() < 6 {
-        return Err(SetupFault::TooShort);
-    }
-    if remainder(config) != 0 {
-        return Err(SetupFault::Parity);
-    }
-    Ok(&config[..config.len() - 4])
-}
-
-/// Whether a width or a height is in 1..=`GREATEST_SIDE`.
-fn is_size(size: u32) -> bool
-    ensures { result ≡ is_size size }
-{
-    1 <= size && size <= GREATEST_SIDE
 }
 
 /// One record and size have one setup.
@@ -213,4 +161,9 @@ pub fn setup_is_one()
 /// A record's setup is of the profile.
 pub fn setup_is_in_profile()
     ensures { SetupIsInProfile }
+{}
+
+/// A record of the profile is one of version 3, with the same values.
+pub fn setup_is_recording()
+    ensures { SetupIsRecording }
 {}

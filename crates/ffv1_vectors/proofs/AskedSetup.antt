@@ -7,7 +7,7 @@ use Rattle.std.proofs.lemmas.List.{length-map}
 use Rattle.std.proofs.lemmas.List.FromFn.{fill_by_all, length-map-range_with_len}
 use Rattle.std.proofs.lemmas.List.Elements.{All-head, All-tail}
 use Rattle.ffv1_bits.specs.Limits.{greatest_side}
-use Rattle.ffv1_range.specs.Setup.{SetupValue, SetFields, IsSetFields, IsSetupOf, no_set}
+use Rattle.ffv1_range.specs.Setup.{RecordingValue, SetupValue, SetFields, IsSetFields, IsSetupOf, no_set}
 use Rattle.ffv1_range.specs.SetupForms.{setup_of}
 use Rattle.ffv1_range.specs.Tables.{half_of, halves_of, runs_ended, scale_after, scale_after_all, set_of, SetValue, table_entry}
 use Rattle.ffv1_vectors.specs.Inner.Asked.{HasAskedFields, HasTables, HasSet, HasSets}
@@ -94,12 +94,13 @@ pub asked_is_read : (config : List ℕ) (setup : SetupValue) (spec : RecordSpec)
     → length setup.sets ≡ length spec.sets.items → HasSets setup 0 (asked_sets spec) → IsSetupOf config greatest_side greatest_side (asked_setup spec)
 unfolding setup_with
 asked_is_read config setup spec read fields count sets =
-    let read_sets : setup.sets ≡ map (λ set. set_of set.tables) read.fields.sets = ap (λ z. z.sets) read.is in
-    let many : length (map (λ set. set_of set.tables) read.fields.sets) ≡ length read.fields.sets = length-map read.fields.sets (λ set. set_of set.tables) in
+    let is = read.is ∙ ap (λ (r : RecordingValue). r.setup) read.record_of.is in
+    let read_sets : setup.sets ≡ map (λ set. set_of set.tables) read.record_of.fields.sets = ap (λ z. z.sets) is in
+    let many : length (map (λ set. set_of set.tables) read.record_of.fields.sets) ≡ length read.record_of.fields.sets = length-map read.record_of.fields.sets (λ set. set_of set.tables) in
     let few : length (asked_sets spec) ≡ length spec.sets.items = length-map spec.sets.items (λ tables. map (λ runs. runs.items) tables.items) in
-    let size : length read.fields.sets ≡ length (asked_sets spec) = sym many ∙ sym (ap length read_sets) ∙ count ∙ sym few in
+    let size : length read.record_of.fields.sets ≡ length (asked_sets spec) = sym many ∙ sym (ap length read_sets) ∙ count ∙ sym few in
     let all : setup.sets ≡ map set_of (asked_sets spec) =
-    read_sets ∙ same_sets setup 0 read.fields.sets (asked_sets spec) read_sets read.accepted.sets size sets in
+    read_sets ∙ same_sets setup 0 read.record_of.fields.sets (asked_sets spec) read_sets read.record_of.accepted.sets size sets in
     subst (IsSetupOf config greatest_side greatest_side)
     (same_setup _ _ _ _ _ _ _ _ _ _ _ _ _ _ _ _ _ _ _ _ _ _ fields.micro fields.has_chroma fields.shift_h fields.shift_v fields.across fields.down all
-    fields.ec fields.intra (ap (λ z. z.width) read.is) (ap (λ z. z.height) read.is)) read
+    fields.ec fields.intra (ap (λ z. z.width) is) (ap (λ z. z.height) is)) read

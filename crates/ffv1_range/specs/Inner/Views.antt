@@ -5,10 +5,10 @@ use Rattle.ffv1_range.specs.SetupForms.{FrontValue}
 use Rattle.ffv1_range.specs.declared.fields.Front.{Front}
 use Rattle.ffv1_range.specs.declared.head.Limits.{Limits}
 use Rattle.ffv1_range.specs.declared.tables.TableSet.{TableSet}
-use Rattle.ffv1_range.specs.Views.{planes_value, counts_of}
+use Rattle.ffv1_range.specs.Views.{shape_value, counts_of}
 
 abbrev pub front_value : Front → FrontValue
-front_value x = record { micro = x.micro; planes = planes_value x.planes; tiles = counts_of x.counts; sets = x.sets }
+front_value x = record { micro = x.micro; shape = shape_value x.shape; tiles = counts_of x.counts; sets = x.sets }
 
 abbrev pub limits_of : Limits → HeadLimits
 limits_of x = record { across = x.across; down = x.down; sets = x.sets }

@@ -1,5 +1,5 @@
 use Rattle.std.proofs.Common.{rules}
-use Rattle.ffv1_range.proofs.setup.checked_content.Goals as goal
+use Rattle.ffv1_range.proofs.recording.checked_content.Goals as goal
 
 pub returns : goal.returns
 returns c = search rules

@@ -1,0 +1,284 @@
+//! The configuration record (RFC 9043, sections 4.2 and 4.3), and what it says of frames of one size.
+//!
+//! A `Recording` is of version 3 with micro_version 4 or greater: any coder_type, gray, Y Cb Cr or RGB of 8 to 16 bits, chroma shifts of at
+//! most 4, with alpha or without, at most `MOST_TILES` tiles, and 1 to 8 sets of quantization tables.
+ghost use Rattle.std.specs.Prelude.{◌≡◌, ◌+◌, ◌<◌, ◌⊎◌, Bool, true, length, MatchResult, IfOk, IfErr, Err, if◌then◌else◌};
+ghost use Rattle.ffv1_range.specs.Setup.{RecordingValue, set_contexts, set_entry, IsScopedRecord, IsRecordingOf, IsInVersion3, RecordingIsOne, RecordingIsInVersion3};
+ghost use Rattle.ffv1_range.specs.SetupFaults.{FirstRecordingFault};
+ghost use Rattle.ffv1_range.specs.SetupForms.{checked_content, is_size, record_read};
+ghost use Rattle.ffv1_range.specs.Tiles.{grid_of};
+ghost use Rattle.ffv1_range.specs.Inner.Forms.{Gives};
+ghost use Rattle.ffv1_range.specs.declared.scope.Scope.TheVariants.{Version3};
+ghost use Rattle.ffv1_range.specs.declared.fault.SetupFault.TheVariants.{Memory};
+
+use crate::coding::RangeDecoder;
+use crate::deltas::read_deltas;
+use crate::fault::SetupFault;
+use crate::fields::{Counts, Shape, read_front, read_last_fields};
+use crate::grid::Grid;
+use crate::scope::Scope;
+use crate::tables::{TableSet, read_sets};
+use crate::transitions::Transitions;
+use ffv1_bits::{GREATEST_SIDE, remainder};
+use std::alloc::Global;
+use std::marker::Model;
+
+/// What a configuration record says of its frames.
+#[derive(Drop)]
+pub struct Recording {
+    pub(crate) micro: u32,
+    pub(crate) shape: Shape,
+    pub(crate) counts: Counts,
+    pub(crate) sets: Vec<TableSet>,
+    pub(crate) ec: u32,
+    pub(crate) intra: u32,
+    pub(crate) width: u32,
+    pub(crate) height: u32,
+}
+
+impl Model for Recording {
+    ghost use Rattle.ffv1_range.specs.Setup.{RecordingValue, IsInVersion3};
+    ghost use Rattle.ffv1_range.specs.Views.{recording_fields};
+
+    ghost Value = { RecordingValue };
+
+    ghost view = { λ x. recording_fields x.micro x.shape x.counts x.sets.items x.ec x.intra x.width x.height };
+
+    ghost invariant = { λ x. IsInVersion3 (recording_fields x.micro x.shape x.counts x.sets.items x.ec x.intra x.width x.height) };
+}
+
+impl Recording {
+    /// Reads a configuration record of version 3, its parity included, for frames of this width and height in samples (RFC 9043, sections
+    /// 4.2 and 4.3). What is left of the record after its last field is ignored.
+    ///
+    /// Refused with the first of its faults: `TooShort`, `Parity`, `Size`, then those of the fields in the order in which they are read, each
+    /// as soon as its value was read; those of the grid after both of its numbers, that of the contexts after each table of a set. `Memory`
+    /// stands between the number of sets and the first set.
+    pub fn read(
+        alloc: Global,
+        config: &[u8],
+        width: u32,
+        height: u32,
+    ) -> Result<Recording, SetupFault>
+        // What is returned is what the record says.
+        ensures found { IfOk result (IsRecordingOf config.now width height) }
+
+        // For a record of version 3 the result is what it says, or `Memory`.
+        ensures only { (r : RecordingValue) → IsRecordingOf config.now width height r → MatchResult result (λ read. read ≡ r) (λ fault. fault ≡ Memory) }
+
+        // A refusal is the first that reading meets, or Memory ..
+        ensures first { IfErr result (λ fault. (fault ≡ Memory) ⊎ FirstRecordingFault config.now width height fault) }
+
+        // .. which stands after the fields before the sets.
+        ensures fault { IfErr result (λ fault. (granted : Bool) × (record_read granted config.now Version3 width height ≡ Err fault)) }
+    {
+        read_scoped(alloc, Scope::Version3, config, width, height)
+    }
+
+    /// micro_version, 4 or greater.
+    pub fn micro(&self) -> u32
+        ensures { result ≡ self.now.setup.micro }
+    {
+        self.micro
+    }
+
+    /// coder_type: 0 for Golomb-Rice codes, 1 for range coding by the default transitions, 2 for range coding by the record's own.
+    pub fn coder(&self) -> u32
+        ensures { result ≡ self.now.coder }
+    {
+        self.shape.coder
+    }
+
+    /// How states change in slices of this recording. Its record and its headers of coder_type 0 are read by the default table.
+    pub fn transitions(&self) -> &Transitions
+        ensures { result.now ≡ self.now.transitions }
+    {
+        &self.shape.transitions
+    }
+
+    /// Whether the planes are G, B and R, and not Y, Cb and Cr.
+    pub fn is_rgb(&self) -> bool
+        ensures { result ≡ self.now.is_rgb }
+    {
+        self.shape.is_rgb
+    }
+
+    /// The bits of a sample, 8 to 16.
+    pub fn depth(&self) -> u32
+        ensures value { result ≡ self.now.depth }
+        ensures bounds { IsInVersion3 self.now }
+    {
+        self.shape.depth
+    }
+
+    /// The bits with which a sample is coded: one more in RGB.
+    pub fn coded_depth(&self) -> u32
+        ensures { result ≡ self.now.depth + (if self.now.is_rgb then 1 else 0) }
+    {
+        self.depth() + u32::from(self.is_rgb())
+    }
+
+    /// Whether a plane of alpha follows the others.
+    pub fn has_alpha(&self) -> bool
+        ensures { result ≡ self.now.has_alpha }
+    {
+        self.shape.has_alpha
+    }
+
+    /// Whether two planes follow the first: Cb and Cr, or those of RGB.
+    pub fn has_chroma(&self) -> bool
+        ensures { result ≡ self.now.setup.has_chroma }
+    {
+        self.shape.planes.has_chroma
+    }
+
+    /// The number of planes, that of alpha included.
+    pub fn planes(&self) -> usize
+        ensures { result ≡ (if self.now.setup.has_chroma then 3 else 1) + (if self.now.has_alpha then 1 else 0) }
+    {
+        let colors = if self.has_chroma() { 3 } else { 1 };
+        let alpha = if self.has_alpha() { 1 } else { 0 };
+        colors + alpha
+    }
+
+    /// log2_h_chroma_subsample: the logarithm of a chroma sample's width in luma samples, at most 4; 0 of a gray frame and of RGB.
+    pub fn shift_h(&self) -> u32
+        ensures { result ≡ self.now.setup.shift_h }
+    {
+        self.shape.planes.shift_h
+    }
+
+    /// log2_v_chroma_subsample: the logarithm of a chroma sample's height in luma samples, at most 4; 0 of a gray frame and of RGB.
+    pub fn shift_v(&self) -> u32
+        ensures { result ≡ self.now.setup.shift_v }
+    {
+        self.shape.planes.shift_v
+    }
+
+    /// quant_table_set_count: the number of sets of quantization tables, 1 to 8.
+    pub fn sets(&self) -> usize
+        ensures { result ≡ length self.now.setup.sets }
+    {
+        self.sets.len()
+    }
+
+    /// The number of contexts of a set.
+    pub fn contexts(&self, set: usize) -> u32
+        requires { set < length self.now.setup.sets }
+        ensures { result ≡ set_contexts self.now.setup set }
+    {
+        self.sets[set].contexts
+    }
+
+    /// An entry of a table of a set, at its scale: the tables count from 0, and the 256 entries are indexed by a difference of two samples
+    /// modulo 256 (RFC 9043, section 3.5).
+    pub fn entry(&self, set: usize, table: usize, index: usize) -> i32
+        requires set { set < length self.now.setup.sets }
+        requires table { table < 5 }
+        requires index { index < 256 }
+        ensures { result ≡ set_entry self.now.setup set table index }
+    {
+        self.sets[set].entry(table, index)
+    }
+
+    /// ec: 1 where each slice has its parity, and 0 where none has.
+    pub fn ec(&self) -> u32
+        ensures { result ≡ self.now.setup.ec }
+    {
+        self.ec
+    }
+
+    /// intra, as the record has it.
+    pub fn intra(&self) -> u32
+        ensures { result ≡ self.now.setup.intra }
+    {
+        self.intra
+    }
+
+    /// The tiles of the frames.
+    pub fn grid(&self) -> Grid
+        ensures { result ≡ grid_of self.now.setup }
+    {
+        Grid::of(self)
+    }
+
+    /// The width of the frames, in samples, 1 to `GREATEST_SIDE`.
+    pub fn width(&self) -> u32
+        ensures { result ≡ self.now.setup.width }
+    {
+        self.width
+    }
+
+    /// The height of the frames, in samples, 1 to `GREATEST_SIDE`.
+    pub fn height(&self) -> u32
+        ensures { result ≡ self.now.setup.height }
+    {
+        self.height
+    }
+}
+
+/// Reads a configuration record that a scope accepts, as `Recording::read` does.
+pub(crate) fn read_scoped(
+    alloc: Global,
+    scope: Scope,
+    config: &[u8],
+    width: u32,
+    height: u32,
+) -> Result<Recording, SetupFault>
+    ensures found { IfOk result (IsScopedRecord config.now scope width height) }
+    ensures only { (r : RecordingValue) → IsScopedRecord config.now scope width height r → MatchResult result (λ read. read ≡ r) (λ fault. fault ≡ Memory) }
+    ensures first { IfErr result (λ fault. (fault ≡ Memory) ⊎ (record_read true config.now scope width height ≡ Err fault)) }
+    ensures fault { IfErr result (λ fault. (granted : Bool) × (record_read granted config.now scope width height ≡ Err fault)) }
+{
+    let content = checked_content(config)?;
+    if !is_size(width) || !is_size(height) {
+        return Err(SetupFault::Size);
+    }
+    let mut decoder = RangeDecoder::closed(content)?;
+    let mut states = [128; 32];
+    let front = read_front(scope, &mut decoder, &mut states, width, height)?;
+    let mut sets = Vec::with_capacity(alloc, front.sets as usize)?;
+    read_sets(&mut decoder, &mut sets, front.sets)?;
+    read_deltas(&mut decoder, &mut states, &sets)?;
+    let (ec, intra) = read_last_fields(scope, &mut decoder, &mut states)?;
+    Ok(Recording {
+        micro: front.micro,
+        shape: front.shape,
+        counts: front.counts,
+        sets,
+        ec,
+        intra,
+        width,
+        height,
+    })
+}
+
+/// The bytes before the parity, where that passes.
+fn checked_content(config: &[u8]) -> Result<&[u8], SetupFault>
+    ensures { Gives (λ content. content.now) result (checked_content config.now) }
+{
+    if config.len() < 6 {
+        return Err(SetupFault::TooShort);
+    }
+    if remainder(config) != 0 {
+        return Err(SetupFault::Parity);
+    }
+    Ok(&config[..config.len() - 4])
+}
+
+/// Whether a width or a height is in 1..=`GREATEST_SIDE`.
+fn is_size(size: u32) -> bool
+    ensures { result ≡ is_size size }
+{
+    1 <= size && size <= GREATEST_SIDE
+}
+
+/// One record and size say one thing of a recording.
+pub fn recording_is_one()
+    ensures { RecordingIsOne }
+{}
+
+/// What a record says keeps the bounds of version 3.
+pub fn recording_is_in_version_3()
+    ensures { RecordingIsInVersion3 }
+{}
