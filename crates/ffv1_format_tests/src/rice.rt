@@ -71,6 +71,54 @@ fn codes_of_the_first_state(rt: HostRuntime) {
     }
 }
 
+/// What the first state reads of bytes at a coded depth, for a level or not.
+static DEEP_CODES: [(&[u8], u32, bool, Result<i32, CodeFault>); 9] = [
+    // a short code is the same at each depth
+    (&[0xA0], 9, false, Ok(-1)),
+    // the shortest escape has nine bits after the zeros
+    (&[0x00, 0x01, 0x28], 9, false, Ok(24)),
+    (
+        &[0x00, 0x01, 0x20],
+        9,
+        false,
+        Err(CodeFault::EscapeNotNeeded),
+    ),
+    (&[0x00, 0x0F, 0xA0], 9, false, Ok(-256)),
+    (&[0x00, 0x0F, 0xA8], 9, false, Err(CodeFault::CodeTooLarge)),
+    (&[0x00, 0x0F, 0x98], 9, true, Err(CodeFault::LevelTooLarge)),
+    (&[0x00, 0x0F, 0x98], 9, false, Ok(255)),
+    (&[0x00, 0x0F, 0xFF, 0xA0], 17, false, Ok(-65536)),
+    (&[0x00, 0x0F, 0xFF], 17, false, Err(CodeFault::Truncated)),
+];
+
+#[test]
+fn codes_at_greater_depths(rt: HostRuntime) {
+    for &(bytes, depth, level, code) in &DEEP_CODES {
+        assert!(rt; 8 <= depth && depth <= 17);
+        let returned = VlcState::start().decode_at(&mut Bits::new(bytes), depth, level);
+        assert!(rt; returned == code);
+    }
+}
+
+#[test]
+fn parameter_of_16(rt: HostRuntime) {
+    // twelve zeros and a suffix of 17 bits, and then a one and 16 zeros
+    let mut bits = Bits::new(&[0x00, 0x0F, 0xFF, 0xA4, 0x00, 0x00]);
+    let mut state = VlcState::start();
+    let first = (
+        state.decode_at(&mut bits, 17, false),
+        state.parts(),
+        state.k(),
+    );
+    let last = (
+        state.decode_at(&mut bits, 17, false),
+        state.parts(),
+        state.k(),
+    );
+    assert!(rt; first == (Ok(-65536), (-1, 65540, -1, 2), 16));
+    assert!(rt; (last, bits.left()) == ((Ok(-1), (-1, 65540, -1, 3), 15), 2));
+}
+
 #[test]
 fn value_3_from_the_start(rt: HostRuntime) {
     let mut state = VlcState::start();
@@ -171,20 +219,26 @@ fn words_after_whole_ones(rt: HostRuntime) {
     }
 }
 
-/// Differences, and what is left of them in eight bits.
-static FOLDED: [(i32, i32); 7] = [
-    (0, 0),
-    (127, 127),
-    (128, -128),
-    (-128, -128),
-    (-129, 127),
-    (255, -1),
-    (-255, 1),
+/// Differences, their depth, and what is left of them in so many bits.
+static FOLDED: [(i32, u32, i32); 12] = [
+    (0, 8, 0),
+    (127, 8, 127),
+    (128, 8, -128),
+    (-128, 8, -128),
+    (-129, 8, 127),
+    (255, 8, -1),
+    (-255, 8, 1),
+    (255, 9, 255),
+    (256, 9, -256),
+    (-257, 9, 255),
+    (-65537, 17, 65535),
+    (i32::MIN, 17, 0),
 ];
 
 #[test]
-fn fold_keeps_eight_bits(rt: HostRuntime) {
-    for &(d, folded) in &FOLDED {
-        assert!(rt; fold(d) == folded);
+fn fold_keeps_so_many_bits(rt: HostRuntime) {
+    for &(d, depth, folded) in &FOLDED {
+        assert!(rt; 8 <= depth && depth <= 17);
+        assert!(rt; fold(d, depth) == folded);
     }
 }

@@ -9,6 +9,7 @@ use Rattle.std.proofs.lemmas.List.Elements.{filter-append}
 use Rattle.ffv1_rice.specs.States.{start_state, after_value, IsDifference}
 use Rattle.ffv1_rice.specs.Codes.{SpellsValue, decoded_value}
 use Rattle.ffv1_rice.specs.Runs.{SpellsRun}
+use Rattle.ffv1_rice.proofs.Depths.{bytes}
 use Rattle.ffv1_rice.proofs.OneCode.{one_value}
 use Rattle.ffv1_rice.proofs.OneRun.{one_run}
 use Rattle.ffv1_plane.specs.Spelling.{Residuals, begins_line, is_zero, is_in_run, is_skipped, is_coded, follows_skipped, starts_run, left_in_line, skipped_among, run_length, value_at, samples_before, state_before, SampleSpells, SamplesSpell}
@@ -71,11 +72,11 @@ one_difference : (level : Bool) (x y : ℤ) → (level ≡ true → x ≢ pos 0)
 one_difference false x y some other same = same
 one_difference true x y some other same = let p : x ≢ pos 0 = some refl in let q : y ≢ pos 0 = other refl in grind (arith, ints)
 
-in_either : (b : Bool) (x y : ℤ) → (b ≡ true → IsDifference x) → IsDifference y → IsDifference (cond b x y)
+in_either : (b : Bool) (x y : ℤ) → (b ≡ true → IsDifference 8 x) → IsDifference 8 y → IsDifference 8 (cond b x y)
 in_either true x y h k = h refl
 in_either false x y h k = k
 
-value_range : (level : Bool) (x : ℤ) → IsDifference x → IsDifference (decoded_value level x)
+value_range : (level : Bool) (x : ℤ) → IsDifference 8 x → IsDifference 8 (decoded_value level x)
 value_range level x h = in_either (level && int_lt (pos 0) x) (x -ℤ pos 1) x
     (λ b. let p = and_parts level (int_lt (pos 0) x) b in record { low = grind (arith, ints); high = omega (arith, ints) }) h
 
@@ -126,7 +127,7 @@ length_after r q s count m is a b same =
     omega (arith, opened, left, right)
 
 module _ (earlier : ℕ → List ℤ) (w : ℕ) (c e d f : ℕ → ℤ) (some : 0 < w)
-    (range : (j : ℕ) → IsDifference (d j)) (also : (j : ℕ) → IsDifference (f j))
+    (range : (j : ℕ) → IsDifference 8 (d j)) (also : (j : ℕ) → IsDifference 8 (f j))
     (determined : (n : ℕ) → ((j : ℕ) → j < n → d j ≡ f j) → c n ≡ e n) where
   pub contexts_to : (n : ℕ) → ((j : ℕ) → j < n → d j ≡ f j) → (j : ℕ) → j ≤ n → c j ≡ e j
   contexts_to n alike j h = determined j (λ i less. alike i (omega arith))
@@ -135,7 +136,7 @@ module _ (earlier : ℕ → List ℤ) (w : ℕ) (c e d f : ℕ → ℤ) (some : 
   states_alike n k alike =
       let runs : (j : ℕ) → j < n → is_in_run (residuals w c d) j ≡ is_in_run (residuals w e f) j =
       λ j h. in_run_alike w c e d f j (contexts_to j (λ i less. alike i (omega arith))) (λ i less. alike i (omega arith)) in
-      ap (λ l. fold (λ state value. after_value state value) start_state (earlier k ++ l))
+      ap (λ l. fold (λ state value. after_value 8 state value) start_state (earlier k ++ l))
       (values_alike n _ _ _ _
       (λ j h. let r : is_in_run (residuals w c d) j ≡ is_in_run (residuals w e f) j = runs j h in let a : d j ≡ f j = alike j h in
       let b : c j ≡ e j = determined j (λ i less. alike i (omega arith)) in rw (r, a, b) refl)
@@ -219,8 +220,8 @@ module _ (earlier : ℕ → List ℤ) (w : ℕ) (c e d f : ℕ → ℤ) (some : 
       let second = b.coded co' in
       let states : state_before earlier (residuals w e f) (nat_abs (e n)) n ≡ state_before earlier (residuals w c d) (nat_abs (c n)) n =
       sym (states_alike n (nat_abs (e n)) alike.differences) ∙ ap (λ z. state_before earlier (residuals w c d) (nat_abs z) n) (sym here) in
-      let second' : SpellsValue (state_before earlier (residuals w c d) (nat_abs (c n)) n) (value_at (residuals w e f) n) b.code = rw (← states) second in
-      let one = one_value _ _ _ a.code b.code rest more (value_range _ _ (range n)) (value_range _ _ (also n)) first second' after.later in
+      let second' : SpellsValue 8 (state_before earlier (residuals w c d) (nat_abs (c n)) n) (value_at (residuals w e f) n) b.code = rw (← states) second in
+      let one = one_value 8 _ _ _ a.code b.code rest more bytes (value_range _ _ (range n)) (value_range _ _ (also n)) first second' after.later in
       let values : decoded_value (is_in_run (residuals w c d) n) (d n) ≡ decoded_value (is_in_run (residuals w c d) n) (f n) = one.0
       ∙ ap (λ l. decoded_value l (f n)) (sym runs) in (
         one_difference (is_in_run (residuals w c d) n) (d n) (f n)

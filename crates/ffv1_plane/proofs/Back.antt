@@ -1,9 +1,10 @@
 -- A sample from its prediction and its difference.
-use Rattle.std.proofs.Common.{◌≡◌, ℕ, ◌*◌, ◌%◌, ◌/◌, ◌<◌, true, false, ℤ, pos, negsuc, ◌+ℤ◌, ◌-ℤ◌, ◌≤ℤ◌, ◌<ℤ◌, neg_ℤ, int_lt, arith, refl, ◌∙◌}
+use Rattle.std.proofs.Common.{◌≡◌, ℕ, ◌+◌, ◌*◌, ◌%◌, ◌/◌, ◌<◌, true, false, ℤ, pos, negsuc, ◌+ℤ◌, ◌-ℤ◌, ◌≤ℤ◌, ◌<ℤ◌, neg_ℤ, int_lt, arith, refl, sym, ◌∙◌}
 use Rattle.std.specs.Int.{int_rem_euclid}
 use Rattle.std.proofs.lemmas.Int.{ints, int_rem_euclid_is}
-use Rattle.ffv1_rice.specs.States.{IsDifference}
-use Rattle.ffv1_rice.proofs.Folds.{fold_far}
+use Rattle.ffv1_rice.specs.States.{IsDifference, fold}
+use Rattle.ffv1_rice.proofs.Depths.{bytes}
+use Rattle.ffv1_rice.proofs.Folds.{AreAlike, one_difference, fold_alike, fold_range}
 use Rattle.ffv1_plane.specs.Samples.{difference_of}
 use Rattle.ffv1_plane.specs.Inner.Sums.{IsSumModulo}
 
@@ -20,17 +21,23 @@ added_back p r d sum low is same =
     let r_is : pos r ≡ pos (whole.0 % 256) = same ∙ rem in
     record { wraps = whole.0 / 256; small = omega (arith, ints, r_is); sum = omega (arith, ints, whole.1, r_is) }
 
-pub sample_up : (context : ℤ) (p r : ℕ) (d change : ℤ) → pos 0 ≤ℤ context → IsDifference d → change ≡ d → IsSumModulo p change r → difference_of context p r ≡ d
+-- the difference that brings a prediction to its sample
+back_of : (d e : ℤ) → IsDifference 8 d → AreAlike 8 d e → fold 8 e ≡ d
+back_of d e h alike =
+    let f = fold_alike 8 e bytes in
+    sym (one_difference 8 d (fold 8 e) bytes h (fold_range 8 e bytes)
+    (record { more = alike.more + f.more; less = alike.less + f.less; same = omega (arith, ints, alike.same, f.same) }))
+
+pub sample_up : (context : ℤ) (p r : ℕ) (d change : ℤ) → pos 0 ≤ℤ context → IsDifference 8 d → change ≡ d → IsSumModulo p change r
+    → difference_of context p r ≡ d
 unfolding difference_of
 sample_up context p r d change up h c s =
-    let f = fold_far (pos r -ℤ pos p) in
     let t : int_lt context (pos 0) ≡ false = grind (arith, ints) in
-    rw t (omega (arith, ints, f.2, f.3, s.sum))
+    rw t (back_of d (pos r -ℤ pos p) h (record { more = 1; less = s.wraps; same = omega (arith, ints, s.sum, c) }))
 
-pub sample_down : (context : ℤ) (p r : ℕ) (d change : ℤ) → context <ℤ pos 0 → IsDifference d → change ≡ neg_ℤ d → IsSumModulo p change r
+pub sample_down : (context : ℤ) (p r : ℕ) (d change : ℤ) → context <ℤ pos 0 → IsDifference 8 d → change ≡ neg_ℤ d → IsSumModulo p change r
     → difference_of context p r ≡ d
 unfolding difference_of
 sample_down context p r d change down h c s =
-    let f = fold_far (pos p -ℤ pos r) in
     let t : int_lt context (pos 0) ≡ true = grind (arith, ints) in
-    rw t (omega (arith, ints, f.2, f.3, s.sum))
+    rw t (back_of d (pos p -ℤ pos r) h (record { more = s.wraps; less = 1; same = omega (arith, ints, s.sum, c) }))

@@ -99,9 +99,9 @@ module _ (width : ℕ) (entry : ℕ → ℕ → ℤ) (some : 1 ≤ width) (old :
       let number : context_number r s ≡ next_context width entry old = ap nat_abs (context_there ∙ ap (context_of entry) near_is) in
       let state : get_or states (next_context width entry old) start_state ≡ state_before earlier r (context_number r s) s =
       so_far.states_are more (next_context width entry old) halts.below ∙ ap (λ k. state_before earlier r k s) (sym number) in
-      let given : IsCodeFault (state_before earlier r (context_number r s) s) (is_in_run r s) left fault =
-      subst (λ (l : Bool). IsCodeFault (state_before earlier r (context_number r s) s) l left fault) (sym outside)
-      (subst (λ (z : ContextState). IsCodeFault z false left fault) state halts.given) in
+      let given : IsCodeFault 8 (state_before earlier r (context_number r s) s) (is_in_run r s) left fault =
+      subst (λ (l : Bool). IsCodeFault 8 (state_before earlier r (context_number r s) s) l left fault) (sym outside)
+      (subst (λ (z : ContextState). IsCodeFault 8 z false left fault) state halts.given) in
       let here : IsHalted earlier r bits fault s =
       record {
         part = p.front;
@@ -219,9 +219,9 @@ module _ (width : ℕ) (entry : ℕ → ℕ → ℤ) (some : 1 ≤ width) (old :
         subst P lists (so_far.states_are (skips.samples ++ more) (next_context width entry mid) halts.below)
         ∙ sym (skipped_states earlier q s (next_context width entry mid) n skipped)
         ∙ ap (λ k. state_before earlier q k (s + n)) (sym number) in
-        let given : IsCodeFault (state_before earlier q (context_number q (s + n)) (s + n)) (is_in_run q (s + n)) tail fault =
-        subst (λ (l : Bool). IsCodeFault (state_before earlier q (context_number q (s + n)) (s + n)) l tail fault) (sym in_it)
-        (subst (λ (z : ContextState). IsCodeFault z true tail fault) state halts.given) in
+        let given : IsCodeFault 8 (state_before earlier q (context_number q (s + n)) (s + n)) (is_in_run q (s + n)) tail fault =
+        subst (λ (l : Bool). IsCodeFault 8 (state_before earlier q (context_number q (s + n)) (s + n)) l tail fault) (sym in_it)
+        (subst (λ (z : ContextState). IsCodeFault 8 z true tail fault) state halts.given) in
         let starts = starts_here earlier q some s n zero_there before.fresh fits (skips.zero_differences more) in
         let due : IsCodeDue earlier q (s + n) (before.front ++ run) = ⊎_elim
         (λ none.

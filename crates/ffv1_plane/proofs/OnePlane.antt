@@ -4,34 +4,41 @@ use Rattle.std.proofs.lemmas.Bool.{cases_lt}
 use Rattle.std.proofs.lemmas.Int.{ints}
 use Rattle.std.proofs.lemmas.List.{ext_get_or}
 use Rattle.ffv1_rice.specs.States.{fold, IsDifference}
-use Rattle.ffv1_rice.proofs.Folds.{fold_far, fold_range}
+use Rattle.ffv1_rice.proofs.Depths.{bytes}
+use Rattle.ffv1_rice.proofs.Folds.{fold_alike, fold_range}
 use Rattle.ffv1_plane.specs.Samples.{Plane, plane_of, neighbours_at, prediction_of, context_of, difference_of, context_at, prediction_at, difference_at}
 use Rattle.ffv1_plane.specs.Spelling.{residuals_of, SamplesSpell, PlaneSpells}
 use Rattle.ffv1_plane.proofs.Alike.{one_reading}
 use Rattle.ffv1_plane.proofs.Causal.{neighbours_same}
 
-fold_left : (p a b : ℕ) → a < 256 → b < 256 → fold (pos a -ℤ pos p) ≡ fold (pos b -ℤ pos p) → a ≡ b
-fold_left p a b small tiny same = let f = fold_far (pos a -ℤ pos p) in let g = fold_far (pos b -ℤ pos p) in omega (arith, ints, f.2, f.3, g.2, g.3, same)
+fold_left : (p a b : ℕ) → a < 256 → b < 256 → fold 8 (pos a -ℤ pos p) ≡ fold 8 (pos b -ℤ pos p) → a ≡ b
+fold_left p a b small tiny same =
+    let f = fold_alike 8 (pos a -ℤ pos p) bytes in
+    let g = fold_alike 8 (pos b -ℤ pos p) bytes in
+    omega (arith, ints, f.same, g.same, same)
 
-fold_right : (p a b : ℕ) → a < 256 → b < 256 → fold (pos p -ℤ pos a) ≡ fold (pos p -ℤ pos b) → a ≡ b
-fold_right p a b small tiny same = let f = fold_far (pos p -ℤ pos a) in let g = fold_far (pos p -ℤ pos b) in omega (arith, ints, f.2, f.3, g.2, g.3, same)
+fold_right : (p a b : ℕ) → a < 256 → b < 256 → fold 8 (pos p -ℤ pos a) ≡ fold 8 (pos p -ℤ pos b) → a ≡ b
+fold_right p a b small tiny same =
+    let f = fold_alike 8 (pos p -ℤ pos a) bytes in
+    let g = fold_alike 8 (pos p -ℤ pos b) bytes in
+    omega (arith, ints, f.same, g.same, same)
 
 pub one_sample_of : (context : ℤ) (p a b : ℕ) → a < 256 → b < 256 → difference_of context p a ≡ difference_of context p b → a ≡ b
 unfolding difference_of
 one_sample_of context p a b small tiny = either (int_lt context (pos 0))
   where
-    either : (t : Bool) → cond t (fold (pos p -ℤ pos a)) (fold (pos a -ℤ pos p)) ≡ cond t (fold (pos p -ℤ pos b)) (fold (pos b -ℤ pos p)) → a ≡ b
+    either : (t : Bool) → cond t (fold 8 (pos p -ℤ pos a)) (fold 8 (pos a -ℤ pos p)) ≡ cond t (fold 8 (pos p -ℤ pos b)) (fold 8 (pos b -ℤ pos p)) → a ≡ b
     either true same = fold_right p a b small tiny same
     either false same = fold_left p a b small tiny same
 
-pub difference_range : (p : Plane) (s : ℕ) → IsDifference (difference_at p s)
+pub difference_range : (p : Plane) (s : ℕ) → IsDifference 8 (difference_at p s)
 unfolding difference_of
 difference_range p s = either (int_lt (context_at p s) (pos 0))
   where
-    either : (t : Bool) → IsDifference (cond t (fold (pos (prediction_at p s) -ℤ pos (get_or p.samples s 0)))
-        (fold (pos (get_or p.samples s 0) -ℤ pos (prediction_at p s))))
-    either true = fold_range (pos (prediction_at p s) -ℤ pos (get_or p.samples s 0))
-    either false = fold_range (pos (get_or p.samples s 0) -ℤ pos (prediction_at p s))
+    either : (t : Bool) → IsDifference 8 (cond t (fold 8 (pos (prediction_at p s) -ℤ pos (get_or p.samples s 0)))
+        (fold 8 (pos (get_or p.samples s 0) -ℤ pos (prediction_at p s))))
+    either true = fold_range 8 (pos (prediction_at p s) -ℤ pos (get_or p.samples s 0)) bytes
+    either false = fold_range 8 (pos (get_or p.samples s 0) -ℤ pos (prediction_at p s)) bytes
 
 module _ (w : ℕ) (entry : ℕ → ℕ → ℤ) (some : 0 < w) (xs ys : List ℕ) (small : (j : ℕ) → get_or xs j 0 < 256) (tiny : (j : ℕ) → get_or ys j 0 < 256) where
   contexts_same : (n : ℕ) → ((j : ℕ) → j < n → get_or xs j 0 ≡ get_or ys j 0) → context_at (plane_of w entry xs) n ≡ context_at (plane_of w entry ys) n

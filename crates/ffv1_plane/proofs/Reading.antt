@@ -29,9 +29,9 @@ this_one old more x =
 pub sample_read : (width : ℕ) (entry : ℕ → ℕ → ℤ) (level : Bool) (old new : List ℕ) (states after : List ContextState) (bits rest : Reading)
     (near : SamplesAbout) (context difference : ℤ) (x : ℕ) → 1 ≤ width
     → near ≡ neighbours_at width old (length old) → context ≡ context_of entry near → difference_of context (prediction_of near) x ≡ difference
-    → new ≡ old ++ x ∷ [] → IsCodedDifference level difference → nat_abs context < length states
-    → IsCoded (get_or states (nat_abs context) start_state) level difference bits rest
-    → after ≡ set states (nat_abs context) (after_value (get_or states (nat_abs context) start_state) (decoded_value level difference))
+    → new ≡ old ++ x ∷ [] → IsCodedDifference 8 level difference → nat_abs context < length states
+    → IsCoded 8 (get_or states (nat_abs context) start_state) level difference bits rest
+    → after ≡ set states (nat_abs context) (after_value 8 (get_or states (nat_abs context) start_state) (decoded_value level difference))
     → IsSampleRead width entry level old states bits.left new after rest.left
 unfolding residuals_of
 sample_read width entry level old new states after bits rest near context difference x some near_is context_is difference_is pushed given below coded stepped =
@@ -70,22 +70,22 @@ nonzero_is x h = ⊎_elim (λ yes. absurd (h (zero_of x yes))) (λ not_zero. not
 states_step : (earlier : ℕ → List ℤ) (r : Residuals) (s k j : ℕ) (states : List ContextState) (value : ℤ) → k < length states → is_coded r s ≡ true
     → context_number r s ≡ k → value_at r s ≡ value
     → ((i : ℕ) → i < length states → get_or states i start_state ≡ state_before earlier r i s) → j < length states
-    → get_or (set states k (after_value (get_or states k start_state) value)) j start_state ≡ state_before earlier r j (suc s)
+    → get_or (set states k (after_value 8 (get_or states k start_state) value)) j start_state ≡ state_before earlier r j (suc s)
 states_step earlier r s k j states value below coded is value_is before inside =
     let more = state_more earlier r j s in
     ⊎_elim
     (λ same.
     let test : (is_coded r s && eqb (context_number r s) j) ≡ true = rw (coded, is) (eq-eqb k j same) in
-    let new : after_value (get_or states k start_state) value ≡ after_value (state_before earlier r j s) (value_at r s) =
-    ap (λ z. after_value z value) (before k below ∙ ap (λ i. state_before earlier r i s) same) ∙ ap (after_value (state_before earlier r j s)) (sym value_is) in
-    ap (λ i. get_or (set states k (after_value (get_or states k start_state) value)) i start_state) (sym same)
+    let new : after_value 8 (get_or states k start_state) value ≡ after_value 8 (state_before earlier r j s) (value_at r s) =
+    ap (λ z. after_value 8 z value) (before k below ∙ ap (λ i. state_before earlier r i s) same) ∙ ap (after_value 8 (state_before earlier r j s)) (sym value_is) in
+    ap (λ i. get_or (set states k (after_value 8 (get_or states k start_state) value)) i start_state) (sym same)
     ∙ get_or-set_same states k _ start_state below ∙ new ∙ sym (more ∙ ap
-    (λ t. cond t (after_value (state_before earlier r j s) (value_at r s)) (state_before earlier r j s)) test))
+    (λ t. cond t (after_value 8 (state_before earlier r j s) (value_at r s)) (state_before earlier r j s)) test))
     (λ other.
     let apart : j ≢ k = λ e. other (sym e) in
     let test : (is_coded r s && eqb (context_number r s) j) ≡ false = rw (coded, is) (ne_eqb k j other) in
     get_or-set_other states k j _ start_state apart ∙ before j inside
-    ∙ sym (more ∙ ap (λ t. cond t (after_value (state_before earlier r j s) (value_at r s)) (state_before earlier r j s)) test))
+    ∙ sym (more ∙ ap (λ t. cond t (after_value 8 (state_before earlier r j s) (value_at r s)) (state_before earlier r j s)) test))
     (cases_eq k j)
 
 -- a state that is there after one of them was set was there before
@@ -114,9 +114,9 @@ scalar_read earlier width entry bits left rest old new index states after so_far
           let r = residuals_of (plane_of width entry (new ++ more)) in
           let state : get_or states read.context start_state ≡ state_before earlier r (context_number r s) s = states_before more read.context read.below
           ∙ ap (λ k. state_before earlier r k s) (sym (read.is_context more)) in
-          let spells : SpellsValue (state_before earlier r (context_number r s) s) (r.difference s) read.code =
-          (let P : ContextState → Type 0 = λ z. SpellsValue z (r.difference s) read.code in subst P state
-          (let Q : ℤ → Type 0 = λ z. SpellsValue (get_or states read.context start_state) z read.code in
+          let spells : SpellsValue 8 (state_before earlier r (context_number r s) s) (r.difference s) read.code =
+          (let P : ContextState → Type 0 = λ z. SpellsValue 8 z (r.difference s) read.code in subst P state
+          (let Q : ℤ → Type 0 = λ z. SpellsValue 8 (get_or states read.context start_state) z read.code in
           subst Q (sym (read.is_difference more)) read.spells)) in
           let R : ℕ → Type 0 = λ n. Progress earlier r n bits index rest in
           subst R longer (scalar_step earlier r s index bits read.code left rest (before more) (outside more) spells read.begins);
@@ -141,7 +141,7 @@ skipped_states earlier r s k (suc n) skipped =
     let test : (is_coded r (s + n) && eqb (context_number r (s + n)) k) ≡ false = rw (ap not skip) refl in
     ap (λ i. state_before earlier r k i) (let e : s + suc n ≡ suc (s + n) = omega arith in e)
     ∙ state_more earlier r k (s + n)
-    ∙ ap (λ t. cond t (after_value (state_before earlier r k (s + n)) (value_at r (s + n))) (state_before earlier r k (s + n))) test
+    ∙ ap (λ t. cond t (after_value 8 (state_before earlier r k (s + n)) (value_at r (s + n))) (state_before earlier r k (s + n))) test
     ∙ skipped_states earlier r s k n (λ j h. skipped j (omega arith))
 
 module _ (earlier : ℕ → List ℤ) (width : ℕ) (entry : ℕ → ℕ → ℤ) (some : 0 < width) (bits left : List Bool) (old mid : List ℕ) (index : ℕ)
@@ -224,8 +224,8 @@ module _ (earlier : ℕ → List ℤ) (width : ℕ) (entry : ℕ → ℕ → ℤ
           let difference : r.difference (s + n) ≡ read.difference = ap r.difference (sym longer_mid) ∙ read.is_difference more in
           let state : get_or states read.context start_state ≡ state_before earlier r (context_number r (s + n)) (s + n) =
           states_new more read.context read.below ∙ ap (λ k. state_before earlier r k (s + n)) (sym context) in
-          let P : ContextState → Type 0 = λ z. SpellsValue z (decoded_value true (r.difference (s + n))) read.code in
-          let Q : ℤ → Type 0 = λ z. SpellsValue (get_or states read.context start_state) (decoded_value true z) read.code in
+          let P : ContextState → Type 0 = λ z. SpellsValue 8 z (decoded_value true (r.difference (s + n))) read.code in
+          let Q : ℤ → Type 0 = λ z. SpellsValue 8 (get_or states read.context start_state) (decoded_value true z) read.code in
           let R : ℕ → Type 0 = λ i. Progress earlier r i bits next rest in
           subst R longer_new (run_level earlier r some s n (zero_new more) ((progress_new more).fresh) run.fits
           (skipped_new more) index next run.run run.spelled
@@ -274,9 +274,9 @@ pub same_zero : (context : ℤ) (p : ℕ) → difference_of context p p ≡ pos 
 unfolding difference_of
 same_zero context p = either (int_lt context (pos 0))
   where
-    either : (t : Bool) → cond t (fold (pos p -ℤ pos p)) (fold (pos p -ℤ pos p)) ≡ pos 0
-    either true = ap fold (let z : pos p -ℤ pos p ≡ pos 0 = omega (arith, ints) in z)
-    either false = ap fold (let z : pos p -ℤ pos p ≡ pos 0 = omega (arith, ints) in z)
+    either : (t : Bool) → cond t (fold 8 (pos p -ℤ pos p)) (fold 8 (pos p -ℤ pos p)) ≡ pos 0
+    either true = ap (fold 8) (let z : pos p -ℤ pos p ≡ pos 0 = omega (arith, ints) in z)
+    either false = ap (fold 8) (let z : pos p -ℤ pos p ≡ pos 0 = omega (arith, ints) in z)
 
 pub none_skipped : (width : ℕ) (entry : ℕ → ℕ → ℤ) (old : List ℕ) → AreSkipped width entry old old 0
 none_skipped width entry old = record { samples = []; pushed = sym (append-nil old); count = refl; zero_differences = λ more j h. absurd (omega arith) }
@@ -335,18 +335,18 @@ skip_on width entry old mid new n m first second =
 pub sample_read_at : (width : ℕ) (entry : ℕ → ℕ → ℤ) (level : Bool) (old new : List ℕ) (states : List ContextState) (bits rest : Reading)
     (near : SamplesAbout) (context passed difference given : ℤ) (x i p : ℕ) (z stepped : ContextState) → 1 ≤ width
     → near ≡ neighbours_at width old (length old) → context ≡ context_of entry near → p ≡ prediction_of near → passed ≡ context → given ≡ difference
-    → difference_of passed p x ≡ given → new ≡ old ++ x ∷ [] → IsCodedDifference level difference → i ≡ nat_abs context → i < length states
-    → z ≡ get_or states i z → IsCoded z level difference bits rest
-    → stepped ≡ after_value z (decoded_value level difference) → IsSampleRead width entry level old states bits.left new (set states i stepped) rest.left
+    → difference_of passed p x ≡ given → new ≡ old ++ x ∷ [] → IsCodedDifference 8 level difference → i ≡ nat_abs context → i < length states
+    → z ≡ get_or states i z → IsCoded 8 z level difference bits rest
+    → stepped ≡ after_value 8 z (decoded_value level difference) → IsSampleRead width entry level old states bits.left new (set states i stepped) rest.left
 sample_read_at width entry level old new states bits rest near context passed difference given x i p z stepped some near_is context_is p_is passed_is given_is
     difference_is pushed range i_is below z_is coded stepped_is =
     let z_there : z ≡ get_or states (nat_abs context) start_state = get_or_read states i z below z_is start_state
     ∙ ap (λ k. get_or states k start_state) i_is in
-    let P : ContextState → Type 0 = λ s. IsCoded s level difference bits rest in
+    let P : ContextState → Type 0 = λ s. IsCoded 8 s level difference bits rest in
     sample_read width entry level old new states (set states i stepped) bits rest near context difference x some near_is context_is
     (ap (λ c. difference_of c (prediction_of near) x) (sym passed_is) ∙ ap (λ q. difference_of passed q x) (sym p_is) ∙ difference_is ∙ given_is)
     pushed range (omega (arith, below, i_is)) (subst P z_there coded)
-    (ap (λ k. set states k stepped) i_is ∙ ap (set states (nat_abs context)) (stepped_is ∙ ap (λ s. after_value s (decoded_value level difference)) z_there))
+    (ap (λ k. set states k stepped) i_is ∙ ap (set states (nat_abs context)) (stepped_is ∙ ap (λ s. after_value 8 s (decoded_value level difference)) z_there))
 
 some_abs : (z : ℤ) → z ≢ pos 0 → 0 < nat_abs z
 some_abs (pos zero) h = absurd (h refl)
@@ -383,10 +383,10 @@ scalar_read_at earlier width entry old new index states after left rest near con
 pub code_halted_at : (width : ℕ) (entry : ℕ → ℕ → ℤ) (level : Bool) (samples : List ℕ) (states : List ContextState) (bits : List Bool) (near : SamplesAbout)
     (context : ℤ) (i sample : ℕ) (z : ContextState) (fault : CodeFault)
     → near ≡ neighbours_at width samples (length samples) → context ≡ context_of entry near → i ≡ nat_abs context → i < length states → z ≡ get_or states i z
-    → IsCodeFault z level bits fault → sample ≡ length samples → IsCodeHalted width entry level samples states bits fault sample
+    → IsCodeFault 8 z level bits fault → sample ≡ length samples → IsCodeHalted width entry level samples states bits fault sample
 code_halted_at width entry level samples states bits near context i sample z fault near_is context_is i_is below z_is given place =
     let number : i ≡ next_context width entry samples = i_is ∙ ap nat_abs (context_is ∙ ap (context_of entry) near_is) in
     let z_there : z ≡ get_or states (next_context width entry samples) start_state = get_or_read states i z below z_is start_state
     ∙ ap (λ k. get_or states k start_state) number in
-    let P : ContextState → Type 0 = λ s. IsCodeFault s level bits fault in
+    let P : ContextState → Type 0 = λ s. IsCodeFault 8 s level bits fault in
     record { place = place; below = omega (arith, number, below); given = subst P z_there given }

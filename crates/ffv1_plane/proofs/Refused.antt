@@ -5,6 +5,7 @@ use Rattle.ffv1_rice.specs.States.{IsDifference}
 use Rattle.ffv1_rice.specs.Codes.{SpellsValue, IsCodeFault}
 use Rattle.ffv1_rice.specs.Runs.{SpellsRun, whole_length, IsShortWord}
 use Rattle.ffv1_rice.specs.declared.code.CodeFault.{CodeFault}
+use Rattle.ffv1_rice.proofs.Depths.{bytes}
 use Rattle.ffv1_rice.proofs.Faults.{no_code_at_fault, one_fault}
 use Rattle.ffv1_rice.proofs.OneRun.{no_run_when_cut}
 use Rattle.ffv1_plane.specs.Spelling.{Residuals, is_in_run, is_skipped, is_coded, follows_skipped, starts_run, left_in_line, run_length, value_at, context_number, state_before, SamplesSpell}
@@ -63,7 +64,7 @@ pub record IsPastCode (earlier : ℕ → List ℤ) (r : Residuals) (s : ℕ) (bi
   pub past : IsPastRun earlier r s bits
   pub code : List Bool
   pub tail : List Bool
-  pub coded : is_coded r s ≡ true → SpellsValue (state_before earlier r (context_number r s) s) (value_at r s) code
+  pub coded : is_coded r s ≡ true → SpellsValue 8 (state_before earlier r (context_number r s) s) (value_at r s) code
   pub joined : past.later ≡ code ++ tail
 
 -- a longer spelling has been
@@ -110,7 +111,7 @@ past_due earlier r s part others bits due same = record {
 }
 
 module _ (earlier : ℕ → List ℤ) (w : ℕ) (c e d f : ℕ → ℤ) (some : 0 < w)
-    (range : (j : ℕ) → IsDifference (d j)) (also : (j : ℕ) → IsDifference (f j))
+    (range : (j : ℕ) → IsDifference 8 (d j)) (also : (j : ℕ) → IsDifference 8 (f j))
     (determined : (n : ℕ) → ((j : ℕ) → j < n → d j ≡ f j) → c n ≡ e n) where
   -- two that are read past the run of a sample are alike there
   record BothPast (s : ℕ) (later after : List Bool) : Type 0 where
@@ -148,9 +149,9 @@ module _ (earlier : ℕ → List ℤ) (w : ℕ) (c e d f : ℕ → ℤ) (some : 
       let both = both_past s bits (past_due earlier r s part others bits refused.0 begins) past.past in
       let coded : is_coded q s ≡ true = ap not (sym both.skipped) ∙ refused.0.coded in
       let no_skip : is_skipped q s ≡ false = sym both.skipped ∙ (let h = refused.0.coded in not-true (is_skipped r s) h) in
-      no_code_at_fault (state_before earlier q (context_number q s) s) (is_in_run q s) fault (f s) others past.code past.tail
-      (subst (λ (z : _). IsCodeFault z (is_in_run q s) others fault) both.state
-      (subst (λ (l : Bool). IsCodeFault (state_before earlier r (context_number r s) s) l others fault) both.in_run refused.1))
+      no_code_at_fault 8 (state_before earlier q (context_number q s) s) (is_in_run q s) fault (f s) others past.code past.tail bytes
+      (subst (λ (z : _). IsCodeFault 8 z (is_in_run q s) others fault) both.state
+      (subst (λ (l : Bool). IsCodeFault 8 (state_before earlier r (context_number r s) s) l others fault) both.in_run refused.1))
       (also s, λ t. nonzero_of (f s) (not_both (is_in_run q s) _ t no_skip)) (past.coded coded) (both.same ∙ past.joined)
 
   -- two codes that are refused at one sample are so for one fault
@@ -161,10 +162,10 @@ module _ (earlier : ℕ → List ℤ) (w : ℕ) (c e d f : ℕ → ℤ) (some : 
       let q = residuals w e f in
       let both = both_past s (part ++ others) (past_due earlier r s part others (part ++ others) a.0 refl)
       (past_due earlier q s more tail (part ++ others) b.0 same) in
-      one_fault (state_before earlier q (context_number q s) s) (is_in_run q s) tail fault other
-      (subst (λ (l : List Bool). IsCodeFault (state_before earlier q (context_number q s) s) (is_in_run q s) l fault) both.same
-      (subst (λ (z : _). IsCodeFault z (is_in_run q s) others fault) both.state
-      (subst (λ (l : Bool). IsCodeFault (state_before earlier r (context_number r s) s) l others fault) both.in_run a.1)))
+      one_fault 8 (state_before earlier q (context_number q s) s) (is_in_run q s) tail fault other bytes
+      (subst (λ (l : List Bool). IsCodeFault 8 (state_before earlier q (context_number q s) s) (is_in_run q s) l fault) both.same
+      (subst (λ (z : _). IsCodeFault 8 z (is_in_run q s) others fault) both.state
+      (subst (λ (l : Bool). IsCodeFault 8 (state_before earlier r (context_number r s) s) l others fault) both.in_run a.1)))
       b.1
 
   -- a cut word of a run excludes a spelling that is past that run
@@ -211,7 +212,7 @@ pub record IsOneWord (s t : ℕ) (fault other : CodeFault) : Type 0 where
   pub fault_same : fault ≡ other
 
 module _ (earlier : ℕ → List ℤ) (w : ℕ) (c e d f : ℕ → ℤ) (some : 0 < w)
-    (range : (j : ℕ) → IsDifference (d j)) (also : (j : ℕ) → IsDifference (f j))
+    (range : (j : ℕ) → IsDifference 8 (d j)) (also : (j : ℕ) → IsDifference 8 (f j))
     (determined : (n : ℕ) → ((j : ℕ) → j < n → d j ≡ f j) → c n ≡ e n) where
   -- a refused word excludes a spelling of more samples
   pub refused_excludes : (s count last : ℕ) (part others front tail : List Bool) (fault : CodeFault) → s < count
@@ -251,7 +252,7 @@ module _ (earlier : ℕ → List ℤ) (w : ℕ) (c e d f : ℕ → ℤ) (some : 
       (cases_lt due.start t)
 
 module _ (earlier : ℕ → List ℤ) (w : ℕ) (c e d f : ℕ → ℤ) (some : 0 < w)
-    (range : (j : ℕ) → IsDifference (d j)) (also : (j : ℕ) → IsDifference (f j))
+    (range : (j : ℕ) → IsDifference 8 (d j)) (also : (j : ℕ) → IsDifference 8 (f j))
     (determined : (n : ℕ) → ((j : ℕ) → j < n → d j ≡ f j) → c n ≡ e n) where
   turned : (n : ℕ) → ((j : ℕ) → j < n → f j ≡ d j) → e n ≡ c n
   turned n alike = sym (determined n (λ j h. sym (alike j h)))

@@ -65,7 +65,7 @@ context_of entry n =
 -- what is coded of a sample that was predicted, its sign turned where the context is negative (section 3.8)
 unfoldable pub difference_of : ℤ → ℕ → ℕ → ℤ
 difference_of context prediction sample =
-    if int_lt context (pos 0) then fold (pos prediction -ℤ pos sample) else fold (pos sample -ℤ pos prediction)
+    if int_lt context (pos 0) then fold 8 (pos prediction -ℤ pos sample) else fold 8 (pos sample -ℤ pos prediction)
 
 -- ---- planes
 

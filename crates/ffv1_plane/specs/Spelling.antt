@@ -77,7 +77,7 @@ values_before r context s = map (value_at r) (filter (λ j. is_coded r j && (con
 
 -- the state that values leave of the start state, where they are coded one after the other
 abbrev pub state_after : List ℤ → ContextState
-state_after values = fold (λ state value. after_value state value) start_state values
+state_after values = fold (λ state value. after_value 8 state value) start_state values
 
 -- The state of a context at sample s is what all values coded with it have left: those of an earlier plane that shares
 -- its states, and those of this plane.
@@ -94,7 +94,7 @@ pub record SampleSpells (earlier : ℕ → List ℤ) (r : Residuals) (s : ℕ) (
   pub joined : bits ≡ run ++ code
   pub run_starts : starts_run r s ≡ true → SpellsRun (run_length r s) (left_in_line r s) index run next
   pub no_run_starts : starts_run r s ≡ false → (run ≡ []) × (next ≡ index)
-  pub coded : is_coded r s ≡ true → SpellsValue (state_before earlier r (context_number r s) s) (value_at r s) code
+  pub coded : is_coded r s ≡ true → SpellsValue 8 (state_before earlier r (context_number r s) s) (value_at r s) code
   pub not_coded : is_coded r s ≡ false → code ≡ []
 
 -- the bits of the first count samples, from run index 0

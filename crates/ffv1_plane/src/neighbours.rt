@@ -56,7 +56,7 @@ impl Neighbours {
 
 /// The sample with this difference from its prediction (section 3.8).
 pub(crate) fn sample_of(context: i32, prediction: u8, difference: i32) -> u8
-    requires { IsDifference difference }
+    requires { IsDifference 8 difference }
     ensures { difference_of context prediction result ≡ difference }
 {
     if context < 0 {

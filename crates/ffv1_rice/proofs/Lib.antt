@@ -1,3 +1,4 @@
+pub mod Depths
 pub mod Folds
 pub mod Faults
 pub mod OneCode

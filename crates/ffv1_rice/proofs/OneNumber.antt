@@ -50,18 +50,18 @@ one_prefix m n rest more below also same =
 -- ---- codes of numbers
 
 -- the parts of a code
-pub record Parts (k u : ℕ) : Type 0 where
+pub record Parts (n k u : ℕ) : Type 0 where
   pub ones : ℕ
   pub low : ℕ
   pub few : ones ≤ 12
-  pub fits : low < 2 ^ suffix_length k ones
-  pub is_code : code_bits u k ≡ shape_bits k ones low
+  pub fits : low < 2 ^ suffix_length n k ones
+  pub is_code : code_bits n u k ≡ shape_bits n k ones low
   pub number : cond (ltb ones 12) (ones * 2 ^ k + low) (low + 11) ≡ u
   pub escaped : 12 ≤ ones → 12 ≤ u / 2 ^ k
 
-pub parts_of : (k u : ℕ) → (u / 2 ^ k < 12) ⊎ (u < 2 ^ 8 + 11) → Parts k u
+pub parts_of : (n k u : ℕ) → (u / 2 ^ k < 12) ⊎ (u < 2 ^ n + 11) → Parts n k u
 unfolding code_bits shape_bits suffix_length
-parts_of k u small =
+parts_of n k u small =
     let some : 1 ≤ 2 ^ k = one-le-pow k 2 (omega arith) in
     let low : u % 2 ^ k < 2 ^ k = omega arith in
     let less : u / 2 ^ k ≤ u = shr_le u k in
@@ -85,32 +85,34 @@ parts_of k u small =
     })
     (cases_lt (u / 2 ^ k) 12)
 
-pub byte_parts : (k u : ℕ) → u ≤ 255 → Parts k u
-byte_parts k u small = parts_of k u (inr (omega arith))
+pub small_parts : (n k u : ℕ) → u < 2 ^ n → Parts n k u
+small_parts n k u small = parts_of n k u (inr (omega arith))
 
-pub one_shape : (k m n low less : ℕ) (rest more : List Bool) → m ≤ 12 → n ≤ 12 → low < 2 ^ suffix_length k m → less < 2 ^ suffix_length k n
-    → shape_bits k m low ++ rest ≡ shape_bits k n less ++ more → (m ≡ n) × (low ≡ less) × (rest ≡ more)
+pub one_shape : (n k m l low less : ℕ) (rest more : List Bool) → m ≤ 12 → l ≤ 12 → low < 2 ^ suffix_length n k m → less < 2 ^ suffix_length n k l
+    → shape_bits n k m low ++ rest ≡ shape_bits n k l less ++ more → (m ≡ l) × (low ≡ less) × (rest ≡ more)
 unfolding shape_bits
-one_shape k m n low less rest more below also fits fit same =
-    let joined : prefix_bits m ++ (number_bits (suffix_length k m) low ++ rest) ≡ prefix_bits n ++ (number_bits (suffix_length k n) less ++ more) =
-    sym (append_assoc (prefix_bits m) (number_bits (suffix_length k m) low) rest) ∙ same
-    ∙ append_assoc (prefix_bits n) (number_bits (suffix_length k n) less) more in
-    let first = one_prefix m n _ _ below also joined in
-    let later : number_bits (suffix_length k m) low ++ rest ≡ number_bits (suffix_length k m) less ++ more = first.1
-    ∙ ap (λ z. number_bits (suffix_length k z) less ++ more) (sym first.0) in
-    let fit' : less < 2 ^ suffix_length k m = rw first.0 fit in
-    let second = one_number (suffix_length k m) low less rest more fits fit' later in
+one_shape n k m l low less rest more below also fits fit same =
+    let joined : prefix_bits m ++ (number_bits (suffix_length n k m) low ++ rest) ≡ prefix_bits l ++ (number_bits (suffix_length n k l) less ++ more) =
+    sym (append_assoc (prefix_bits m) (number_bits (suffix_length n k m) low) rest) ∙ same
+    ∙ append_assoc (prefix_bits l) (number_bits (suffix_length n k l) less) more in
+    let first = one_prefix m l _ _ below also joined in
+    let later : number_bits (suffix_length n k m) low ++ rest ≡ number_bits (suffix_length n k m) less ++ more = first.1
+    ∙ ap (λ z. number_bits (suffix_length n k z) less ++ more) (sym first.0) in
+    let fit' : less < 2 ^ suffix_length n k m = rw first.0 fit in
+    let second = one_number (suffix_length n k m) low less rest more fits fit' later in
     (first.0, second.0, second.1)
 
-pub one_number_code_of : (k m n : ℕ) (rest more : List Bool) → Parts k m → Parts k n → code_bits m k ++ rest ≡ code_bits n k ++ more → (m ≡ n) × (rest ≡ more)
-one_number_code_of k m n rest more a b same =
-    let shapes : shape_bits k a.ones a.low ++ rest ≡ shape_bits k b.ones b.low ++ more =
-    ap (λ l. l ++ rest) (sym a.is_code) ∙ same ∙ ap (λ l. l ++ more) b.is_code in
-    let one = one_shape k a.ones b.ones a.low b.low rest more a.few b.few a.fits b.fits shapes in (
+pub one_number_code_of : (n k m l : ℕ) (rest more : List Bool) → Parts n k m → Parts n k l → code_bits n m k ++ rest ≡ code_bits n l k ++ more
+    → (m ≡ l) × (rest ≡ more)
+one_number_code_of n k m l rest more a b same =
+    let shapes : shape_bits n k a.ones a.low ++ rest ≡ shape_bits n k b.ones b.low ++ more =
+    ap (λ z. z ++ rest) (sym a.is_code) ∙ same ∙ ap (λ z. z ++ more) b.is_code in
+    let one = one_shape n k a.ones b.ones a.low b.low rest more a.few b.few a.fits b.fits shapes in (
       sym a.number ∙ ap (λ z. cond (ltb z 12) (z * 2 ^ k + a.low) (a.low + 11)) one.0 ∙ ap (λ z. cond (ltb b.ones 12) (b.ones * 2 ^ k + z) (z + 11)) one.1
           ∙ b.number,
       one.2,
     )
 
-pub one_number_code : (k m n : ℕ) (rest more : List Bool) → m ≤ 255 → n ≤ 255 → code_bits m k ++ rest ≡ code_bits n k ++ more → (m ≡ n) × (rest ≡ more)
-one_number_code k m n rest more below also same = one_number_code_of k m n rest more (byte_parts k m below) (byte_parts k n also) same
+pub one_number_code : (n k m l : ℕ) (rest more : List Bool) → m < 2 ^ n → l < 2 ^ n → code_bits n m k ++ rest ≡ code_bits n l k ++ more
+    → (m ≡ l) × (rest ≡ more)
+one_number_code n k m l rest more below also same = one_number_code_of n k m l rest more (small_parts n k m below) (small_parts n k l also) same

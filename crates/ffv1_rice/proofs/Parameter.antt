@@ -5,7 +5,7 @@ use Rattle.std.proofs.lemmas.Bool.{cases_lt}
 use Rattle.std.proofs.lemmas.Nat.{leading_top, leading_length, pow-add, pow_pos}
 use Rattle.std.proofs.Math.Nat.{pow-suc, mul-le-mul}
 use Rattle.std.proofs.Math.Pow.{pow_mono}
-use Rattle.ffv1_rice.specs.States.{ContextState, IsState, IsParameter}
+use Rattle.ffv1_rice.specs.States.{ContextState, IsState, IsParameter, greatest_depth}
 
 -- twice a count reaches over the error sum that is longer by k ..
 reaches : (count errors p m k : ℕ) → 2 ^ p ≤ count → errors < 2 ^ m → m ≤ suc p + k → errors ≤ count * 2 ^ (k + 1)
@@ -29,22 +29,26 @@ falls_short count errors p m j high low short =
 pub record IsNear (s : ContextState) (k : ℕ) : Type 0 where
   pub above : s.error_sum ≤ s.count * 2 ^ (k + 1)
   pub below : (j : ℕ) → j < k → s.count * 2 ^ j < s.error_sum
-  pub few : k ≤ 7
+  pub few : k ≤ 16
   pub fits : s.count * 2 ^ k < 2 ^ 32
 
-small_enough : (s : ContextState) (k : ℕ) → IsState s → ((j : ℕ) → j < k → s.count * 2 ^ j < s.error_sum) → k ≤ 7
-small_enough s k bounds below =
-    ⊎_elim (λ long. (let e = below 7 long in absurd (omega (arith, e, bounds.errors)))) (λ short. omega (arith, short)) (cases_lt 7 k)
+small_enough : (n : ℕ) (s : ContextState) (k : ℕ) → IsState n s → ((j : ℕ) → j < k → s.count * 2 ^ j < s.error_sum) → k ≤ n - 1
+small_enough n s k bounds below =
+    ⊎_elim (λ long. (let e = below (n - 1) long in absurd (omega (arith, e, bounds.errors)))) (λ short. omega (arith, short)) (cases_lt (n - 1) k)
 
-pub near : (s : ContextState) (k : ℕ) → IsState s → k ≡ count_leading_zeros 32 s.count - count_leading_zeros 32 s.error_sum → IsNear s k
+-- the parameter of a state is below the depth of its differences
+pub parameter_low : (n : ℕ) (s : ContextState) (k : ℕ) → IsState n s → IsParameter s k → k ≤ n - 1
+parameter_low n s k bounds is = small_enough n s k bounds is.least
+
+pub near : (s : ContextState) (k : ℕ) → IsState greatest_depth s → k ≡ count_leading_zeros 32 s.count - count_leading_zeros 32 s.error_sum → IsNear s k
 near s k bounds is =
     let top = leading_top 32 s.count (omega (arith, bounds.some_counted)) (omega (arith, bounds.few_counted)) in
     let length = leading_length 32 s.error_sum (omega (arith, bounds.errors, bounds.few_counted)) in
     let below : (j : ℕ) → j < k → s.count * 2 ^ j < s.error_sum =
     λ j less. falls_short s.count s.error_sum top.0 length.0 j top.3 length.3 (omega (arith, is, less, top.1, length.1)) in
-    let few : k ≤ 7 = small_enough s k bounds below in
-    let power : 2 ^ k ≤ 2 ^ 7 = pow_mono few in
-    let product : s.count * 2 ^ k ≤ 128 * 2 ^ 7 = mul-le-mul bounds.few_counted power in
+    let few : k ≤ 16 = small_enough greatest_depth s k bounds below in
+    let power : 2 ^ k ≤ 2 ^ 16 = pow_mono {j = 16} few in
+    let product : s.count * 2 ^ k ≤ 128 * 2 ^ 16 = mul-le-mul bounds.few_counted power in
     record {
       above = reaches s.count s.error_sum top.0 length.0 k top.2 length.2 (omega (arith, is, top.1, length.1));
       below = below;
@@ -61,5 +65,5 @@ parameter_above s k n short = record {
   least = λ j less. ⊎_elim (n.below j) (λ same. subst (λ i. s.count * 2 ^ i < s.error_sum) (let e : k ≡ j = omega (arith, less, same) in e) short) (cases_lt j k);
 }
 
-pub above_few : (s : ContextState) (k : ℕ) → IsState s → IsNear s k → s.count * 2 ^ k < s.error_sum → k + 1 ≤ 7
-above_few s k bounds n short = small_enough s (k + 1) bounds (parameter_above s k n short).least
+pub above_few : (s : ContextState) (k : ℕ) → IsState greatest_depth s → IsNear s k → s.count * 2 ^ k < s.error_sum → k + 1 ≤ 16
+above_few s k bounds n short = small_enough greatest_depth s (k + 1) bounds (parameter_above s k n short).least

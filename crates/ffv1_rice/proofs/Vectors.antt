@@ -5,6 +5,7 @@ use Rattle.std.proofs.Math.Nat.{mul-le-mul}
 use Rattle.std.proofs.Math.Pow.{pow_mono}
 use Rattle.ffv1_bits.specs.Bits.{number_bits}
 use Rattle.ffv1_rice.specs.States.{ContextState, start_state, IsParameter, code_number, after_value}
+use Rattle.ffv1_rice.specs.States.{fold as fold_at}
 use Rattle.ffv1_rice.specs.Codes.{prefix_bits, suffix_length, shape_bits, code_bits, SpellsValue, FooterGivesCode, IsNeedlessEscape, IsLargeCode, IsLargeLevel}
 use Rattle.ffv1_rice.specs.Runs.{run_exponent, SpellsRun, line_end, whole, over_end, long_rest, IsRunWord, IsShortWord}
 use Rattle.ffv1_rice.specs.declared.run.RunWord.TheVariants.{Full, Rest, ToEnd}
@@ -32,75 +33,75 @@ wide_parameter : IsParameter wide_state 7
 unfolding wide_state
 wide_parameter = record { enough = lit≤ tt; least = below_least wide_state 6 (lit< tt) }
 
-three_after_start : after_value start_state (pos 3) ≡ record { drift = pos 0; error_sum = 7; bias = pos 1; count = 2 }
+three_after_start : after_value 8 start_state (pos 3) ≡ record { drift = pos 0; error_sum = 7; bias = pos 1; count = 2 }
 three_after_start = refl
 
-three_values_of_minus_1 : fold after_value start_state (replicate 3 (negsuc 0)) ≡ record { drift = negsuc 2; error_sum = 7; bias = pos 0; count = 4 }
+three_values_of_minus_1 : fold (after_value 8) start_state (replicate 3 (negsuc 0)) ≡ record { drift = negsuc 2; error_sum = 7; bias = pos 0; count = 4 }
 three_values_of_minus_1 = refl
 
-zeros_128 : fold after_value start_state (replicate 128 (pos 0)) ≡ record { drift = pos 0; error_sum = 2; bias = pos 0; count = 65 }
+zeros_128 : fold (after_value 8) start_state (replicate 128 (pos 0)) ≡ record { drift = pos 0; error_sum = 2; bias = pos 0; count = 65 }
 zeros_128 = refl
 
-lowest_after_start : after_value start_state (negsuc 127) ≡ wide_state
+lowest_after_start : after_value 8 start_state (negsuc 127) ≡ wide_state
 unfolding wide_state
 lowest_after_start = refl
 
-minus_1_after_lowest : after_value wide_state (negsuc 0) ≡ record { drift = negsuc 0; error_sum = 132; bias = negsuc 0; count = 3 }
+minus_1_after_lowest : after_value 8 wide_state (negsuc 0) ≡ record { drift = negsuc 0; error_sum = 132; bias = negsuc 0; count = 3 }
 unfolding wide_state
 minus_1_after_lowest = refl
 
-flipped_number : code_number (record { drift = negsuc 1; error_sum = 6; bias = pos 0; count = 3 }) (negsuc 0) ≡ 0
+flipped_number : code_number 8 (record { drift = negsuc 1; error_sum = 6; bias = pos 0; count = 3 }) (negsuc 0) ≡ 0
 flipped_number = refl
 
 -- ---- codes
 
-code_47 : code_bits 47 2 ≡ replicate 11 false ++ (true ∷ true ∷ true ∷ [])
+code_47 : code_bits 8 47 2 ≡ replicate 11 false ++ (true ∷ true ∷ true ∷ [])
 unfolding code_bits shape_bits prefix_bits suffix_length number_bits
 code_47 = refl
 
-code_48 : code_bits 48 2 ≡ zeros_12 ++ (false ∷ false ∷ true ∷ false ∷ false ∷ true ∷ false ∷ true ∷ [])
+code_48 : code_bits 8 48 2 ≡ zeros_12 ++ (false ∷ false ∷ true ∷ false ∷ false ∷ true ∷ false ∷ true ∷ [])
 unfolding code_bits shape_bits prefix_bits suffix_length number_bits zeros_12
 code_48 = refl
 
-code_255 : code_bits 255 2 ≡ zeros_12 ++ (true ∷ true ∷ true ∷ true ∷ false ∷ true ∷ false ∷ false ∷ [])
+code_255 : code_bits 8 255 2 ≡ zeros_12 ++ (true ∷ true ∷ true ∷ true ∷ false ∷ true ∷ false ∷ false ∷ [])
 unfolding code_bits shape_bits prefix_bits suffix_length number_bits zeros_12
 code_255 = refl
 
-minus_1_from_start : SpellsValue start_state (negsuc 0) (true ∷ false ∷ true ∷ [])
+minus_1_from_start : SpellsValue 8 start_state (negsuc 0) (true ∷ false ∷ true ∷ [])
 unfolding code_bits shape_bits prefix_bits suffix_length number_bits
 minus_1_from_start = record { parameter = 2; is_parameter = start_parameter; same = refl }
 
-lowest_from_start : SpellsValue start_state (negsuc 127) (zeros_12 ++ (true ∷ true ∷ true ∷ true ∷ false ∷ true ∷ false ∷ false ∷ []))
+lowest_from_start : SpellsValue 8 start_state (negsuc 127) (zeros_12 ++ (true ∷ true ∷ true ∷ true ∷ false ∷ true ∷ false ∷ false ∷ []))
 unfolding code_bits shape_bits prefix_bits suffix_length number_bits zeros_12
 lowest_from_start = record { parameter = 2; is_parameter = start_parameter; same = refl }
 
-minus_1_after_wide : SpellsValue wide_state (negsuc 0) (true ∷ replicate 7 false)
+minus_1_after_wide : SpellsValue 8 wide_state (negsuc 0) (true ∷ replicate 7 false)
 unfolding code_bits shape_bits prefix_bits suffix_length number_bits wide_state
 minus_1_after_wide = record { parameter = 7; is_parameter = wide_parameter; same = refl }
 
 -- ---- faults
 
-needless_47 : IsNeedlessEscape 2 (zeros_12 ++ (false ∷ false ∷ true ∷ false ∷ false ∷ true ∷ false ∷ false ∷ []))
+needless_47 : IsNeedlessEscape 8 2 (zeros_12 ++ (false ∷ false ∷ true ∷ false ∷ false ∷ true ∷ false ∷ false ∷ []))
 unfolding shape_bits prefix_bits suffix_length number_bits zeros_12
 needless_47 = record { suffix = 36; rest = []; fits = lit< tt; begins = refl; short = lit< tt }
 
-large_escape : IsLargeCode 2 (zeros_12 ++ (true ∷ true ∷ true ∷ true ∷ false ∷ true ∷ false ∷ true ∷ []))
+large_escape : IsLargeCode 8 2 (zeros_12 ++ (true ∷ true ∷ true ∷ true ∷ false ∷ true ∷ false ∷ true ∷ []))
 unfolding code_bits shape_bits prefix_bits suffix_length number_bits zeros_12
-large_escape = record { number = 256; rest = []; large = lit< tt; fits = inr (lit< tt); begins = refl }
+large_escape = record { number = 256; rest = []; large = lit≤ tt; fits = inr (lit< tt); begins = refl }
 
-needless_256 : IsNeedlessEscape 7 (zeros_12 ++ (true ∷ true ∷ true ∷ true ∷ false ∷ true ∷ false ∷ true ∷ []))
+needless_256 : IsNeedlessEscape 8 7 (zeros_12 ++ (true ∷ true ∷ true ∷ true ∷ false ∷ true ∷ false ∷ true ∷ []))
 unfolding shape_bits prefix_bits suffix_length number_bits zeros_12
 needless_256 = record { suffix = 245; rest = []; fits = lit< tt; begins = refl; short = lit< tt }
 
-large_256 : IsLargeCode 7 (false ∷ false ∷ true ∷ replicate 7 false)
+large_256 : IsLargeCode 8 7 (false ∷ false ∷ true ∷ replicate 7 false)
 unfolding code_bits shape_bits prefix_bits suffix_length number_bits
-large_256 = record { number = 256; rest = []; large = lit< tt; fits = inl (lit< tt); begins = refl }
+large_256 = record { number = 256; rest = []; large = lit≤ tt; fits = inl (lit< tt); begins = refl }
 
-cut_after_one_bit : FooterGivesCode 2 (true ∷ true ∷ [])
+cut_after_one_bit : FooterGivesCode 8 2 (true ∷ true ∷ [])
 unfolding shape_bits prefix_bits suffix_length number_bits
 cut_after_one_bit = record { zeros = 0; suffix = 2; missing = false; rest = []; few = lit≤ tt; cut = refl }
 
-level_of_128 : IsLargeLevel start_state true (zeros_12 ++ (true ∷ true ∷ true ∷ true ∷ false ∷ false ∷ true ∷ true ∷ []))
+level_of_128 : IsLargeLevel 8 start_state true (zeros_12 ++ (true ∷ true ∷ true ∷ true ∷ false ∷ false ∷ true ∷ true ∷ []))
 unfolding code_bits shape_bits prefix_bits suffix_length number_bits zeros_12
 level_of_128 = record {
   is_level = refl;
@@ -109,6 +110,36 @@ level_of_128 = record {
   spells = record { parameter = 2; is_parameter = start_parameter; same = refl };
   begins = refl;
 }
+
+-- ---- other depths
+
+three_at_9 : after_value 9 start_state (pos 3) ≡ record { drift = pos 0; error_sum = 7; bias = pos 1; count = 2 }
+three_at_9 = refl
+
+lowest_at_9 : after_value 9 start_state (negsuc 255) ≡ record { drift = negsuc 0; error_sum = 260; bias = negsuc 0; count = 2 }
+lowest_at_9 = refl
+
+-- 128 is a difference of 9 bits, and at 8 bits it is -128
+folded_128 : (fold_at 9 (pos 128) ≡ pos 128) × (fold_at 8 (pos 128) ≡ negsuc 127)
+folded_128 = (refl, refl)
+
+-- the bias stays at 127 at each depth
+bias_at_most_127 : (after_value 10 (record { drift = pos 0; error_sum = 4; bias = pos 127; count = 2 }) (pos 400)).bias ≡ pos 127
+bias_at_most_127 = refl
+
+-- the escape has a suffix of 9 bits at a depth of 9, and of 17 at 17
+code_255_at_9 : code_bits 9 255 2 ≡ zeros_12 ++ (false ∷ true ∷ true ∷ true ∷ true ∷ false ∷ true ∷ false ∷ false ∷ [])
+unfolding code_bits shape_bits prefix_bits suffix_length number_bits zeros_12
+code_255_at_9 = refl
+
+code_59_at_17 : code_bits 17 59 2 ≡ zeros_12 ++ (replicate 11 false ++ (true ∷ true ∷ false ∷ false ∷ false ∷ false ∷ []))
+unfolding code_bits shape_bits prefix_bits suffix_length number_bits zeros_12
+code_59_at_17 = refl
+
+-- a short code is the same at each
+code_47_at_17 : code_bits 17 47 2 ≡ code_bits 8 47 2
+unfolding code_bits shape_bits suffix_length
+code_47_at_17 = refl
 
 -- ---- runs
 

@@ -1,10 +1,11 @@
 -- Codes in a window of 56 bits.
-use Rattle.std.proofs.Common.{◌≡◌, ℕ, zero, suc, ◌+◌, ◌-◌, ◌*◌, ◌/◌, ◌%◌, ◌^◌, ◌<◌, ◌≤◌, true, false, eqb, [], ◌∷◌, ◌++◌, length, take, replicate, List, Bool, append_assoc, refl, sym, ap, subst, ◌∙◌, arith, lit<, length-append}
+use Rattle.std.proofs.Common.{◌≡◌, ℕ, zero, suc, ◌+◌, ◌-◌, ◌*◌, ◌/◌, ◌%◌, ◌^◌, ◌<◌, ◌≤◌, true, false, eqb, [], ◌∷◌, ◌++◌, length, take, replicate, List, Bool, append_assoc, refl, sym, ap, subst, ◌∙◌, ⊎_elim, not, nat_eq, IsTrue, arith, lit<, length-append}
 use Rattle.std.specs.Int.Count.{count_leading_zeros}
-use Rattle.std.proofs.lemmas.Bool.{lt-ltb}
+use Rattle.std.proofs.lemmas.Bool.{lt-ltb, cases_lt}
+use Rattle.std.proofs.lemmas.Bool.Decides.{nat_tests}
 use Rattle.std.proofs.lemmas.Nat.{leading_length, le-div, pow-add, pow_pos, shr_below}
 use Rattle.std.proofs.lemmas.Nat.Bits.{bit_at_above}
-use Rattle.std.proofs.Math.Nat.{pow-suc}
+use Rattle.std.proofs.Math.Nat.{pow-suc, mul-le-mul, div-eq_of_lt}
 use Rattle.std.proofs.Math.Pow.{pow_mono}
 use Rattle.std.proofs.lemmas.List.{take_at}
 use Rattle.ffv1_bits.specs.Bits.{number_bits}
@@ -37,7 +38,7 @@ unfolding number_bits prefix_bits
 zeros_and_one z few = number_bits-split z 1 1 ∙ ap (λ bits. bits ++ (true ∷ [])) (no_ones z) ∙ rw (lt-ltb z 12 few) refl
 
 -- the bits after the prefix's zeros: a one and the suffix
-pub suffix_at : (window z k : ℕ) → z < 12 → k ≤ 7 → 2 ^ (31 - z) ≤ window → window < 2 ^ (32 - z)
+pub suffix_at : (window z k : ℕ) → z < 12 → k ≤ 16 → 2 ^ (31 - z) ≤ window → window < 2 ^ (32 - z)
     → (2 ^ k ≤ window / 2 ^ (31 - (z + k))) × (window / 2 ^ (31 - (z + k)) < 2 ^ k * 2)
 suffix_at window z k few small low high =
     let later : ℕ = 31 - (z + k) in
@@ -47,24 +48,26 @@ suffix_at window z k few small low high =
     let narrow : window / 2 ^ later < 2 ^ suc k = shr_below window (suc k) later below in
     (le-div (2 ^ k) window (2 ^ later) (pow_pos later) whole, omega (arith, narrow, pow-suc 2 k))
 
-pub small_place : (window z k : ℕ) → z < 12 → k ≤ 7 → 2 ^ (31 - z) ≤ window → window < 2 ^ (32 - z) → window / 2 ^ (31 - (z + k)) < 2 ^ 8
+pub small_place : (window z k : ℕ) → z < 12 → k ≤ 16 → 2 ^ (31 - z) ≤ window → window < 2 ^ (32 - z) → window / 2 ^ (31 - (z + k)) < 2 ^ 17
 small_place window z k few small low high =
     let bounds = suffix_at window z k few small low high in
-    let power : 2 ^ k ≤ 2 ^ 7 = pow_mono small in
+    let power : 2 ^ k ≤ 2 ^ 16 = pow_mono {j = 16} small in
     omega (arith, bounds.1, power)
 
 -- the number as the code has it: the one before the suffix stands for a zero
-pub short_number : (z k low : ℕ) → z < 12 → k ≤ 7 → 2 ^ k ≤ low → low < 2 ^ 8
+pub short_number : (z k low : ℕ) → z < 12 → k ≤ 16 → 2 ^ k ≤ low → low < 2 ^ 17
     → ((z + 4294967295) % 4294967296 * 2 ^ k % 4294967296 + low) % 4294967296 ≡ z * 2 ^ k + (low - 2 ^ k)
-short_number z zero low few small one narrow = omega arith
-short_number z (suc zero) low few small one narrow = omega arith
-short_number z (suc (suc zero)) low few small one narrow = omega arith
-short_number z (suc (suc (suc zero))) low few small one narrow = omega arith
-short_number z (suc (suc (suc (suc zero)))) low few small one narrow = omega arith
-short_number z (suc (suc (suc (suc (suc zero))))) low few small one narrow = omega arith
-short_number z (suc (suc (suc (suc (suc (suc zero)))))) low few small one narrow = omega arith
-short_number z (suc (suc (suc (suc (suc (suc (suc zero))))))) low few small one narrow = omega arith
-short_number z (suc (suc (suc (suc (suc (suc (suc (suc k)))))))) low few small one narrow = absurd (omega arith)
+short_number zero k low few small one narrow =
+    let power : 2 ^ k ≤ 2 ^ 16 = pow_mono {j = 16} small in
+    let some = pow_pos k in
+    let wrapped : 4294967295 * 2 ^ k % 4294967296 ≡ 4294967296 - 2 ^ k = omega arith in
+    omega (arith, wrapped)
+short_number (suc z) k low few small one narrow =
+    let power : 2 ^ k ≤ 2 ^ 16 = pow_mono {j = 16} small in
+    let less : (suc z + 4294967295) % 4294967296 ≡ z = omega arith in
+    let fits : z * 2 ^ k ≤ 11 * 2 ^ 16 = mul-le-mul (let e : z ≤ 11 = omega arith in e) power in
+    let more : suc z * 2 ^ k ≡ z * 2 ^ k + 2 ^ k = omega arith in
+    rw less (omega (arith, fits, more))
 
 window_one : (window width : ℕ) → 2 ^ width ≤ window → window < 2 ^ (1 + width) → window / 2 ^ width ≡ 1
 window_one window width low high =
@@ -72,10 +75,10 @@ window_one window width low high =
     let few : window / 2 ^ width < 2 ^ 1 = shr_below window 1 width high in
     omega arith
 
-pub short_begins : (window z k suffix number : ℕ) → z < 12 → k ≤ 7 → 2 ^ (31 - z) ≤ window → window < 2 ^ (32 - z)
+pub short_begins : (n window z k suffix number : ℕ) → z < 12 → k ≤ 16 → 2 ^ (31 - z) ≤ window → window < 2 ^ (32 - z)
     → suffix ≡ window / 2 ^ (31 - (z + k)) - 2 ^ k → number ≡ z * 2 ^ k + suffix
-    → BitsBegin (number_bits 32 window) (code_bits number k) (z + 1 + k)
-short_begins window z k suffix number few small low high is value =
+    → BitsBegin (number_bits 32 window) (code_bits n number k) (z + 1 + k)
+short_begins n window z k suffix number few small low high is value =
     let r : ℕ = 31 - (z + k) in
     let bounds = suffix_at window z k few small low high in
     let fits : suffix < 2 ^ k = omega (arith, bounds.0, bounds.1) in
@@ -89,10 +92,10 @@ short_begins window z k suffix number few small low high is value =
     let later : number_bits (k + r) window ≡ number_bits k suffix ++ number_bits r window =
     number_bits-split k r window ∙ ap (λ bits. bits ++ number_bits r window) low_bits in
     let parts : number_bits 32 window ≡ prefix_bits z ++ (number_bits k suffix ++ number_bits r window) =
-    ap (λ n. number_bits n window) (let e : 32 ≡ z + 1 + (k + r) = omega arith in e) ∙ number_bits-split (z + 1) (k + r) window
+    ap (λ m. number_bits m window) (let e : 32 ≡ z + 1 + (k + r) = omega arith in e) ∙ number_bits-split (z + 1) (k + r) window
     ∙ ap (λ bits. bits ++ number_bits (k + r) window) high_bits ∙ ap (λ bits. prefix_bits z ++ bits) later in
-    let same : number_bits 32 window ≡ code_bits number k ++ number_bits r window =
-    parts ∙ short_code k z suffix number (number_bits k suffix ++ number_bits r window) (number_bits r window) few fits value refl in
+    let same : number_bits 32 window ≡ code_bits n number k ++ number_bits r window =
+    parts ∙ short_code n k z suffix number (number_bits k suffix ++ number_bits r window) (number_bits r window) few fits value refl in
     record {
       rest = number_bits r window;
       same = same;
@@ -100,7 +103,7 @@ short_begins window z k suffix number few small low high is value =
         arith,
         ap length same,
         length-number_bits 32 window,
-        length-append (code_bits number k) (number_bits r window),
+        length-append (code_bits n number k) (number_bits r window),
         length-number_bits r window,
       );
     }
@@ -143,25 +146,43 @@ pub begun_after : (old : Reading) (code : List Bool) (count : ℕ) (begins : Bit
 unfolding reading_after
 begun_after old code count begins = record { begins = begins.same; moves = refl }
 
-pub escape_begins : (window k number : ℕ) → window < 2 ^ 44 → number ≡ window / 2 ^ 36 + 11 → 12 ≤ number / 2 ^ k
-    → BitsBegin (number_bits 56 window) (code_bits number k) 20
+pub escape_begins : (n window k number : ℕ) → n ≤ 44 → window < 2 ^ 44 → number ≡ window / 2 ^ (44 - n) + 11 → 12 ≤ number / 2 ^ k
+    → BitsBegin (number_bits 56 window) (code_bits n number k) (12 + n)
 unfolding prefix_bits
-escape_begins window k number small is long =
+escape_begins n window k number wide small is long =
+    let r : ℕ = 44 - n in
     let none : window / 2 ^ 44 ≡ 0 = omega arith in
     let high_bits : number_bits 12 (window / 2 ^ 44) ≡ prefix_bits 12 = ap (number_bits 12) none ∙ no_ones 12 in
-    let parts : number_bits 56 window ≡ prefix_bits 12 ++ (number_bits 8 (window / 2 ^ 36) ++ number_bits 36 window) =
-    number_bits-split 12 44 window ∙ ap (λ bits. bits ++ number_bits 44 window) high_bits
-    ∙ ap (λ bits. prefix_bits 12 ++ bits) (number_bits-split 8 36 window) in
-    let same : number_bits 56 window ≡ code_bits number k ++ number_bits 36 window =
-    parts ∙ escape_code k (window / 2 ^ 36) number (number_bits 8 (window / 2 ^ 36) ++ number_bits 36 window) (number_bits 36 window) is long refl in
+    let low_bits : number_bits 44 window ≡ number_bits n (window / 2 ^ r) ++ number_bits r window =
+    ap (λ m. number_bits m window) (let e : 44 ≡ n + r = omega arith in e) ∙ number_bits-split n r window in
+    let parts : number_bits 56 window ≡ prefix_bits 12 ++ (number_bits n (window / 2 ^ r) ++ number_bits r window) =
+    number_bits-split 12 44 window ∙ ap (λ bits. bits ++ number_bits 44 window) high_bits ∙ ap (λ bits. prefix_bits 12 ++ bits) low_bits in
+    let same : number_bits 56 window ≡ code_bits n number k ++ number_bits r window =
+    parts ∙ escape_code n k (window / 2 ^ r) number (number_bits n (window / 2 ^ r) ++ number_bits r window) (number_bits r window) is long refl in
     record {
-      rest = number_bits 36 window;
+      rest = number_bits r window;
       same = same;
       long = omega (
         arith,
         ap length same,
         length-number_bits 56 window,
-        length-append (code_bits number k) (number_bits 36 window),
-        length-number_bits 36 window,
+        length-append (code_bits n number k) (number_bits r window),
+        length-number_bits r window,
       );
     }
+
+-- the suffix of an escape is small
+pub escape_small : (n window : ℕ) → n ≤ 17 → window < 2 ^ 44 → window / 2 ^ (44 - n) < 2 ^ 17
+escape_small n window few small =
+    let below : window < 2 ^ (n + (44 - n)) = subst (λ m. window < 2 ^ m) (let e : 44 ≡ n + (44 - n) = omega arith in e) small in
+    let narrow : window / 2 ^ (44 - n) < 2 ^ n = shr_below window n (44 - n) below in
+    let power : 2 ^ n ≤ 2 ^ 17 = pow_mono {j = 17} few in
+    omega (arith, narrow, power)
+
+-- a number has more than n bits where those above them are not all 0
+pub large_test : (n u : ℕ) → (IsTrue (not (nat_eq (u / 2 ^ n) 0)) → 2 ^ n ≤ u) × (2 ^ n ≤ u → IsTrue (not (nat_eq (u / 2 ^ n) 0)))
+large_test n u =
+    let some = pow_pos n in (
+      λ test. ⊎_elim (λ less. let none : u / 2 ^ n ≡ 0 = div-eq_of_lt less in absurd (grind (arith, nat_tests))) (λ more. more) (cases_lt u (2 ^ n)),
+      λ more. let one : 1 ≤ u / 2 ^ n = le-div 1 u (2 ^ n) some (omega (arith, more)) in grind (arith, nat_tests),
+    )

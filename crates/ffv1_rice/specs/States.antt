@@ -1,14 +1,25 @@
 -- The adaptive state of a context, which chooses the parameter of its codes (RFC 9043, sections 3.8.2.3 and 3.8.2.4).
-use Rattle.std.specs.Prelude.{ℕ, ◌+◌, ◌*◌, ◌/◌, ◌^◌, ◌<◌, ◌≤◌, ◌==◌, ℤ, pos, negsuc, ◌+ℤ◌, ◌-ℤ◌, ◌*ℤ◌, neg_ℤ, nat_abs, ◌≤ℤ◌, ◌<ℤ◌, int_lt, int_le, if◌then◌else◌}
+use Rattle.std.specs.Prelude.{ℕ, ◌+◌, ◌-◌, ◌*◌, ◌/◌, ◌^◌, ◌<◌, ◌≤◌, ◌==◌, ℤ, pos, negsuc, ◌+ℤ◌, ◌-ℤ◌, ◌*ℤ◌, neg_ℤ, nat_abs, ◌≤ℤ◌, ◌<ℤ◌, int_lt, int_le, if◌then◌else◌}
 use Rattle.std.specs.Int.{int_max, int_min, int_rem_euclid}
 
-pub record IsDifference (difference : ℤ) : Type 0 where
-  pub low : neg_ℤ (pos 128) ≤ℤ difference
-  pub high : difference ≤ℤ pos 127
+-- ---- differences
 
--- the number from -128 to 127 that is d modulo 256
-abbrev pub fold : ℤ → ℤ
-fold d = int_rem_euclid (d +ℤ pos 128) (pos 256) -ℤ pos 128
+abbrev pub greatest_depth : ℕ
+greatest_depth = 17
+
+-- Samples are coded in n bits, the coded depth: 8 to 16, and one more where colours are coded as differences (section 3.7.2).
+pub record IsCodedDepth (n : ℕ) : Type 0 where
+  pub least : 8 ≤ n
+  pub most : n ≤ greatest_depth
+
+-- The difference of two samples has n bits and a sign.
+pub record IsDifference (n : ℕ) (difference : ℤ) : Type 0 where
+  pub low : neg_ℤ (pos (2 ^ (n - 1))) ≤ℤ difference
+  pub high : difference <ℤ pos (2 ^ (n - 1))
+
+-- the difference of n bits that is d modulo 2^n (section 3.8)
+abbrev pub fold : ℕ → ℤ → ℤ
+fold n d = int_rem_euclid (d +ℤ pos (2 ^ (n - 1))) (pos (2 ^ n)) -ℤ pos (2 ^ (n - 1))
 
 -- half of it, rounded down
 abbrev pub half : ℤ → ℤ
@@ -64,19 +75,21 @@ updated s v = corrected (counted (with_value s v))
 
 -- ---- bounds
 
--- what holds of every state; so the parameter is at most 7
-pub record IsState (s : ContextState) : Type 0 where
+-- What holds of every state of differences of n bits. So the parameter is at most n - 1, and a code has at most 12 + n bits.
+pub record IsState (n : ℕ) (s : ContextState) : Type 0 where
   pub some_counted : 1 ≤ s.count
   pub few_counted : s.count ≤ 128
   pub drift_low : neg_ℤ (pos s.count) <ℤ s.drift
   pub drift_high : s.drift ≤ℤ pos 0
-  pub errors : s.error_sum ≤ 128 * s.count
+  pub errors : s.error_sum ≤ 2 ^ (n - 1) * s.count
   pub bias_low : neg_ℤ (pos 128) ≤ℤ s.bias
   pub bias_high : s.bias ≤ℤ pos 127
 
+-- ---- what is coded of a value of n bits under a state
+
 -- the value less the bias
-abbrev pub coded_value : ContextState → ℤ → ℤ
-coded_value s value = fold (value -ℤ s.bias)
+abbrev pub coded_value : ℕ → ContextState → ℤ → ℤ
+coded_value n s value = fold n (value -ℤ s.bias)
 
 -- flipped where the drift is below half of -count
 abbrev pub flipped : ContextState → ℤ → ℤ
@@ -88,9 +101,17 @@ sign_number (pos n) = 2 * n
 sign_number (negsuc n) = 2 * n + 1
 
 -- the number whose code stands for the value
-abbrev pub code_number : ContextState → ℤ → ℕ
-code_number s value = sign_number (flipped s (coded_value s value))
+abbrev pub code_number : ℕ → ContextState → ℤ → ℕ
+code_number n s value = sign_number (flipped s (coded_value n s value))
 
 -- the state once the value was coded
-abbrev pub after_value : ContextState → ℤ → ContextState
-after_value s value = updated s (coded_value s value)
+abbrev pub after_value : ℕ → ContextState → ℤ → ContextState
+after_value n s value = updated s (coded_value n s value)
+
+-- ---- laws
+
+-- The start state is within the bounds at each coded depth, and values of that depth keep it there.
+pub record StatesStay : Type 0 where
+  pub start : (n : ℕ) → IsCodedDepth n → IsState n start_state
+  pub after : (n : ℕ) (s : ContextState) (value : ℤ) → IsCodedDepth n → IsState n s → IsState n (after_value n s value)
+  pub parameter : (n k : ℕ) (s : ContextState) → IsCodedDepth n → IsState n s → IsParameter s k → k ≤ n - 1

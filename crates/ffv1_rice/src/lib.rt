@@ -6,10 +6,10 @@ mod run;
 mod state;
 
 pub use code::{
-    CodeFault, ESCAPE_BITS, ESCAPE_OFFSET, ESCAPE_ZEROS, codes_are_one, faults_are_one,
+    BYTE_DEPTH, CodeFault, ESCAPE_OFFSET, ESCAPE_ZEROS, codes_are_one, faults_are_one,
     faults_exclude_codes,
 };
 pub use run::{
     RunIndex, RunWord, cuts_exclude_runs, runs_are_one, words_are_one, words_spell_runs,
 };
-pub use state::{VlcState, fold};
+pub use state::{VlcState, fold, states_stay};

@@ -1,9 +1,9 @@
 //! The adaptive state of a context (RFC 9043, sections 3.8.2.3 and 3.8.2.4).
 //!
-//! A state counts 1 to 128 values, its drift lies between -count and 0, and its error sum is at
-//! most 128 for each value counted, so that its parameter is at most 7.
-ghost use Rattle.std.specs.Prelude.{◌≡◌, ℕ, ◌-◌, ◌^◌, pos, ◌≤ℤ◌, ◌≤◌};
-ghost use Rattle.ffv1_rice.specs.States.{IsDifference, half, fold, start_state, IsParameter, with_value, counted, corrected, updated, IsState, coded_value, flipped, sign_number};
+//! A state counts 1 to 128 values, and its drift lies between -count and 0. Where differences have n bits, 8 to 17, its
+//! error sum is at most 2^(n-1) for each value counted, so that its parameter is at most n - 1.
+ghost use Rattle.std.specs.Prelude.{◌≡◌, ℕ, ◌-◌, ◌^◌, pos, ◌≤◌, ◌<◌};
+ghost use Rattle.ffv1_rice.specs.States.{IsCodedDepth, greatest_depth, IsDifference, half, fold, start_state, IsParameter, with_value, counted, corrected, updated, IsState, coded_value, flipped, sign_number, StatesStay};
 ghost use Rattle.ffv1_rice.specs.Inner.States.{IsUncounted, IsUncorrected};
 
 use std::marker::Model;
@@ -34,7 +34,7 @@ pub struct VlcState {
 }
 
 impl Model for VlcState {
-    ghost use Rattle.ffv1_rice.specs.States.{ContextState, IsState};
+    ghost use Rattle.ffv1_rice.specs.States.{ContextState, IsState, greatest_depth};
 
     ghost Value = { ContextState };
 
@@ -42,16 +42,16 @@ impl Model for VlcState {
 
     ghost inverse = { λ s. record { sums = s } };
 
-    ghost invariant = { λ s. IsState s.sums };
+    ghost invariant = { λ s. IsState greatest_depth s.sums };
 }
 
 impl Sums {
     /// A coded value enters both sums.
     fn with_value(self, value: i32) -> Self
-        requires range { IsDifference value }
-        requires sums { IsState self }
+        requires range { IsDifference greatest_depth value }
+        requires sums { IsState greatest_depth self }
         ensures value { result ≡ with_value self value }
-        ensures range { IsUncounted result }
+        ensures range { IsUncounted greatest_depth result }
     {
         Sums {
             drift: self.drift + value,
@@ -62,9 +62,9 @@ impl Sums {
 
     /// The value is counted; at a count of 128 the sums and the count are halved first.
     fn counted(self) -> Self
-        requires { IsUncounted self }
+        requires { IsUncounted greatest_depth self }
         ensures value { result ≡ counted self }
-        ensures range { IsUncorrected result }
+        ensures range { IsUncorrected greatest_depth result }
     {
         if self.count == 128 {
             Sums {
@@ -83,9 +83,9 @@ impl Sums {
 
     /// The bias follows a drift that is out of its bounds.
     fn corrected(self) -> Self
-        requires { IsUncorrected self }
+        requires { IsUncorrected greatest_depth self }
         ensures value { result ≡ corrected self }
-        ensures range { IsState result }
+        ensures range { IsState greatest_depth result }
     {
         let count = self.count as i32;
         if self.drift + count <= 0 {
@@ -115,13 +115,26 @@ fn halved(drift: i32) -> i32
     drift.div_euclid(2)
 }
 
-/// The number from -128 to 127 that is `d` modulo 256. The sum of `d` and 128 fits an `i32`.
-pub fn fold(d: i32) -> i32
-    requires { d ≤ℤ pos (2 ^ 31 - 129) }
-    ensures value { result ≡ fold d }
-    ensures range { IsDifference result }
+/// Half of the numbers of a coded depth: 128 at a depth of 8.
+#[inline(always)]
+pub(crate) fn half_of_depth(depth: u32) -> i32
+    requires { IsCodedDepth depth }
+    ensures { result ≡ pos (2 ^ (depth - 1)) }
 {
-    (d + 128).rem_euclid(256) - 128
+    (1u32 << (depth - 1)) as i32
+}
+
+/// The number from -2^(n-1) to 2^(n-1) - 1 that is `d` modulo 2^n, where the coded depth n is 8 to 17 bits (RFC 9043,
+/// section 3.8).
+#[inline(always)]
+pub fn fold(d: i32, depth: u32) -> i32
+    requires { IsCodedDepth depth }
+    ensures value { result ≡ fold depth d }
+    ensures range { IsDifference depth result }
+{
+    let half = half_of_depth(depth);
+    let raised = d.cast_unsigned().wrapping_add(half as u32);
+    (raised % (1 << depth)) as i32 - half
 }
 
 impl VlcState {
@@ -139,10 +152,12 @@ impl VlcState {
         }
     }
 
-    /// The Golomb-Rice parameter: the least `k` with `count * 2^k >= error_sum`, at most 7.
+    /// The Golomb-Rice parameter: the least `k` with `count * 2^k >= error_sum`. It is less than the coded depth, so at most 7
+    /// at a depth of 8.
     pub fn k(&self) -> u32
         ensures parameter { IsParameter self.now result }
-        ensures bound { result ≤ 7 }
+        ensures bound { result ≤ 16 }
+        ensures low { (n : ℕ) → IsCodedDepth n → IsState n self.now → result ≤ n - 1 }
     {
         let count_zeros = self.sums.count.leading_zeros();
         let k = count_zeros.saturating_sub(self.sums.error_sum.leading_zeros());
@@ -159,7 +174,7 @@ impl VlcState {
         ensures error_sum { result.1 ≡ self.now.error_sum }
         ensures bias { result.2 ≡ self.now.bias }
         ensures count { result.3 ≡ self.now.count }
-        ensures bounds { IsState self.now }
+        ensures bounds { IsState greatest_depth self.now }
     {
         let sums = self.sums;
         (sums.drift, sums.error_sum, sums.bias, sums.count)
@@ -168,7 +183,7 @@ impl VlcState {
     /// Adds a coded value.
     #[inline(always)]
     pub(crate) fn update(&mut self, value: i32)
-        requires { IsDifference value }
+        requires { IsDifference greatest_depth value }
         ensures { self.new ≡ updated self.old value }
     {
         let next = self.updated(value).sums;
@@ -183,7 +198,7 @@ impl VlcState {
 
     /// The state once a coded value was added.
     fn updated(self, value: i32) -> Self
-        requires { IsDifference value }
+        requires { IsDifference greatest_depth value }
         ensures { result ≡ updated self value }
     {
         VlcState {
@@ -193,28 +208,30 @@ impl VlcState {
 
     /// The coded value that a code's number stands for.
     pub(crate) fn coded(&self, number: u32) -> i32
-        requires { number ≤ 255 }
+        requires { number < 2 ^ greatest_depth }
         ensures number { sign_number (flipped self.now result) ≡ number }
-        ensures range { IsDifference result }
+        ensures range { (n : ℕ) → IsCodedDepth n → number < 2 ^ n → IsDifference n result }
     {
         self.flipped(signed(number))
     }
 
     /// The value of which this was coded.
     #[tactic(auto, using(crate::proofs::Folds::fold_back))]
-    pub(crate) fn value(&self, coded: i32) -> i32
-        requires { IsDifference coded }
-        ensures coded { coded_value self.now result ≡ coded }
-        ensures range { IsDifference result }
+    #[inline(always)]
+    pub(crate) fn value(&self, coded: i32, depth: u32) -> i32
+        requires depth { IsCodedDepth depth }
+        requires range { IsDifference depth coded }
+        ensures coded { coded_value depth self.now result ≡ coded }
+        ensures range { IsDifference depth result }
     {
-        fold(coded + self.sums.bias)
+        fold(coded + self.sums.bias, depth)
     }
 
     /// The coded value flipped where the drift is low. Flipped twice it is as before.
     fn flipped(&self, coded: i32) -> i32
-        requires { IsDifference coded }
+        requires { IsDifference greatest_depth coded }
         ensures again { flipped self.now result ≡ coded }
-        ensures range { IsDifference result }
+        ensures range { (n : ℕ) → IsCodedDepth n → IsDifference n coded → IsDifference n result }
     {
         if 2 * self.sums.drift + (self.sums.count as i32) < 0 {
             -1 - coded
@@ -226,10 +243,15 @@ impl VlcState {
 
 /// The signed number with this place in 0, -1, 1, -2, ..
 fn signed(number: u32) -> i32
-    requires { number ≤ 255 }
+    requires { number < 2 ^ greatest_depth }
     ensures place { sign_number result ≡ number }
-    ensures range { IsDifference result }
+    ensures range { (n : ℕ) → IsCodedDepth n → number < 2 ^ n → IsDifference n result }
 {
     let half = (number / 2) as i32;
     if number % 2 == 1 { -half - 1 } else { half }
 }
+
+/// A state stays within the bounds of its coded depth, and its parameter is below that depth.
+pub fn states_stay()
+    ensures { StatesStay }
+{}

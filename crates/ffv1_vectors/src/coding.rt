@@ -11,10 +11,10 @@ use crate::fault::MakeFault;
 use crate::plane::{Plane, Residual};
 use crate::writer::{BitWriter, Word};
 use ffv1_bits::Bits;
-use ffv1_rice::{ESCAPE_BITS, ESCAPE_OFFSET, ESCAPE_ZEROS, RunIndex, RunWord, VlcState, fold};
+use ffv1_rice::{BYTE_DEPTH, ESCAPE_OFFSET, ESCAPE_ZEROS, RunIndex, RunWord, VlcState, fold};
 
 /// The bits of an escape with its suffix.
-const ESCAPE_LENGTH: u32 = ESCAPE_ZEROS + ESCAPE_BITS;
+const ESCAPE_LENGTH: u32 = ESCAPE_ZEROS + BYTE_DEPTH;
 
 /// Writes a plane, with the states that those before it have left.
 pub(crate) fn write_plane(
@@ -164,7 +164,7 @@ fn write_sample(
     level: bool,
 ) -> Result<(), MakeFault>
     requires context { nat_abs residual.context < length states.old }
-    requires difference { IsDifference residual.difference }
+    requires difference { IsDifference 8 residual.difference }
 {
     let state = &mut states[residual.context.unsigned_abs() as usize];
     let difference = residual.difference;
@@ -184,10 +184,10 @@ fn write_sample(
 
 /// The code of a value under a state (section 3.8.2.1).
 fn code_of(state: &VlcState, value: i32) -> Word
-    requires { IsDifference value }
+    requires { IsDifference 8 value }
 {
     let (drift, _error_sum, bias, count) = state.parts();
-    let coded = fold(value - bias);
+    let coded = fold(value - bias, BYTE_DEPTH);
     let flipped = if 2 * drift < -(count as i32) {
         -1 - coded
     } else {
@@ -198,7 +198,7 @@ fn code_of(state: &VlcState, value: i32) -> Word
 
 /// The place of a value in 0, -1, 1, -2, ..
 fn sign_number(value: i32) -> u32
-    requires { IsDifference value }
+    requires { IsDifference 8 value }
     ensures { result ≤ 255 }
 {
     if value < 0 {
@@ -211,7 +211,7 @@ fn sign_number(value: i32) -> u32
 /// The code of a number at a parameter: so many zeros, a one and the lowest bits, or the escape.
 fn number_code(number: u32, k: u32) -> Word
     requires number { number ≤ 255 }
-    requires parameter { k ≤ 7 }
+    requires parameter { k ≤ 16 }
 {
     let zeros = number >> k;
     if zeros < ESCAPE_ZEROS {

@@ -5,7 +5,7 @@ ghost use Rattle.ffv1_range.specs.Setup.{set_contexts};
 ghost use Rattle.ffv1_rice.specs.States.{IsDifference};
 
 use ffv1_plane::{Neighbours, Tables};
-use ffv1_rice::fold;
+use ffv1_rice::{BYTE_DEPTH, fold};
 
 /// The samples of a plane, row by row, and the quantization tables by which they are coded.
 #[derive(Clone, Copy)]
@@ -32,14 +32,15 @@ impl Plane<'_> {
         requires column { x < self.now.width }
         requires row { y < self.now.height }
         ensures context { nat_abs result.context < set_contexts self.now.tables.now.setup self.now.tables.now.set }
-        ensures difference { IsDifference result.difference }
+        ensures difference { IsDifference 8 result.difference }
     {
         let near = self.near(x, y);
         let context = self.tables.context(&near);
         let difference = i32::from(self.at(x + 2, y + 2)) - i32::from(near.prediction());
+        let signed = if context < 0 { -difference } else { difference };
         Residual {
             context,
-            difference: fold(if context < 0 { -difference } else { difference }),
+            difference: fold(signed, BYTE_DEPTH),
         }
     }
 

@@ -39,7 +39,7 @@ pub record IsCodeHalted (width : ℕ) (entry : ℕ → ℕ → ℤ) (level : Boo
     (sample : ℕ) : Type 0 where
   pub place : sample ≡ length samples
   pub below : next_context width entry samples < length states
-  pub given : IsCodeFault (get_or states (next_context width entry samples) start_state) level bits fault
+  pub given : IsCodeFault 8 (get_or states (next_context width entry samples) start_state) level bits fault
 
 abbrev pub IsSampleHalted : ℕ → (ℕ → ℕ → ℤ) → Bool → List ℕ → List ContextState → List Bool → PlaneFault → Type 0
 IsSampleHalted width entry level samples states bits (plane_faults.Code fault sample) = IsCodeHalted width entry level samples states bits fault sample

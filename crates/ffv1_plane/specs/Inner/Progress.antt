@@ -52,12 +52,12 @@ pub record IsSampleRead (width : ℕ) (entry : ℕ → ℕ → ℤ) (level : Boo
   pub pushed : new ≡ old ++ sample ∷ []
   pub is_context : (more : List ℕ) → context_number (residuals_of (plane_of width entry (new ++ more))) (length old) ≡ context
   pub is_difference : (more : List ℕ) → (residuals_of (plane_of width entry (new ++ more))).difference (length old) ≡ difference
-  pub given : IsCodedDifference level difference
+  pub given : IsCodedDifference 8 level difference
   pub below : context < length states
   pub code : List Bool
-  pub spells : SpellsValue (get_or states context start_state) (decoded_value level difference) code
+  pub spells : SpellsValue 8 (get_or states context start_state) (decoded_value level difference) code
   pub begins : bits ≡ code ++ rest
-  pub stepped : after ≡ set states context (after_value (get_or states context start_state) (decoded_value level difference))
+  pub stepped : after ≡ set states context (after_value 8 (get_or states context start_state) (decoded_value level difference))
 
 -- The next n samples are skipped.
 pub record AreSkipped (width : ℕ) (entry : ℕ → ℕ → ℤ) (old new : List ℕ) (n : ℕ) : Type 0 where

@@ -12,9 +12,9 @@ pub record BitsBegin (bits front : List Bool) (count : ℕ) : Type 0 where
 
 -- ---- the codes of values and differences
 
--- the faults of a code's number at the parameter k
-abbrev pub IsNumberFault : ℕ → List Bool → CodeFault → Type 0
-IsNumberFault k bits faults.Truncated = FooterGivesCode k bits
-IsNumberFault k bits faults.EscapeNotNeeded = IsNeedlessEscape k bits
-IsNumberFault k bits faults.CodeTooLarge = IsLargeCode k bits
-IsNumberFault k bits faults.LevelTooLarge = ⊥
+-- the faults of a code's number at the coded depth n and the parameter k
+abbrev pub IsNumberFault : ℕ → ℕ → List Bool → CodeFault → Type 0
+IsNumberFault n k bits faults.Truncated = FooterGivesCode n k bits
+IsNumberFault n k bits faults.EscapeNotNeeded = IsNeedlessEscape n k bits
+IsNumberFault n k bits faults.CodeTooLarge = IsLargeCode n k bits
+IsNumberFault n k bits faults.LevelTooLarge = ⊥

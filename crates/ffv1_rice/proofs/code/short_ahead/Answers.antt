@@ -19,7 +19,7 @@ short_in-requires-clause-high c =
 pub returns-clause-some : goal.returns-clause-some
 returns-clause-some c =
     let later = c.in_ok-window.ensures.some in
-    let window : BitsBegin (number_bits 56 c.in_ok-window.window) (code_bits c.in_ok-number.number c.args.k) _ =
+    let window : BitsBegin (number_bits 56 c.in_ok-window.window) (code_bits c.args.depth c.in_ok-number.number c.args.k) _ =
     begins_later (number_bits 56 c.in_ok-window.window) (number_bits 32 (c.in_ok-window.window / 2 ^ 24)) (number_bits 24 c.in_ok-window.window)
-    (code_bits c.in_ok-number.number c.args.k) _ (front_parts c.in_ok-window.window) c.in_ok-number.ensures.some in
-    begins_later c.args.bits.now.left (number_bits 56 c.in_ok-window.window) later.0 (code_bits c.in_ok-number.number c.args.k) _ later.1 window
+    (code_bits c.args.depth c.in_ok-number.number c.args.k) _ (front_parts c.in_ok-window.window) c.in_ok-number.ensures.some in
+    begins_later c.args.bits.now.left (number_bits 56 c.in_ok-window.window) later.0 (code_bits c.args.depth c.in_ok-number.number c.args.k) _ later.1 window
