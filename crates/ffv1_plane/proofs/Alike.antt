@@ -6,16 +6,15 @@ use Rattle.std.proofs.lemmas.Nat.{div-add-mod', mod-mul-add}
 use Rattle.std.proofs.Math.Nat.{mul-add-mod_self_right, mod_self}
 use Rattle.std.proofs.lemmas.List.{map-append}
 use Rattle.std.proofs.lemmas.List.Elements.{filter-append}
-use Rattle.ffv1_rice.specs.States.{start_state, after_value, IsDifference}
+use Rattle.ffv1_rice.specs.States.{start_state, after_value, IsDifference, IsCodedDepth}
 use Rattle.ffv1_rice.specs.Codes.{SpellsValue, decoded_value}
 use Rattle.ffv1_rice.specs.Runs.{SpellsRun}
-use Rattle.ffv1_rice.proofs.Depths.{bytes}
 use Rattle.ffv1_rice.proofs.OneCode.{one_value}
 use Rattle.ffv1_rice.proofs.OneRun.{one_run}
 use Rattle.ffv1_plane.specs.Spelling.{Residuals, begins_line, is_zero, is_in_run, is_skipped, is_coded, follows_skipped, starts_run, left_in_line, skipped_among, run_length, value_at, samples_before, state_before, SampleSpells, SamplesSpell}
 
-abbrev pub residuals : ℕ → (ℕ → ℤ) → (ℕ → ℤ) → Residuals
-residuals width context difference = record { width = width; context = context; difference = difference }
+abbrev pub residuals : ℕ → ℕ → (ℕ → ℤ) → (ℕ → ℤ) → Residuals
+residuals depth width context difference = record { depth = depth; width = width; context = context; difference = difference }
 
 -- one column on, in one line
 pub next_column : (n w : ℕ) → 0 < w → eqb ((n + 1) % w) 0 ≡ false → (n + 1) % w ≡ n % w + 1
@@ -31,23 +30,23 @@ next_column n w some inside =
     absurd (let zero_there : (n + 1) % w ≡ 0 = ap (λ k. k % w) split ∙ again in let t : eqb ((n + 1) % w) 0 ≡ true = ap (λ k. eqb k 0) zero_there in cc))
     (cases_lt (n % w + 1) w)
 
-module _ (w : ℕ) (c e d f : ℕ → ℤ) where
-  pub in_run_alike : (n : ℕ) → ((j : ℕ) → j ≤ n → c j ≡ e j) → ((j : ℕ) → j < n → d j ≡ f j) → is_in_run (residuals w c d) n ≡ is_in_run (residuals w e f) n
+module _ (depth w : ℕ) (c e d f : ℕ → ℤ) where
+  pub in_run_alike : (n : ℕ) → ((j : ℕ) → j ≤ n → c j ≡ e j) → ((j : ℕ) → j < n → d j ≡ f j) → is_in_run (residuals depth w c d) n ≡ is_in_run (residuals depth w e f) n
   unfolding is_in_run
   in_run_alike zero same alike = ap is_zero (same 0 (omega arith))
   in_run_alike (suc n) same alike =
       let here : c (suc n) ≡ e (suc n) = same (suc n) (omega arith) in
       let before : d n ≡ f n = alike n (omega arith) in
-      let ind : is_in_run (residuals w c d) n ≡ is_in_run (residuals w e f) n = in_run_alike n (λ j h. same j (omega arith)) (λ j h. alike j (omega arith)) in
+      let ind : is_in_run (residuals depth w c d) n ≡ is_in_run (residuals depth w e f) n = in_run_alike n (λ j h. same j (omega arith)) (λ j h. alike j (omega arith)) in
       rw (here, before, ind) refl
 
   pub follows_alike : (n : ℕ) → ((j : ℕ) → j ≤ n → c j ≡ e j) → ((j : ℕ) → j < n → d j ≡ f j)
-      → follows_skipped (residuals w c d) n ≡ follows_skipped (residuals w e f) n
+      → follows_skipped (residuals depth w c d) n ≡ follows_skipped (residuals depth w e f) n
   unfolding follows_skipped
   follows_alike zero same alike = refl
   follows_alike (suc n) same alike =
       let before : d n ≡ f n = alike n (omega arith) in
-      let ind : is_in_run (residuals w c d) n ≡ is_in_run (residuals w e f) n = in_run_alike n (λ j h. same j (omega arith)) (λ j h. alike j (omega arith)) in
+      let ind : is_in_run (residuals depth w c d) n ≡ is_in_run (residuals depth w e f) n = in_run_alike n (λ j h. same j (omega arith)) (λ j h. alike j (omega arith)) in
       rw (before, ind) refl
 
 kept : (b : Bool) (n : ℕ) (g h : ℕ → ℤ) → g n ≡ h n → map g (cond b (n ∷ []) []) ≡ map h (cond b (n ∷ []) [])
@@ -72,12 +71,12 @@ one_difference : (level : Bool) (x y : ℤ) → (level ≡ true → x ≢ pos 0)
 one_difference false x y some other same = same
 one_difference true x y some other same = let p : x ≢ pos 0 = some refl in let q : y ≢ pos 0 = other refl in grind (arith, ints)
 
-in_either : (b : Bool) (x y : ℤ) → (b ≡ true → IsDifference 8 x) → IsDifference 8 y → IsDifference 8 (cond b x y)
-in_either true x y h k = h refl
-in_either false x y h k = k
+in_either : (n : ℕ) (b : Bool) (x y : ℤ) → (b ≡ true → IsDifference n x) → IsDifference n y → IsDifference n (cond b x y)
+in_either n true x y h k = h refl
+in_either n false x y h k = k
 
-value_range : (level : Bool) (x : ℤ) → IsDifference 8 x → IsDifference 8 (decoded_value level x)
-value_range level x h = in_either (level && int_lt (pos 0) x) (x -ℤ pos 1) x
+value_range : (n : ℕ) (level : Bool) (x : ℤ) → IsDifference n x → IsDifference n (decoded_value level x)
+value_range n level x h = in_either n (level && int_lt (pos 0) x) (x -ℤ pos 1) x
     (λ b. let p = and_parts level (int_lt (pos 0) x) b in record { low = grind (arith, ints); high = omega (arith, ints) }) h
 
 pub zero_of : (x : ℤ) → is_zero x ≡ true → x ≡ pos 0
@@ -89,10 +88,10 @@ pub nonzero_of : (x : ℤ) → is_zero x ≡ false → x ≢ pos 0
 nonzero_of x h e = let f : is_zero x ≡ true = ap is_zero e in absurd cc
 
 -- Two planes that the same bits begin to spell, up to sample n: what was read of them is alike.
-pub record Alike (w : ℕ) (c e d f : ℕ → ℤ) (n : ℕ) : Type 0 where
+pub record Alike (depth w : ℕ) (c e d f : ℕ → ℤ) (n : ℕ) : Type 0 where
   pub contexts : (j : ℕ) → j < n → c j ≡ e j
   pub differences : (j : ℕ) → j < n → d j ≡ f j
-  pub runs : follows_skipped (residuals w c d) n ≡ true → run_length (residuals w c d) n ≡ run_length (residuals w e f) n
+  pub runs : follows_skipped (residuals depth w c d) n ≡ true → run_length (residuals depth w c d) n ≡ run_length (residuals depth w e f) n
 
 follows_of : (a b : Bool) → a ≡ true → (a && not b) ≡ false → b ≡ true
 follows_of true true h k = refl
@@ -126,43 +125,43 @@ length_after r q s count m is a b same =
     let right : skipped_among q (suc m) s ≡ suc (skipped_among q m (s + 1)) = ap (λ t. cond t (suc (skipped_among q m (s + 1))) 0) b in
     omega (arith, opened, left, right)
 
-module _ (earlier : ℕ → List ℤ) (w : ℕ) (c e d f : ℕ → ℤ) (some : 0 < w)
-    (range : (j : ℕ) → IsDifference 8 (d j)) (also : (j : ℕ) → IsDifference 8 (f j))
+module _ (earlier : ℕ → List ℤ) (depth w : ℕ) (c e d f : ℕ → ℤ) (some : 0 < w) (deep : IsCodedDepth depth)
+    (range : (j : ℕ) → IsDifference depth (d j)) (also : (j : ℕ) → IsDifference depth (f j))
     (determined : (n : ℕ) → ((j : ℕ) → j < n → d j ≡ f j) → c n ≡ e n) where
   pub contexts_to : (n : ℕ) → ((j : ℕ) → j < n → d j ≡ f j) → (j : ℕ) → j ≤ n → c j ≡ e j
   contexts_to n alike j h = determined j (λ i less. alike i (omega arith))
 
-  pub states_alike : (n k : ℕ) → ((j : ℕ) → j < n → d j ≡ f j) → state_before earlier (residuals w c d) k n ≡ state_before earlier (residuals w e f) k n
+  pub states_alike : (n k : ℕ) → ((j : ℕ) → j < n → d j ≡ f j) → state_before earlier (residuals depth w c d) k n ≡ state_before earlier (residuals depth w e f) k n
   states_alike n k alike =
-      let runs : (j : ℕ) → j < n → is_in_run (residuals w c d) j ≡ is_in_run (residuals w e f) j =
-      λ j h. in_run_alike w c e d f j (contexts_to j (λ i less. alike i (omega arith))) (λ i less. alike i (omega arith)) in
-      ap (λ l. fold (λ state value. after_value 8 state value) start_state (earlier k ++ l))
+      let runs : (j : ℕ) → j < n → is_in_run (residuals depth w c d) j ≡ is_in_run (residuals depth w e f) j =
+      λ j h. in_run_alike depth w c e d f j (contexts_to j (λ i less. alike i (omega arith))) (λ i less. alike i (omega arith)) in
+      ap (λ l. fold (λ state value. after_value depth state value) start_state (earlier k ++ l))
       (values_alike n _ _ _ _
-      (λ j h. let r : is_in_run (residuals w c d) j ≡ is_in_run (residuals w e f) j = runs j h in let a : d j ≡ f j = alike j h in
+      (λ j h. let r : is_in_run (residuals depth w c d) j ≡ is_in_run (residuals depth w e f) j = runs j h in let a : d j ≡ f j = alike j h in
       let b : c j ≡ e j = determined j (λ i less. alike i (omega arith)) in rw (r, a, b) refl)
-      (λ j h. let r : is_in_run (residuals w c d) j ≡ is_in_run (residuals w e f) j = runs j h in let a : d j ≡ f j = alike j h in rw (r, a) refl))
+      (λ j h. let r : is_in_run (residuals depth w c d) j ≡ is_in_run (residuals depth w e f) j = runs j h in let a : d j ≡ f j = alike j h in rw (r, a) refl))
 
   -- sample n, after what was read alike
   pub record AfterRun (n next then : ℕ) (rest more : List Bool) : Type 0 where
     pub index : next ≡ then
     pub later : rest ≡ more
-    pub lengths : is_in_run (residuals w c d) n ≡ true → run_length (residuals w c d) n ≡ run_length (residuals w e f) n
+    pub lengths : is_in_run (residuals depth w c d) n ≡ true → run_length (residuals depth w c d) n ≡ run_length (residuals depth w e f) n
 
   -- runs that stand there are one
-  pub runs_alike : (n index then next last : ℕ) (run words rest more : List Bool) → Alike w c e d f n → index ≡ then → run ++ rest ≡ words ++ more
-      → (starts_run (residuals w c d) n ≡ true → SpellsRun (run_length (residuals w c d) n) (left_in_line (residuals w c d) n) index run next)
-      → (starts_run (residuals w c d) n ≡ false → (run ≡ []) × (next ≡ index))
-      → (starts_run (residuals w e f) n ≡ true → SpellsRun (run_length (residuals w e f) n) (left_in_line (residuals w e f) n) then words last)
-      → (starts_run (residuals w e f) n ≡ false → (words ≡ []) × (last ≡ then))
+  pub runs_alike : (n index then next last : ℕ) (run words rest more : List Bool) → Alike depth w c e d f n → index ≡ then → run ++ rest ≡ words ++ more
+      → (starts_run (residuals depth w c d) n ≡ true → SpellsRun (run_length (residuals depth w c d) n) (left_in_line (residuals depth w c d) n) index run next)
+      → (starts_run (residuals depth w c d) n ≡ false → (run ≡ []) × (next ≡ index))
+      → (starts_run (residuals depth w e f) n ≡ true → SpellsRun (run_length (residuals depth w e f) n) (left_in_line (residuals depth w e f) n) then words last)
+      → (starts_run (residuals depth w e f) n ≡ false → (words ≡ []) × (last ≡ then))
       → AfterRun n next last rest more
   runs_alike n index then next last run words rest more alike same joined a_starts a_none b_starts b_none =
-      let runs : is_in_run (residuals w c d) n ≡ is_in_run (residuals w e f) n = in_run_alike w c e d f n (contexts_to n alike.differences) alike.differences in
-      let follows : follows_skipped (residuals w c d) n ≡ follows_skipped (residuals w e f) n =
-      follows_alike w c e d f n (contexts_to n alike.differences) alike.differences in
-      let starts : starts_run (residuals w c d) n ≡ starts_run (residuals w e f) n = rw (runs, follows) refl in
+      let runs : is_in_run (residuals depth w c d) n ≡ is_in_run (residuals depth w e f) n = in_run_alike depth w c e d f n (contexts_to n alike.differences) alike.differences in
+      let follows : follows_skipped (residuals depth w c d) n ≡ follows_skipped (residuals depth w e f) n =
+      follows_alike depth w c e d f n (contexts_to n alike.differences) alike.differences in
+      let starts : starts_run (residuals depth w c d) n ≡ starts_run (residuals depth w e f) n = rw (runs, follows) refl in
       ⊎_elim
       (λ yes.
-      let P : ℕ → Type 0 = λ i. SpellsRun (run_length (residuals w e f) n) (left_in_line (residuals w e f) n) i words last in
+      let P : ℕ → Type 0 = λ i. SpellsRun (run_length (residuals depth w e f) n) (left_in_line (residuals depth w e f) n) i words last in
       let one = one_run _ _ _ _ _ _ run words rest more (a_starts yes) (subst P (sym same) (b_starts (sym starts ∙ yes))) joined in
       record { index = one.1; later = one.2; lengths = λ h. one.0 })
       (λ no.
@@ -171,94 +170,94 @@ module _ (earlier : ℕ → List ℤ) (w : ℕ) (c e d f : ℕ → ℤ) (some : 
       record {
         index = p.1 ∙ same ∙ sym q.1;
         later = ap (λ l. l ++ rest) (sym p.0) ∙ joined ∙ ap (λ l. l ++ more) q.0;
-        lengths = λ h. alike.runs (follows_of (is_in_run (residuals w c d) n) _ h no);
+        lengths = λ h. alike.runs (follows_of (is_in_run (residuals depth w c d) n) _ h no);
       })
-      (cases_Bool (starts_run (residuals w c d) n))
+      (cases_Bool (starts_run (residuals depth w c d) n))
 
-  after_run : (n index then next last : ℕ) (portion words rest more : List Bool) → Alike w c e d f n → index ≡ then → portion ++ rest ≡ words ++ more
-      → (a : SampleSpells earlier (residuals w c d) n index portion next) → (b : SampleSpells earlier (residuals w e f) n then words last)
+  after_run : (n index then next last : ℕ) (portion words rest more : List Bool) → Alike depth w c e d f n → index ≡ then → portion ++ rest ≡ words ++ more
+      → (a : SampleSpells earlier (residuals depth w c d) n index portion next) → (b : SampleSpells earlier (residuals depth w e f) n then words last)
       → AfterRun n next last (a.code ++ rest) (b.code ++ more)
   after_run n index then next last portion words rest more alike same joined a b =
       let inner : a.run ++ (a.code ++ rest) ≡ b.run ++ (b.code ++ more) = sym (append_assoc a.run a.code rest)
       ∙ ap (λ l. l ++ rest) (sym a.joined) ∙ joined ∙ ap (λ l. l ++ more) b.joined ∙ append_assoc b.run b.code more in
       runs_alike n index then next last a.run b.run (a.code ++ rest) (b.code ++ more) alike same inner a.run_starts a.no_run_starts b.run_starts b.no_run_starts
 
-  pub skipped_alike : (n next then : ℕ) (rest more : List Bool) → Alike w c e d f n → AfterRun n next then rest more
-      → is_skipped (residuals w c d) n ≡ is_skipped (residuals w e f) n
+  pub skipped_alike : (n next then : ℕ) (rest more : List Bool) → Alike depth w c e d f n → AfterRun n next then rest more
+      → is_skipped (residuals depth w c d) n ≡ is_skipped (residuals depth w e f) n
   skipped_alike n next then rest more alike after =
-      let runs : is_in_run (residuals w c d) n ≡ is_in_run (residuals w e f) n = in_run_alike w c e d f n (contexts_to n alike.differences) alike.differences in
-      let left : 0 < left_in_line (residuals w c d) n = (let small : n % w < w = omega arith in omega arith) in
+      let runs : is_in_run (residuals depth w c d) n ≡ is_in_run (residuals depth w e f) n = in_run_alike depth w c e d f n (contexts_to n alike.differences) alike.differences in
+      let left : 0 < left_in_line (residuals depth w c d) n = (let small : n % w < w = omega arith in omega arith) in
       ⊎_elim
-      (λ yes. first_skipped (residuals w c d) (residuals w e f) n (left_in_line (residuals w c d) n) (left_in_line (residuals w c d) n - 1) 0 (omega arith)
+      (λ yes. first_skipped (residuals depth w c d) (residuals depth w e f) n (left_in_line (residuals depth w c d) n) (left_in_line (residuals depth w c d) n - 1) 0 (omega arith)
       (after.lengths yes))
-      (λ no. let other : is_in_run (residuals w e f) n ≡ false = sym runs ∙ no in rw (no, other) refl)
-      (cases_Bool (is_in_run (residuals w c d) n))
+      (λ no. let other : is_in_run (residuals depth w e f) n ≡ false = sym runs ∙ no in rw (no, other) refl)
+      (cases_Bool (is_in_run (residuals depth w c d) n))
 
   -- one sample more
-  pub one_sample : (n index then next last : ℕ) (portion words rest more : List Bool) → Alike w c e d f n → index ≡ then → portion ++ rest ≡ words ++ more
-      → SampleSpells earlier (residuals w c d) n index portion next → SampleSpells earlier (residuals w e f) n then words last → (d n ≡ f n) × (next ≡ last)
+  pub one_sample : (n index then next last : ℕ) (portion words rest more : List Bool) → Alike depth w c e d f n → index ≡ then → portion ++ rest ≡ words ++ more
+      → SampleSpells earlier (residuals depth w c d) n index portion next → SampleSpells earlier (residuals depth w e f) n then words last → (d n ≡ f n) × (next ≡ last)
       × (rest ≡ more)
   one_sample n index then next last portion words rest more alike same joined a b =
       let after = after_run n index then next last portion words rest more alike same joined a b in
-      let skipped : is_skipped (residuals w c d) n ≡ is_skipped (residuals w e f) n = skipped_alike n next last _ _ alike after in
-      let runs : is_in_run (residuals w c d) n ≡ is_in_run (residuals w e f) n = in_run_alike w c e d f n (contexts_to n alike.differences) alike.differences in
+      let skipped : is_skipped (residuals depth w c d) n ≡ is_skipped (residuals depth w e f) n = skipped_alike n next last _ _ alike after in
+      let runs : is_in_run (residuals depth w c d) n ≡ is_in_run (residuals depth w e f) n = in_run_alike depth w c e d f n (contexts_to n alike.differences) alike.differences in
       let here : c n ≡ e n = determined n alike.differences in
       ⊎_elim
       (λ yes.
-      let p = and_parts (is_in_run (residuals w c d) n) (is_zero (d n)) yes in
-      let q = and_parts (is_in_run (residuals w e f) n) (is_zero (f n)) (sym skipped ∙ yes) in
-      let un : is_coded (residuals w c d) n ≡ false = ap not yes in
-      let un' : is_coded (residuals w e f) n ≡ false = ap not (sym skipped ∙ yes) in (
+      let p = and_parts (is_in_run (residuals depth w c d) n) (is_zero (d n)) yes in
+      let q = and_parts (is_in_run (residuals depth w e f) n) (is_zero (f n)) (sym skipped ∙ yes) in
+      let un : is_coded (residuals depth w c d) n ≡ false = ap not yes in
+      let un' : is_coded (residuals depth w e f) n ≡ false = ap not (sym skipped ∙ yes) in (
         zero_of (d n) p.1 ∙ sym (zero_of (f n) q.1),
         after.index,
         ap (λ l. l ++ rest) (sym (a.not_coded un)) ∙ after.later ∙ ap (λ l. l ++ more) (b.not_coded un'),
       ))
       (λ no.
-      let co : is_coded (residuals w c d) n ≡ true = ap not no in
-      let co' : is_coded (residuals w e f) n ≡ true = ap not (sym skipped ∙ no) in
+      let co : is_coded (residuals depth w c d) n ≡ true = ap not no in
+      let co' : is_coded (residuals depth w e f) n ≡ true = ap not (sym skipped ∙ no) in
       let first = a.coded co in
       let second = b.coded co' in
-      let states : state_before earlier (residuals w e f) (nat_abs (e n)) n ≡ state_before earlier (residuals w c d) (nat_abs (c n)) n =
-      sym (states_alike n (nat_abs (e n)) alike.differences) ∙ ap (λ z. state_before earlier (residuals w c d) (nat_abs z) n) (sym here) in
-      let second' : SpellsValue 8 (state_before earlier (residuals w c d) (nat_abs (c n)) n) (value_at (residuals w e f) n) b.code = rw (← states) second in
-      let one = one_value 8 _ _ _ a.code b.code rest more bytes (value_range _ _ (range n)) (value_range _ _ (also n)) first second' after.later in
-      let values : decoded_value (is_in_run (residuals w c d) n) (d n) ≡ decoded_value (is_in_run (residuals w c d) n) (f n) = one.0
+      let states : state_before earlier (residuals depth w e f) (nat_abs (e n)) n ≡ state_before earlier (residuals depth w c d) (nat_abs (c n)) n =
+      sym (states_alike n (nat_abs (e n)) alike.differences) ∙ ap (λ z. state_before earlier (residuals depth w c d) (nat_abs z) n) (sym here) in
+      let second' : SpellsValue depth (state_before earlier (residuals depth w c d) (nat_abs (c n)) n) (value_at (residuals depth w e f) n) b.code = rw (← states) second in
+      let one = one_value depth _ _ _ a.code b.code rest more deep (value_range depth _ _ (range n)) (value_range depth _ _ (also n)) first second' after.later in
+      let values : decoded_value (is_in_run (residuals depth w c d) n) (d n) ≡ decoded_value (is_in_run (residuals depth w c d) n) (f n) = one.0
       ∙ ap (λ l. decoded_value l (f n)) (sym runs) in (
-        one_difference (is_in_run (residuals w c d) n) (d n) (f n)
-            (λ t. nonzero_of (d n) (not_both (is_in_run (residuals w c d) n) _ t no))
-            (λ t. nonzero_of (f n) (not_both (is_in_run (residuals w e f) n) _ (sym runs ∙ t) (sym skipped ∙ no)))
+        one_difference (is_in_run (residuals depth w c d) n) (d n) (f n)
+            (λ t. nonzero_of (d n) (not_both (is_in_run (residuals depth w c d) n) _ t no))
+            (λ t. nonzero_of (f n) (not_both (is_in_run (residuals depth w e f) n) _ (sym runs ∙ t) (sym skipped ∙ no)))
             values,
         after.index,
         one.1,
       ))
-      (cases_Bool (is_skipped (residuals w c d) n))
+      (cases_Bool (is_skipped (residuals depth w c d) n))
 
   -- what is alike before the next sample, too
-  alike_more : (n next last : ℕ) (rest more : List Bool) → Alike w c e d f n → AfterRun n next last rest more → d n ≡ f n → Alike w c e d f (n + 1)
+  alike_more : (n next last : ℕ) (rest more : List Bool) → Alike depth w c e d f n → AfterRun n next last rest more → d n ≡ f n → Alike depth w c e d f (n + 1)
   unfolding follows_skipped
   alike_more n next last rest more alike after here = record {
     contexts = λ j h. determined j (λ i less. alike.differences i (omega arith));
     differences = λ j h. ⊎_elim (λ less. alike.differences j less) (λ most. let j_is : j ≡ n = omega arith in rw j_is here) (cases_lt j n);
     runs = λ follows.
-        let runs : is_in_run (residuals w c d) n ≡ is_in_run (residuals w e f) n =
-        in_run_alike w c e d f n (contexts_to n alike.differences) alike.differences in
-        let opened : (not (begins_line (residuals w c d) (suc n)) && is_skipped (residuals w c d) n) ≡ true =
-        ap (λ k. follows_skipped (residuals w c d) k) (let k : suc n ≡ n + 1 = omega arith in k) ∙ follows in
-        let both = and_parts (not (begins_line (residuals w c d) (suc n))) (is_skipped (residuals w c d) n) opened in
-        let skip : is_skipped (residuals w c d) n ≡ true = both.1 in
-        let skip' : is_skipped (residuals w e f) n ≡ true = rw (← runs, ← here) skip in
-        let length = after.lengths ((and_parts (is_in_run (residuals w c d) n) (is_zero (d n)) skip).0) in
+        let runs : is_in_run (residuals depth w c d) n ≡ is_in_run (residuals depth w e f) n =
+        in_run_alike depth w c e d f n (contexts_to n alike.differences) alike.differences in
+        let opened : (not (begins_line (residuals depth w c d) (suc n)) && is_skipped (residuals depth w c d) n) ≡ true =
+        ap (λ k. follows_skipped (residuals depth w c d) k) (let k : suc n ≡ n + 1 = omega arith in k) ∙ follows in
+        let both = and_parts (not (begins_line (residuals depth w c d) (suc n))) (is_skipped (residuals depth w c d) n) opened in
+        let skip : is_skipped (residuals depth w c d) n ≡ true = both.1 in
+        let skip' : is_skipped (residuals depth w e f) n ≡ true = rw (← runs, ← here) skip in
+        let length = after.lengths ((and_parts (is_in_run (residuals depth w c d) n) (is_zero (d n)) skip).0) in
         let small : n % w < w = omega arith in
         let k : suc n ≡ n + 1 = omega arith in
-        let inside : eqb ((n + 1) % w) 0 ≡ false = ap (λ j. eqb (j % w) 0) (sym k) ∙ not-true (begins_line (residuals w c d) (suc n)) both.0 in
+        let inside : eqb ((n + 1) % w) 0 ≡ false = ap (λ j. eqb (j % w) 0) (sym k) ∙ not-true (begins_line (residuals depth w c d) (suc n)) both.0 in
         let column : (n + 1) % w ≡ n % w + 1 = next_column n w some inside in
-        let left : left_in_line (residuals w c d) n ≡ suc (w - (n + 1) % w) = omega arith in
-        length_after (residuals w c d) (residuals w e f) n (left_in_line (residuals w c d) n) (w - (n + 1) % w) left skip skip' length;
+        let left : left_in_line (residuals depth w c d) n ≡ suc (w - (n + 1) % w) = omega arith in
+        length_after (residuals depth w c d) (residuals depth w e f) n (left_in_line (residuals depth w c d) n) (w - (n + 1) % w) left skip skip' length;
   }
 
-  pub one_reading : (n : ℕ) (front words rest more : List Bool) (next last : ℕ) → SamplesSpell earlier (residuals w c d) n front next
-      → SamplesSpell earlier (residuals w e f) n words last
-      → front ++ rest ≡ words ++ more → Alike w c e d f n × (next ≡ last) × (rest ≡ more)
+  pub one_reading : (n : ℕ) (front words rest more : List Bool) (next last : ℕ) → SamplesSpell earlier (residuals depth w c d) n front next
+      → SamplesSpell earlier (residuals depth w e f) n words last
+      → front ++ rest ≡ words ++ more → Alike depth w c e d f n × (next ≡ last) × (rest ≡ more)
   unfolding SamplesSpell follows_skipped
   one_reading zero front words rest more next last a b same = (
     record { contexts = λ j h. absurd (omega arith); differences = λ j h. absurd (omega arith); runs = λ h. absurd cc },
@@ -271,6 +270,6 @@ module _ (earlier : ℕ → List ℤ) (w : ℕ) (c e d f : ℕ → ℤ) (some : 
       let before = one_reading n a0 b0 (a1 ++ rest) (b1 ++ more) a2 b2 a4 b4 joined in
       let after = after_run n a2 b2 next last a1 b1 rest more before.0 before.1 before.2 a5 b5 in
       let sample = one_sample n a2 b2 next last a1 b1 rest more before.0 before.1 before.2 a5 b5 in
-      let all : Alike w c e d f (n + 1) = alike_more n next last _ _ before.0 after sample.0 in
+      let all : Alike depth w c e d f (n + 1) = alike_more n next last _ _ before.0 after sample.0 in
       let n_is : n + 1 ≡ suc n = omega arith in
-      (subst (Alike w c e d f) n_is all, sample.1, sample.2)
+      (subst (Alike depth w c e d f) n_is all, sample.1, sample.2)

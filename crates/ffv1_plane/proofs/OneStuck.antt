@@ -3,6 +3,7 @@ use Rattle.std.proofs.Common.{◌≡◌, ◌≢◌, ℕ, zero, suc, ◌/◌, ◌
 use Rattle.std.specs.Prelude.{◌==◌, Err}
 use Rattle.std.proofs.lemmas.Bool.{cases_lt}
 use Rattle.std.proofs.lemmas.Nat.{div-mul-add, mod-mul-add}
+use Rattle.ffv1_rice.proofs.Depths.{bytes}
 use Rattle.ffv1_bits.specs.Bits.{bits_of}
 use Rattle.ffv1_range.specs.Header.{IsHeadOf, header_limits, head_read}
 use Rattle.ffv1_range.specs.Setup.{SetupValue, IsInProfile, set_entry}
@@ -11,7 +12,7 @@ use Rattle.ffv1_range.specs.declared.head.HeadFault.{HeadFault}
 use Rattle.ffv1_range.specs.declared.head.SliceHead.{SliceHead}
 use Rattle.ffv1_range.proofs.HeaderFound.{head_run}
 use Rattle.ffv1_rice.specs.declared.code.CodeFault.{CodeFault}
-use Rattle.ffv1_plane.specs.Samples.{context_at, difference_at}
+use Rattle.ffv1_plane.specs.Samples.{context_at, difference_at, coding_at}
 use Rattle.ffv1_plane.specs.Spelling.{residuals_of, PlaneSpells, values_after}
 use Rattle.ffv1_plane.specs.Picture.{PictureValue, ArePlanesOf, samples_of, plane_set, shaped_plane, tile_plane, no_values, IsPictureOf}
 use Rattle.ffv1_plane.specs.Stuck.{IsWordRefused, values_before_plane, PlanesBelow, scan_place, AreBitsStuck, IsStuckAt}
@@ -64,8 +65,8 @@ module _ (setup : SetupValue) (head : SliceHead) (profile : IsInProfile setup) (
       → ((j : ℕ) → j < k → difference_at (tile_plane setup head planes n) j ≡ difference_at (tile_plane setup head others n) j)
       → context_at (tile_plane setup head planes n) k ≡ context_at (tile_plane setup head others n) k
   plane_determined n planes others there a b =
-      contexts_alike _ (set_entry setup (plane_set head n)) (some_columns setup head profile inside n) (samples_of planes n) (samples_of others n)
-      (a.sizes n there).bytes (b.sizes n there).bytes
+      contexts_alike _ (coding_at 8 (set_entry setup (plane_set head n))) (some_columns setup head profile inside n) bytes (samples_of planes n) (samples_of others n)
+      (a.sizes n there).small (b.sizes n there).small
 
   plane_excludes : (n : ℕ) (planes others : List (List ℕ)) (earlier : ℕ → List ℤ) (s : ℕ) (part rest front tail : List Bool) (fault : CodeFault)
       → n < plane_count (grid_of setup) → ArePlanesOf setup head.tile planes → ArePlanesOf setup head.tile others
@@ -75,8 +76,8 @@ module _ (setup : SetupValue) (head : SliceHead) (profile : IsInProfile setup) (
   plane_excludes n planes others earlier s part rest front tail fault there a b low refused spells same =
       let p = tile_plane setup head planes n in
       let q = tile_plane setup head others n in
-      refused_excludes earlier _ (context_at p) (context_at q) (difference_at p) (difference_at q) (some_columns setup head profile inside n)
-      (difference_range p) (difference_range q) (plane_determined n planes others there a b)
+      refused_excludes earlier 8 _ (context_at p) (context_at q) (difference_at p) (difference_at q) (some_columns setup head profile inside n) bytes
+      (λ j. difference_range p j bytes) (λ j. difference_range q j bytes) (plane_determined n planes others there a b)
       s (length (samples_of others n)) spells.0 part rest front tail fault low refused spells.1 same
 
   plane_one : (n : ℕ) (planes others : List (List ℕ)) (earlier : ℕ → List ℤ) (s t : ℕ) (part rest more tail : List Bool) (fault other : CodeFault)
@@ -87,8 +88,8 @@ module _ (setup : SetupValue) (head : SliceHead) (profile : IsInProfile setup) (
   plane_one n planes others earlier s t part rest more tail fault other there a b refused refused_too same =
       let p = tile_plane setup head planes n in
       let q = tile_plane setup head others n in
-      refused_one earlier _ (context_at p) (context_at q) (difference_at p) (difference_at q) (some_columns setup head profile inside n)
-      (difference_range p) (difference_range q) (plane_determined n planes others there a b)
+      refused_one earlier 8 _ (context_at p) (context_at q) (difference_at p) (difference_at q) (some_columns setup head profile inside n) bytes
+      (λ j. difference_range p j bytes) (λ j. difference_range q j bytes) (plane_determined n planes others there a b)
       s t part rest more tail fault other refused refused_too same
 
   after_whole : (bits front whole part others : List Bool) → bits ≡ front ++ others → front ≡ whole ++ part → bits ≡ whole ++ (part ++ others)

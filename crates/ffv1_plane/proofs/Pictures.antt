@@ -3,6 +3,7 @@ use Rattle.std.proofs.Common.{◌≡◌, ℕ, zero, suc, ◌-◌, ◌^◌, ◌<�
 use Rattle.std.specs.Prelude.{◌==◌}
 use Rattle.std.specs.Int.{div_ceil}
 use Rattle.std.proofs.lemmas.List.{append-nil, ext_get_or, take_all}
+use Rattle.ffv1_rice.proofs.Depths.{bytes}
 use Rattle.ffv1_bits.specs.Limits.{greatest_side}
 use Rattle.ffv1_bits.specs.Bits.{bits_of}
 use Rattle.ffv1_range.specs.Header.{IsHeadOf, HeadLimits, header_limits}
@@ -14,7 +15,7 @@ use Rattle.ffv1_range.proofs.TileLaws.{each_tile}
 use Rattle.ffv1_range.proofs.HeaderFound.{head_run}
 use Rattle.ffv1_range.proofs.Spelling.{same_ok}
 use Rattle.ffv1_rice.specs.States.{ContextState}
-use Rattle.ffv1_plane.specs.Samples.{plane_of}
+use Rattle.ffv1_plane.specs.Samples.{plane_of, coding_at}
 use Rattle.ffv1_plane.specs.Spelling.{PlaneSpells, values_after}
 use Rattle.ffv1_plane.specs.Progress.{AreStatesAfter}
 use Rattle.ffv1_plane.specs.Inner.Progress.{IsPlaneRead}
@@ -69,10 +70,10 @@ plane_within_is setup tile plane rect profile there is = subst IsWithinLimits (s
 
 pub same_plane : (rect : TileRect) (entry : ℕ → ℕ → ℤ) (earlier : ℕ → List ℤ) (samples others : List ℕ) (front words rest more : List Bool) → 1 ≤ rect.w
     → IsPlaneIn rect samples → IsPlaneIn rect others
-    → PlaneSpells earlier (plane_of rect.w entry samples) front → PlaneSpells earlier (plane_of rect.w entry others) words → front ++ rest ≡ words ++ more
+    → PlaneSpells earlier (plane_of rect.w (coding_at 8 entry) samples) front → PlaneSpells earlier (plane_of rect.w (coding_at 8 entry) others) words → front ++ rest ≡ words ++ more
     → (samples ≡ others) × (rest ≡ more)
 same_plane rect entry earlier samples others front words rest more some is also spells spells_too same =
-    one_plane rect.w entry some samples others is.bytes also.bytes earlier front words rest more (is.count ∙ sym also.count) spells spells_too same
+    one_plane rect.w (coding_at 8 entry) some bytes samples others is.small also.small earlier front words rest more (is.count ∙ sym also.count) spells spells_too same
 
 -- ---- the groups
 
@@ -102,12 +103,12 @@ module _ (setup : SetupValue) (head : SliceHead) (profile : IsInProfile setup) (
       a.cr_spells (subst P (sym first.0) b.cr_spells) first.1 in
       (first.0, second.0, second.1)
 
-  pub chroma_read : (bits mid rest : List Bool) (states between after : List ContextState) (cb cr : List ℕ) → AreStatesAfter no_values states
+  pub chroma_read : (bits mid rest : List Bool) (states between after : List ContextState) (cb cr : List ℕ) → AreStatesAfter 8 no_values states
       → IsPlaneIn (plane_rect (grid_of setup) head.tile 1) cb → IsPlaneIn (plane_rect (grid_of setup) head.tile 2) cr
       → IsPlaneRead (plane_rect (grid_of setup) head.tile 1).w (plane_rect (grid_of setup) head.tile 1).h
-      (set_entry setup (plane_set head 1)) states bits cb between mid
+      (coding_at 8 (set_entry setup (plane_set head 1))) states bits cb between mid
       → IsPlaneRead (plane_rect (grid_of setup) head.tile 2).w (plane_rect (grid_of setup) head.tile 2).h
-      (set_entry setup (plane_set head 2)) between mid cr after rest → IsChromaRead setup head bits cb cr rest
+      (coding_at 8 (set_entry setup (plane_set head 2))) between mid cr after rest → IsChromaRead setup head bits cb cr rest
   chroma_read bits mid rest states between after cb cr fresh cb_size cr_size first second =
       let one = first no_values fresh in
       let two = second (values_after no_values (shaped_plane setup head 1 cb)) one.3 in

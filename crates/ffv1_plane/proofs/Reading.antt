@@ -3,10 +3,11 @@ use Rattle.std.proofs.Common.{◌≡◌, ℕ, zero, suc, ◌+◌, ◌-◌, ◌%�
 use Rattle.std.proofs.lemmas.List.{get_or_append_left, get_or_push, length_push, get_or-set_same, get_or-set_other, length-set, append-nil, get_or_read}
 use Rattle.std.proofs.lemmas.Bool.{cases_eq, cases_lt, ne_eqb, cases_Bool, or_from, and_right}
 use Rattle.std.proofs.lemmas.Int.{ints}
-use Rattle.ffv1_rice.specs.States.{ContextState, start_state, after_value, fold}
+use Rattle.ffv1_rice.proofs.Folds.{fold_zero}
+use Rattle.ffv1_rice.specs.States.{ContextState, start_state, after_value, fold, IsCodedDepth}
 use Rattle.ffv1_rice.specs.Codes.{IsCodeFault, decoded_value, IsCoded, IsCodedDifference, SpellsValue}
 use Rattle.ffv1_bits.specs.Reader.{Reading}
-use Rattle.ffv1_plane.specs.Samples.{SamplesAbout, plane_of, neighbours_at, prediction_of, context_of, difference_of}
+use Rattle.ffv1_plane.specs.Samples.{SamplesAbout, plane_of, neighbours_at, prediction_of, context_of, difference_of, Coding}
 use Rattle.ffv1_plane.specs.Spelling.{Residuals, residuals_of, context_number, is_zero, is_in_run, is_skipped, is_coded, value_at, state_after, state_before, values_after, samples_before, follows_skipped, SamplesSpell, PlaneSpells}
 use Rattle.ffv1_plane.specs.Progress.{AreStatesAfter}
 use Rattle.ffv1_plane.specs.Inner.Progress.{IsSampleRead, IsReadTo, IsRunRead, AreSkipped, Progress}
@@ -26,29 +27,29 @@ this_one old more x =
     let longer : length old < length (old ++ x ∷ []) = omega (arith, length_push old x) in
     get_or_append_left (old ++ x ∷ []) more 0 (length old) longer ∙ get_or_push old x 0 (length old) refl
 
-pub sample_read : (width : ℕ) (entry : ℕ → ℕ → ℤ) (level : Bool) (old new : List ℕ) (states after : List ContextState) (bits rest : Reading)
+pub sample_read : (width : ℕ) (coding : Coding) (level : Bool) (old new : List ℕ) (states after : List ContextState) (bits rest : Reading)
     (near : SamplesAbout) (context difference : ℤ) (x : ℕ) → 1 ≤ width
-    → near ≡ neighbours_at width old (length old) → context ≡ context_of entry near → difference_of context (prediction_of near) x ≡ difference
-    → new ≡ old ++ x ∷ [] → IsCodedDifference 8 level difference → nat_abs context < length states
-    → IsCoded 8 (get_or states (nat_abs context) start_state) level difference bits rest
-    → after ≡ set states (nat_abs context) (after_value 8 (get_or states (nat_abs context) start_state) (decoded_value level difference))
-    → IsSampleRead width entry level old states bits.left new after rest.left
+    → near ≡ neighbours_at width old (length old) → context ≡ context_of coding.entry near → difference_of coding.depth context (prediction_of near) x ≡ difference
+    → new ≡ old ++ x ∷ [] → IsCodedDifference coding.depth level difference → nat_abs context < length states
+    → IsCoded coding.depth (get_or states (nat_abs context) start_state) level difference bits rest
+    → after ≡ set states (nat_abs context) (after_value coding.depth (get_or states (nat_abs context) start_state) (decoded_value level difference))
+    → IsSampleRead width coding level old states bits.left new after rest.left
 unfolding residuals_of
-sample_read width entry level old new states after bits rest near context difference x some near_is context_is difference_is pushed given below coded stepped =
+sample_read width coding level old new states after bits rest near context difference x some near_is context_is difference_is pushed given below coded stepped =
     let around = λ (more : List ℕ). neighbours_same width (length old) some ((old ++ x ∷ []) ++ more) old (same_before old more x) ∙ sym near_is in
     record {
       sample = x;
       difference = difference;
       context = nat_abs context;
       pushed = pushed;
-      is_context = λ more. ap (λ l. nat_abs (context_of entry (neighbours_at width (l ++ more) (length old)))) pushed
-          ∙ ap (λ z. nat_abs (context_of entry z)) (around more) ∙ ap nat_abs (sym context_is);
+      is_context = λ more. ap (λ l. nat_abs (context_of coding.entry (neighbours_at width (l ++ more) (length old)))) pushed
+          ∙ ap (λ z. nat_abs (context_of coding.entry z)) (around more) ∙ ap nat_abs (sym context_is);
       is_difference = λ more.
-          ap (λ l. difference_of (context_of entry (neighbours_at width (l ++ more) (length old)))
+          ap (λ l. difference_of coding.depth (context_of coding.entry (neighbours_at width (l ++ more) (length old)))
           (prediction_of (neighbours_at width (l ++ more) (length old))) (get_or (l ++ more) (length old) 0)) pushed
-          ∙ ap (λ z. difference_of (context_of entry z) (prediction_of z) (get_or ((old ++ x ∷ []) ++ more) (length old) 0)) (around more)
-          ∙ ap (λ y. difference_of (context_of entry near) (prediction_of near) y) (this_one old more x)
-          ∙ ap (λ z. difference_of z (prediction_of near) x) (sym context_is) ∙ difference_is;
+          ∙ ap (λ z. difference_of coding.depth (context_of coding.entry z) (prediction_of z) (get_or ((old ++ x ∷ []) ++ more) (length old) 0)) (around more)
+          ∙ ap (λ y. difference_of coding.depth (context_of coding.entry near) (prediction_of near) y) (this_one old more x)
+          ∙ ap (λ z. difference_of coding.depth z (prediction_of near) x) (sym context_is) ∙ difference_is;
       given = given;
       below = below;
       code = coded.code;
@@ -70,22 +71,22 @@ nonzero_is x h = ⊎_elim (λ yes. absurd (h (zero_of x yes))) (λ not_zero. not
 states_step : (earlier : ℕ → List ℤ) (r : Residuals) (s k j : ℕ) (states : List ContextState) (value : ℤ) → k < length states → is_coded r s ≡ true
     → context_number r s ≡ k → value_at r s ≡ value
     → ((i : ℕ) → i < length states → get_or states i start_state ≡ state_before earlier r i s) → j < length states
-    → get_or (set states k (after_value 8 (get_or states k start_state) value)) j start_state ≡ state_before earlier r j (suc s)
+    → get_or (set states k (after_value r.depth (get_or states k start_state) value)) j start_state ≡ state_before earlier r j (suc s)
 states_step earlier r s k j states value below coded is value_is before inside =
     let more = state_more earlier r j s in
     ⊎_elim
     (λ same.
     let test : (is_coded r s && eqb (context_number r s) j) ≡ true = rw (coded, is) (eq-eqb k j same) in
-    let new : after_value 8 (get_or states k start_state) value ≡ after_value 8 (state_before earlier r j s) (value_at r s) =
-    ap (λ z. after_value 8 z value) (before k below ∙ ap (λ i. state_before earlier r i s) same) ∙ ap (after_value 8 (state_before earlier r j s)) (sym value_is) in
-    ap (λ i. get_or (set states k (after_value 8 (get_or states k start_state) value)) i start_state) (sym same)
+    let new : after_value r.depth (get_or states k start_state) value ≡ after_value r.depth (state_before earlier r j s) (value_at r s) =
+    ap (λ z. after_value r.depth z value) (before k below ∙ ap (λ i. state_before earlier r i s) same) ∙ ap (after_value r.depth (state_before earlier r j s)) (sym value_is) in
+    ap (λ i. get_or (set states k (after_value r.depth (get_or states k start_state) value)) i start_state) (sym same)
     ∙ get_or-set_same states k _ start_state below ∙ new ∙ sym (more ∙ ap
-    (λ t. cond t (after_value 8 (state_before earlier r j s) (value_at r s)) (state_before earlier r j s)) test))
+    (λ t. cond t (after_value r.depth (state_before earlier r j s) (value_at r s)) (state_before earlier r j s)) test))
     (λ other.
     let apart : j ≢ k = λ e. other (sym e) in
     let test : (is_coded r s && eqb (context_number r s) j) ≡ false = rw (coded, is) (ne_eqb k j other) in
     get_or-set_other states k j _ start_state apart ∙ before j inside
-    ∙ sym (more ∙ ap (λ t. cond t (after_value 8 (state_before earlier r j s) (value_at r s)) (state_before earlier r j s)) test))
+    ∙ sym (more ∙ ap (λ t. cond t (after_value r.depth (state_before earlier r j s) (value_at r s)) (state_before earlier r j s)) test))
     (cases_eq k j)
 
 -- a state that is there after one of them was set was there before
@@ -94,34 +95,35 @@ within_before states after j k state h stepped = omega (arith, h, ap length step
 
 -- ---- one scalar further
 
-pub scalar_read : (earlier : ℕ → List ℤ) (width : ℕ) (entry : ℕ → ℕ → ℤ) (bits left rest : List Bool) (old new : List ℕ) (index : ℕ)
-    (states after : List ContextState) → IsReadTo earlier width entry bits old index states left
-    → (read : IsSampleRead width entry false old states left new after rest) → 0 < read.context → IsReadTo earlier width entry bits new index after rest
-scalar_read earlier width entry bits left rest old new index states after so_far read some =
+pub scalar_read : (earlier : ℕ → List ℤ) (width : ℕ) (coding : Coding) (bits left rest : List Bool) (old new : List ℕ) (index : ℕ)
+    (states after : List ContextState) → IsReadTo earlier width coding bits old index states left
+    → (read : IsSampleRead width coding false old states left new after rest) → 0 < read.context → IsReadTo earlier width coding bits new index after rest
+unfolding residuals_of
+scalar_read earlier width coding bits left rest old new index states after so_far read some =
     let s = length old in
     let lists = λ (more : List ℕ). let e : old ++ (read.sample ∷ more) ≡ new ++ more = sym (append_assoc old (read.sample ∷ []) more)
     ∙ ap (λ l. l ++ more) (sym read.pushed) in e in
     let longer : suc (length old) ≡ length new = omega (arith, ap length read.pushed, length_push old read.sample) in
-    let outside = λ (more : List ℕ). scalar_context (residuals_of (plane_of width entry (new ++ more))) s
-    (let h : 0 < context_number (residuals_of (plane_of width entry (new ++ more))) s = omega (arith, read.is_context more) in h) in
-    let before = λ (more : List ℕ). let P : List ℕ → Type 0 = λ l. Progress earlier (residuals_of (plane_of width entry l)) s bits index left in
+    let outside = λ (more : List ℕ). scalar_context (residuals_of (plane_of width coding (new ++ more))) s
+    (let h : 0 < context_number (residuals_of (plane_of width coding (new ++ more))) s = omega (arith, read.is_context more) in h) in
+    let before = λ (more : List ℕ). let P : List ℕ → Type 0 = λ l. Progress earlier (residuals_of (plane_of width coding l)) s bits index left in
     subst P (lists more) (so_far.progress (read.sample ∷ more)) in
     let states_before = λ (more : List ℕ) (k : ℕ) (h : k < length states). let P : List ℕ
-    → Type 0 = λ l. get_or states k start_state ≡ state_before earlier (residuals_of (plane_of width entry l)) k s in
+    → Type 0 = λ l. get_or states k start_state ≡ state_before earlier (residuals_of (plane_of width coding l)) k s in
     subst P (lists more) (so_far.states_are (read.sample ∷ more) k h) in
     record {
       progress = λ more.
-          let r = residuals_of (plane_of width entry (new ++ more)) in
+          let r = residuals_of (plane_of width coding (new ++ more)) in
           let state : get_or states read.context start_state ≡ state_before earlier r (context_number r s) s = states_before more read.context read.below
           ∙ ap (λ k. state_before earlier r k s) (sym (read.is_context more)) in
-          let spells : SpellsValue 8 (state_before earlier r (context_number r s) s) (r.difference s) read.code =
-          (let P : ContextState → Type 0 = λ z. SpellsValue 8 z (r.difference s) read.code in subst P state
-          (let Q : ℤ → Type 0 = λ z. SpellsValue 8 (get_or states read.context start_state) z read.code in
+          let spells : SpellsValue coding.depth (state_before earlier r (context_number r s) s) (r.difference s) read.code =
+          (let P : ContextState → Type 0 = λ z. SpellsValue coding.depth z (r.difference s) read.code in subst P state
+          (let Q : ℤ → Type 0 = λ z. SpellsValue coding.depth (get_or states read.context start_state) z read.code in
           subst Q (sym (read.is_difference more)) read.spells)) in
           let R : ℕ → Type 0 = λ n. Progress earlier r n bits index rest in
           subst R longer (scalar_step earlier r s index bits read.code left rest (before more) (outside more) spells read.begins);
       states_are = λ more k h.
-          let r = residuals_of (plane_of width entry (new ++ more)) in
+          let r = residuals_of (plane_of width coding (new ++ more)) in
           let run : is_in_run r s ≡ false = in_run_is r s ∙ or_from _ _ (outside more) ((before more).fresh) in
           let coded : is_coded r s ≡ true = rw run refl in
           let value : value_at r s ≡ decoded_value false read.difference = ap (λ l. decoded_value l (r.difference s)) run ∙ read.is_difference more in
@@ -141,91 +143,91 @@ skipped_states earlier r s k (suc n) skipped =
     let test : (is_coded r (s + n) && eqb (context_number r (s + n)) k) ≡ false = rw (ap not skip) refl in
     ap (λ i. state_before earlier r k i) (let e : s + suc n ≡ suc (s + n) = omega arith in e)
     ∙ state_more earlier r k (s + n)
-    ∙ ap (λ t. cond t (after_value 8 (state_before earlier r k (s + n)) (value_at r (s + n))) (state_before earlier r k (s + n))) test
+    ∙ ap (λ t. cond t (after_value r.depth (state_before earlier r k (s + n)) (value_at r (s + n))) (state_before earlier r k (s + n))) test
     ∙ skipped_states earlier r s k n (λ j h. skipped j (omega arith))
 
-module _ (earlier : ℕ → List ℤ) (width : ℕ) (entry : ℕ → ℕ → ℤ) (some : 0 < width) (bits left : List Bool) (old mid : List ℕ) (index : ℕ)
-    (states : List ContextState) (so_far : IsReadTo earlier width entry bits old index states left)
-    (zero_context : (more : List ℕ) → is_zero ((residuals_of (plane_of width entry (old ++ more))).context (length old)) ≡ true)
-    (n next : ℕ) (tail : List Bool) (run : IsRunRead (width - length old % width) index left n next tail) (skips : AreSkipped width entry old mid n) where
+module _ (earlier : ℕ → List ℤ) (width : ℕ) (coding : Coding) (some : 0 < width) (bits left : List Bool) (old mid : List ℕ) (index : ℕ)
+    (states : List ContextState) (so_far : IsReadTo earlier width coding bits old index states left)
+    (zero_context : (more : List ℕ) → is_zero ((residuals_of (plane_of width coding (old ++ more))).context (length old)) ≡ true)
+    (n next : ℕ) (tail : List Bool) (run : IsRunRead (width - length old % width) index left n next tail) (skips : AreSkipped width coding old mid n) where
   pub lists_mid : (more : List ℕ) → old ++ (skips.samples ++ more) ≡ mid ++ more
   lists_mid more = sym (append_assoc old skips.samples more) ∙ ap (λ l. l ++ more) (sym skips.pushed)
 
   pub longer_mid : length mid ≡ length old + n
   longer_mid = omega (arith, ap length skips.pushed, length-append old skips.samples, skips.count)
 
-  pub before_mid : (more : List ℕ) → Progress earlier (residuals_of (plane_of width entry (mid ++ more))) (length old) bits index left
-  before_mid more = let P : List ℕ → Type 0 = λ l. Progress earlier (residuals_of (plane_of width entry l)) (length old) bits index left in
+  pub before_mid : (more : List ℕ) → Progress earlier (residuals_of (plane_of width coding (mid ++ more))) (length old) bits index left
+  before_mid more = let P : List ℕ → Type 0 = λ l. Progress earlier (residuals_of (plane_of width coding l)) (length old) bits index left in
       subst P (lists_mid more) (so_far.progress (skips.samples ++ more))
 
-  pub zero_mid : (more : List ℕ) → is_zero ((residuals_of (plane_of width entry (mid ++ more))).context (length old)) ≡ true
-  zero_mid more = let P : List ℕ → Type 0 = λ l. is_zero ((residuals_of (plane_of width entry l)).context (length old)) ≡ true in
+  pub zero_mid : (more : List ℕ) → is_zero ((residuals_of (plane_of width coding (mid ++ more))).context (length old)) ≡ true
+  zero_mid more = let P : List ℕ → Type 0 = λ l. is_zero ((residuals_of (plane_of width coding l)).context (length old)) ≡ true in
       subst P (lists_mid more) (zero_context (skips.samples ++ more))
 
   pub states_mid : (more : List ℕ) (k : ℕ) → k < length states → get_or states k start_state ≡ state_before earlier
-      (residuals_of (plane_of width entry (mid ++ more))) k (length old + n)
+      (residuals_of (plane_of width coding (mid ++ more))) k (length old + n)
   unfolding residuals_of
   states_mid more k h =
-      let r = residuals_of (plane_of width entry (mid ++ more)) in
-      let P : List ℕ → Type 0 = λ l. get_or states k start_state ≡ state_before earlier (residuals_of (plane_of width entry l)) k (length old) in
+      let r = residuals_of (plane_of width coding (mid ++ more)) in
+      let P : List ℕ → Type 0 = λ l. get_or states k start_state ≡ state_before earlier (residuals_of (plane_of width coding l)) k (length old) in
       subst P (lists_mid more) (so_far.states_are (skips.samples ++ more) k h)
       ∙ sym (skipped_states earlier r (length old) k n (skipped_to earlier r some (length old) n (zero_mid more) ((before_mid more).fresh) (run.fits)
       (skips.zero_differences more)))
 
-  pub run_end_read : width - length old % width ≡ n → IsReadTo earlier width entry bits mid next states tail
+  pub run_end_read : width - length old % width ≡ n → IsReadTo earlier width coding bits mid next states tail
   unfolding residuals_of
   run_end_read whole = record {
     progress = λ more.
-        let r = residuals_of (plane_of width entry (mid ++ more)) in
+        let r = residuals_of (plane_of width coding (mid ++ more)) in
         let P : ℕ → Type 0 = λ i. Progress earlier r i bits next tail in
         subst P (sym longer_mid) (run_end earlier r some (length old) n (zero_mid more) ((before_mid more).fresh) run.fits
         (skips.zero_differences more) index next run.run run.spelled (inl whole) bits left tail whole (before_mid more) run.begins);
-    states_are = λ more k h. states_mid more k h ∙ ap (λ i. state_before earlier (residuals_of (plane_of width entry (mid ++ more))) k i) (sym longer_mid);
+    states_are = λ more k h. states_mid more k h ∙ ap (λ i. state_before earlier (residuals_of (plane_of width coding (mid ++ more))) k i) (sym longer_mid);
   }
 
   module _ (new : List ℕ) (after : List ContextState) (rest : List Bool) (inside : n < width - length old % width)
-      (read : IsSampleRead width entry true mid states tail new after rest) where
+      (read : IsSampleRead width coding true mid states tail new after rest) where
     lists_new : (more : List ℕ) → mid ++ (read.sample ∷ more) ≡ new ++ more
     lists_new more = sym (append_assoc mid (read.sample ∷ []) more) ∙ ap (λ l. l ++ more) (sym read.pushed)
 
     longer_new : suc (length old + n) ≡ length new
     longer_new = omega (arith, ap length read.pushed, length_push mid read.sample, longer_mid)
 
-    level_new : (more : List ℕ) → is_zero ((residuals_of (plane_of width entry (new ++ more))).difference (length old + n)) ≡ false
+    level_new : (more : List ℕ) → is_zero ((residuals_of (plane_of width coding (new ++ more))).difference (length old + n)) ≡ false
     level_new more =
-        let r = residuals_of (plane_of width entry (new ++ more)) in
+        let r = residuals_of (plane_of width coding (new ++ more)) in
         let here : r.difference (length old + n) ≡ read.difference = ap r.difference (sym longer_mid) ∙ read.is_difference more in
         ap is_zero here ∙ nonzero_is read.difference (read.given.1 refl)
 
-    progress_new : (more : List ℕ) → Progress earlier (residuals_of (plane_of width entry (new ++ more))) (length old) bits index left
-    progress_new more = let P : List ℕ → Type 0 = λ l. Progress earlier (residuals_of (plane_of width entry l)) (length old) bits index left in
+    progress_new : (more : List ℕ) → Progress earlier (residuals_of (plane_of width coding (new ++ more))) (length old) bits index left
+    progress_new more = let P : List ℕ → Type 0 = λ l. Progress earlier (residuals_of (plane_of width coding l)) (length old) bits index left in
         subst P (lists_new more) (before_mid (read.sample ∷ more))
 
-    zero_new : (more : List ℕ) → is_zero ((residuals_of (plane_of width entry (new ++ more))).context (length old)) ≡ true
-    zero_new more = let P : List ℕ → Type 0 = λ l. is_zero ((residuals_of (plane_of width entry l)).context (length old)) ≡ true in
+    zero_new : (more : List ℕ) → is_zero ((residuals_of (plane_of width coding (new ++ more))).context (length old)) ≡ true
+    zero_new more = let P : List ℕ → Type 0 = λ l. is_zero ((residuals_of (plane_of width coding l)).context (length old)) ≡ true in
         subst P (lists_new more) (zero_mid (read.sample ∷ more))
 
-    skipped_new : (more : List ℕ) (j : ℕ) → j < n → is_zero ((residuals_of (plane_of width entry (new ++ more))).difference (length old + j)) ≡ true
-    skipped_new more j h = let P : List ℕ → Type 0 = λ l. is_zero ((residuals_of (plane_of width entry l)).difference (length old + j)) ≡ true in
+    skipped_new : (more : List ℕ) (j : ℕ) → j < n → is_zero ((residuals_of (plane_of width coding (new ++ more))).difference (length old + j)) ≡ true
+    skipped_new more j h = let P : List ℕ → Type 0 = λ l. is_zero ((residuals_of (plane_of width coding l)).difference (length old + j)) ≡ true in
         subst P (lists_new more) (skips.zero_differences (read.sample ∷ more) j h)
 
     states_new : (more : List ℕ) (k : ℕ) → k < length states → get_or states k start_state ≡ state_before earlier
-        (residuals_of (plane_of width entry (new ++ more))) k (length old + n)
-    states_new more k h = let P : List ℕ → Type 0 = λ l. get_or states k start_state ≡ state_before earlier (residuals_of (plane_of width entry l)) k
+        (residuals_of (plane_of width coding (new ++ more))) k (length old + n)
+    states_new more k h = let P : List ℕ → Type 0 = λ l. get_or states k start_state ≡ state_before earlier (residuals_of (plane_of width coding l)) k
         (length old + n) in subst P (lists_new more) (states_mid (read.sample ∷ more) k h)
 
-    pub run_level_read : IsReadTo earlier width entry bits new next after rest
+    pub run_level_read : IsReadTo earlier width coding bits new next after rest
     unfolding residuals_of
     run_level_read = record {
       progress = λ more.
-          let r = residuals_of (plane_of width entry (new ++ more)) in
+          let r = residuals_of (plane_of width coding (new ++ more)) in
           let s = length old in
           let context : context_number r (s + n) ≡ read.context = ap (context_number r) (sym longer_mid) ∙ read.is_context more in
           let difference : r.difference (s + n) ≡ read.difference = ap r.difference (sym longer_mid) ∙ read.is_difference more in
           let state : get_or states read.context start_state ≡ state_before earlier r (context_number r (s + n)) (s + n) =
           states_new more read.context read.below ∙ ap (λ k. state_before earlier r k (s + n)) (sym context) in
-          let P : ContextState → Type 0 = λ z. SpellsValue 8 z (decoded_value true (r.difference (s + n))) read.code in
-          let Q : ℤ → Type 0 = λ z. SpellsValue 8 (get_or states read.context start_state) (decoded_value true z) read.code in
+          let P : ContextState → Type 0 = λ z. SpellsValue coding.depth z (decoded_value true (r.difference (s + n))) read.code in
+          let Q : ℤ → Type 0 = λ z. SpellsValue coding.depth (get_or states read.context start_state) (decoded_value true z) read.code in
           let R : ℕ → Type 0 = λ i. Progress earlier r i bits next rest in
           subst R longer_new (run_level earlier r some s n (zero_new more) ((progress_new more).fresh) run.fits
           (skipped_new more) index next run.run run.spelled
@@ -233,7 +235,7 @@ module _ (earlier : ℕ → List ℤ) (width : ℕ) (entry : ℕ → ℕ → ℤ
           (progress_new more)
           (run.begins ∙ ap (λ l. run.run ++ l) read.begins));
       states_are = λ more k h.
-          let r = residuals_of (plane_of width entry (new ++ more)) in
+          let r = residuals_of (plane_of width coding (new ++ more)) in
           let s = length old in
           let in_it : is_in_run r (s + n) ≡ true = in_run_to earlier r some s n (zero_new more) ((progress_new more).fresh) run.fits (skipped_new more) n
           (omega arith) inside in
@@ -249,42 +251,46 @@ module _ (earlier : ℕ → List ℤ) (width : ℕ) (entry : ℕ → ℕ → ℤ
 
 -- ---- the whole plane
 
-pub whole_plane : (earlier : ℕ → List ℤ) (width : ℕ) (entry : ℕ → ℕ → ℤ) (bits left : List Bool) (samples : List ℕ) (index : ℕ) (states : List ContextState)
-    → IsReadTo earlier width entry bits samples index states left
-    → (front : List Bool) × (bits ≡ front ++ left) × PlaneSpells earlier (plane_of width entry samples) front
-    × AreStatesAfter (values_after earlier (plane_of width entry samples)) states
-whole_plane earlier width entry bits left samples index states read =
-    let P : List ℕ → Type 0 = λ l. Progress earlier (residuals_of (plane_of width entry l)) (length samples) bits index left in
-    let p : Progress earlier (residuals_of (plane_of width entry samples)) (length samples) bits index left = subst P (append-nil samples) (read.progress []) in
-    let Q : List ℕ → Type 0 = λ l. (k : ℕ) → k < length states → get_or states k start_state ≡ state_before earlier (residuals_of (plane_of width entry l)) k
+pub whole_plane : (earlier : ℕ → List ℤ) (width : ℕ) (coding : Coding) (bits left : List Bool) (samples : List ℕ) (index : ℕ) (states : List ContextState)
+    → IsReadTo earlier width coding bits samples index states left
+    → (front : List Bool) × (bits ≡ front ++ left) × PlaneSpells earlier (plane_of width coding samples) front
+    × AreStatesAfter coding.depth (values_after earlier (plane_of width coding samples)) states
+unfolding residuals_of
+whole_plane earlier width coding bits left samples index states read =
+    let P : List ℕ → Type 0 = λ l. Progress earlier (residuals_of (plane_of width coding l)) (length samples) bits index left in
+    let p : Progress earlier (residuals_of (plane_of width coding samples)) (length samples) bits index left = subst P (append-nil samples) (read.progress []) in
+    let Q : List ℕ → Type 0 = λ l. (k : ℕ) → k < length states → get_or states k start_state ≡ state_before earlier (residuals_of (plane_of width coding l)) k
     (length samples) in
     (p.front, p.begins, (index, p.spells), subst Q (append-nil samples) (read.states_are []))
 
-pub no_samples : (earlier : ℕ → List ℤ) (width : ℕ) (entry : ℕ → ℕ → ℤ) (bits : List Bool) (states : List ContextState) → AreStatesAfter earlier states
-    → IsReadTo earlier width entry bits [] 0 states bits
-unfolding SamplesSpell follows_skipped samples_before
-no_samples earlier width entry bits states fresh = record {
+pub no_samples : (earlier : ℕ → List ℤ) (width : ℕ) (coding : Coding) (bits : List Bool) (states : List ContextState) → AreStatesAfter coding.depth earlier states
+    → IsReadTo earlier width coding bits [] 0 states bits
+unfolding SamplesSpell follows_skipped samples_before residuals_of
+no_samples earlier width coding bits states fresh = record {
   progress = λ more. record { front = []; begins = refl; spells = (refl, refl); fresh = refl };
-  states_are = λ more k h. fresh k h ∙ ap state_after (sym (append-nil (earlier k)));
+  states_are = λ more k h. fresh k h ∙ ap (state_after coding.depth) (sym (append-nil (earlier k)));
 }
 
 -- ---- one skipped sample further
 
-pub same_zero : (context : ℤ) (p : ℕ) → difference_of context p p ≡ pos 0
+pub same_zero : (n : ℕ) (context : ℤ) (p : ℕ) → IsCodedDepth n → difference_of n context p p ≡ pos 0
 unfolding difference_of
-same_zero context p = either (int_lt context (pos 0))
+same_zero n context p depth = either (int_lt context (pos 0))
   where
-    either : (t : Bool) → cond t (fold 8 (pos p -ℤ pos p)) (fold 8 (pos p -ℤ pos p)) ≡ pos 0
-    either true = ap (fold 8) (let z : pos p -ℤ pos p ≡ pos 0 = omega (arith, ints) in z)
-    either false = ap (fold 8) (let z : pos p -ℤ pos p ≡ pos 0 = omega (arith, ints) in z)
+    none : fold n (pos p -ℤ pos p) ≡ pos 0
+    none = ap (fold n) (let z : pos p -ℤ pos p ≡ pos 0 = omega (arith, ints) in z) ∙ fold_zero n depth
 
-pub none_skipped : (width : ℕ) (entry : ℕ → ℕ → ℤ) (old : List ℕ) → AreSkipped width entry old old 0
-none_skipped width entry old = record { samples = []; pushed = sym (append-nil old); count = refl; zero_differences = λ more j h. absurd (omega arith) }
+    either : (t : Bool) → cond t (fold n (pos p -ℤ pos p)) (fold n (pos p -ℤ pos p)) ≡ pos 0
+    either true = none
+    either false = none
 
-pub skip_more : (width : ℕ) (entry : ℕ → ℕ → ℤ) (old mid new : List ℕ) (n x : ℕ) (near : SamplesAbout) → 1 ≤ width → AreSkipped width entry old mid n
-    → near ≡ neighbours_at width mid (length mid) → x ≡ prediction_of near → new ≡ mid ++ x ∷ [] → AreSkipped width entry old new (n + 1)
+pub none_skipped : (width : ℕ) (coding : Coding) (old : List ℕ) → AreSkipped width coding old old 0
+none_skipped width coding old = record { samples = []; pushed = sym (append-nil old); count = refl; zero_differences = λ more j h. absurd (omega arith) }
+
+pub skip_more : (width : ℕ) (coding : Coding) (old mid new : List ℕ) (n x : ℕ) (near : SamplesAbout) → 1 ≤ width → IsCodedDepth coding.depth → AreSkipped width coding old mid n
+    → near ≡ neighbours_at width mid (length mid) → x ≡ prediction_of near → new ≡ mid ++ x ∷ [] → AreSkipped width coding old new (n + 1)
 unfolding residuals_of
-skip_more width entry old mid new n x near some skips near_is x_is pushed =
+skip_more width coding old mid new n x near some deep skips near_is x_is pushed =
     let longer : length mid ≡ length old + n = omega (arith, ap length skips.pushed, length-append old skips.samples, skips.count) in
     let around = λ (more : List ℕ). neighbours_same width (length mid) some ((mid ++ x ∷ []) ++ more) mid (same_before mid more x) ∙ sym near_is in
     record {
@@ -294,26 +300,26 @@ skip_more width entry old mid new n x near some skips near_is x_is pushed =
       zero_differences = λ more j h. ⊎_elim
           (λ less.
           let lists : mid ++ (x ∷ more) ≡ new ++ more = sym (append_assoc mid (x ∷ []) more) ∙ ap (λ l. l ++ more) (sym pushed) in
-          let P : List ℕ → Type 0 = λ l. is_zero ((residuals_of (plane_of width entry l)).difference (length old + j)) ≡ true in
+          let P : List ℕ → Type 0 = λ l. is_zero ((residuals_of (plane_of width coding l)).difference (length old + j)) ≡ true in
           subst P lists (skips.zero_differences (x ∷ more) j less))
           (λ most.
           let place : length mid ≡ length old + j = omega (arith, longer) in
-          let here : difference_of (context_of entry (neighbours_at width (new ++ more) (length mid)))
+          let here : difference_of coding.depth (context_of coding.entry (neighbours_at width (new ++ more) (length mid)))
           (prediction_of (neighbours_at width (new ++ more) (length mid))) (get_or (new ++ more) (length mid) 0) ≡ pos 0 =
-          ap (λ l. difference_of (context_of entry (neighbours_at width (l ++ more) (length mid)))
+          ap (λ l. difference_of coding.depth (context_of coding.entry (neighbours_at width (l ++ more) (length mid)))
           (prediction_of (neighbours_at width (l ++ more) (length mid))) (get_or (l ++ more) (length mid) 0)) pushed
-          ∙ ap (λ z. difference_of (context_of entry z) (prediction_of z) (get_or ((mid ++ x ∷ []) ++ more) (length mid) 0)) (around more)
-          ∙ ap (λ y. difference_of (context_of entry near) (prediction_of near) y) (this_one mid more x ∙ x_is)
-          ∙ same_zero _ _ in
-          let P : ℕ → Type 0 = λ i. is_zero ((residuals_of (plane_of width entry (new ++ more))).difference i) ≡ true in
+          ∙ ap (λ z. difference_of coding.depth (context_of coding.entry z) (prediction_of z) (get_or ((mid ++ x ∷ []) ++ more) (length mid) 0)) (around more)
+          ∙ ap (λ y. difference_of coding.depth (context_of coding.entry near) (prediction_of near) y) (this_one mid more x ∙ x_is)
+          ∙ same_zero _ _ _ deep in
+          let P : ℕ → Type 0 = λ i. is_zero ((residuals_of (plane_of width coding (new ++ more))).difference i) ≡ true in
           subst P place (ap is_zero here))
           (cases_lt j n);
     }
 
 -- some skipped, and then more
-pub skip_on : (width : ℕ) (entry : ℕ → ℕ → ℤ) (old mid new : List ℕ) (n m : ℕ) → AreSkipped width entry old mid n → AreSkipped width entry mid new m
-    → AreSkipped width entry old new (n + m)
-skip_on width entry old mid new n m first second =
+pub skip_on : (width : ℕ) (coding : Coding) (old mid new : List ℕ) (n m : ℕ) → AreSkipped width coding old mid n → AreSkipped width coding mid new m
+    → AreSkipped width coding old new (n + m)
+skip_on width coding old mid new n m first second =
     let longer : length mid ≡ length old + n = omega (arith, ap length first.pushed, length-append old first.samples, first.count) in
     record {
       samples = first.samples ++ second.samples;
@@ -322,31 +328,31 @@ skip_on width entry old mid new n m first second =
       zero_differences = λ more j h. ⊎_elim
           (λ less.
           let lists : mid ++ (second.samples ++ more) ≡ new ++ more = sym (append_assoc mid second.samples more) ∙ ap (λ l. l ++ more) (sym second.pushed) in
-          let P : List ℕ → Type 0 = λ l. is_zero ((residuals_of (plane_of width entry l)).difference (length old + j)) ≡ true in
+          let P : List ℕ → Type 0 = λ l. is_zero ((residuals_of (plane_of width coding l)).difference (length old + j)) ≡ true in
           subst P lists (first.zero_differences (second.samples ++ more) j less))
           (λ later.
           let place : length mid + (j - n) ≡ length old + j = omega (arith, longer) in
-          let P : ℕ → Type 0 = λ i. is_zero ((residuals_of (plane_of width entry (new ++ more))).difference i) ≡ true in
+          let P : ℕ → Type 0 = λ i. is_zero ((residuals_of (plane_of width coding (new ++ more))).difference i) ≡ true in
           subst P place (second.zero_differences more (j - n) (omega arith)))
           (cases_lt j n);
     }
 
 -- the same, as the code has it: the number i of the context, the state z that stood there, numbers that were passed
-pub sample_read_at : (width : ℕ) (entry : ℕ → ℕ → ℤ) (level : Bool) (old new : List ℕ) (states : List ContextState) (bits rest : Reading)
+pub sample_read_at : (width : ℕ) (coding : Coding) (level : Bool) (old new : List ℕ) (states : List ContextState) (bits rest : Reading)
     (near : SamplesAbout) (context passed difference given : ℤ) (x i p : ℕ) (z stepped : ContextState) → 1 ≤ width
-    → near ≡ neighbours_at width old (length old) → context ≡ context_of entry near → p ≡ prediction_of near → passed ≡ context → given ≡ difference
-    → difference_of passed p x ≡ given → new ≡ old ++ x ∷ [] → IsCodedDifference 8 level difference → i ≡ nat_abs context → i < length states
-    → z ≡ get_or states i z → IsCoded 8 z level difference bits rest
-    → stepped ≡ after_value 8 z (decoded_value level difference) → IsSampleRead width entry level old states bits.left new (set states i stepped) rest.left
-sample_read_at width entry level old new states bits rest near context passed difference given x i p z stepped some near_is context_is p_is passed_is given_is
+    → near ≡ neighbours_at width old (length old) → context ≡ context_of coding.entry near → p ≡ prediction_of near → passed ≡ context → given ≡ difference
+    → difference_of coding.depth passed p x ≡ given → new ≡ old ++ x ∷ [] → IsCodedDifference coding.depth level difference → i ≡ nat_abs context → i < length states
+    → z ≡ get_or states i z → IsCoded coding.depth z level difference bits rest
+    → stepped ≡ after_value coding.depth z (decoded_value level difference) → IsSampleRead width coding level old states bits.left new (set states i stepped) rest.left
+sample_read_at width coding level old new states bits rest near context passed difference given x i p z stepped some near_is context_is p_is passed_is given_is
     difference_is pushed range i_is below z_is coded stepped_is =
     let z_there : z ≡ get_or states (nat_abs context) start_state = get_or_read states i z below z_is start_state
     ∙ ap (λ k. get_or states k start_state) i_is in
-    let P : ContextState → Type 0 = λ s. IsCoded 8 s level difference bits rest in
-    sample_read width entry level old new states (set states i stepped) bits rest near context difference x some near_is context_is
-    (ap (λ c. difference_of c (prediction_of near) x) (sym passed_is) ∙ ap (λ q. difference_of passed q x) (sym p_is) ∙ difference_is ∙ given_is)
+    let P : ContextState → Type 0 = λ s. IsCoded coding.depth s level difference bits rest in
+    sample_read width coding level old new states (set states i stepped) bits rest near context difference x some near_is context_is
+    (ap (λ c. difference_of coding.depth c (prediction_of near) x) (sym passed_is) ∙ ap (λ q. difference_of coding.depth passed q x) (sym p_is) ∙ difference_is ∙ given_is)
     pushed range (omega (arith, below, i_is)) (subst P z_there coded)
-    (ap (λ k. set states k stepped) i_is ∙ ap (set states (nat_abs context)) (stepped_is ∙ ap (λ s. after_value 8 s (decoded_value level difference)) z_there))
+    (ap (λ k. set states k stepped) i_is ∙ ap (set states (nat_abs context)) (stepped_is ∙ ap (λ s. after_value coding.depth s (decoded_value level difference)) z_there))
 
 some_abs : (z : ℤ) → z ≢ pos 0 → 0 < nat_abs z
 some_abs (pos zero) h = absurd (h refl)
@@ -355,38 +361,38 @@ some_abs (negsuc n) h = omega arith
 
 -- ---- the same two steps, by what the code looked at
 
-pub context_here : (width : ℕ) (entry : ℕ → ℕ → ℤ) (old more : List ℕ) (near : SamplesAbout) → 1 ≤ width → near ≡ neighbours_at width old (length old)
-    → (residuals_of (plane_of width entry (old ++ more))).context (length old) ≡ context_of entry near
+pub context_here : (width : ℕ) (coding : Coding) (old more : List ℕ) (near : SamplesAbout) → 1 ≤ width → near ≡ neighbours_at width old (length old)
+    → (residuals_of (plane_of width coding (old ++ more))).context (length old) ≡ context_of coding.entry near
 unfolding residuals_of
-context_here width entry old more near some near_is =
-    ap (context_of entry) (neighbours_same width (length old) some (old ++ more) old (λ j h. get_or_append_left old more 0 j h) ∙ sym near_is)
+context_here width coding old more near some near_is =
+    ap (context_of coding.entry) (neighbours_same width (length old) some (old ++ more) old (λ j h. get_or_append_left old more 0 j h) ∙ sym near_is)
 
-pub zero_here : (width : ℕ) (entry : ℕ → ℕ → ℤ) (old : List ℕ) (near : SamplesAbout) (context : ℤ) → 1 ≤ width → near ≡ neighbours_at width old (length old)
-    → context ≡ context_of entry near → context ≡ pos 0
-    → (more : List ℕ) → is_zero ((residuals_of (plane_of width entry (old ++ more))).context (length old)) ≡ true
-zero_here width entry old near context some near_is context_is zero_is more =
-    ap is_zero (context_here width entry old more near some near_is ∙ sym context_is ∙ zero_is)
+pub zero_here : (width : ℕ) (coding : Coding) (old : List ℕ) (near : SamplesAbout) (context : ℤ) → 1 ≤ width → near ≡ neighbours_at width old (length old)
+    → context ≡ context_of coding.entry near → context ≡ pos 0
+    → (more : List ℕ) → is_zero ((residuals_of (plane_of width coding (old ++ more))).context (length old)) ≡ true
+zero_here width coding old near context some near_is context_is zero_is more =
+    ap is_zero (context_here width coding old more near some near_is ∙ sym context_is ∙ zero_is)
 
-pub scalar_read_at : (earlier : ℕ → List ℤ) (width : ℕ) (entry : ℕ → ℕ → ℤ) (old new : List ℕ) (index : ℕ) (states after : List ContextState)
+pub scalar_read_at : (earlier : ℕ → List ℤ) (width : ℕ) (coding : Coding) (old new : List ℕ) (index : ℕ) (states after : List ContextState)
     (left rest : List Bool) (near : SamplesAbout) (context : ℤ) → 1 ≤ width → near ≡ neighbours_at width old (length old)
-    → context ≡ context_of entry near → context ≢ pos 0 → IsSampleRead width entry false old states left new after rest
-    → (bits : List Bool) → IsReadTo earlier width entry bits old index states left → IsReadTo earlier width entry bits new index after rest
-scalar_read_at earlier width entry old new index states after left rest near context some near_is context_is not_zero read bits so_far =
+    → context ≡ context_of coding.entry near → context ≢ pos 0 → IsSampleRead width coding false old states left new after rest
+    → (bits : List Bool) → IsReadTo earlier width coding bits old index states left → IsReadTo earlier width coding bits new index after rest
+scalar_read_at earlier width coding old new index states after left rest near context some near_is context_is not_zero read bits so_far =
     let lists : new ++ [] ≡ old ++ (read.sample ∷ []) = append-nil new ∙ read.pushed in
     let given : nat_abs context ≡ read.context =
-    ap nat_abs (context_is ∙ sym (context_here width entry old (read.sample ∷ []) near some near_is))
-    ∙ ap (λ l. context_number (residuals_of (plane_of width entry l)) (length old)) (sym lists) ∙ read.is_context [] in
+    ap nat_abs (context_is ∙ sym (context_here width coding old (read.sample ∷ []) near some near_is))
+    ∙ ap (λ l. context_number (residuals_of (plane_of width coding l)) (length old)) (sym lists) ∙ read.is_context [] in
     let large : 0 < nat_abs context = some_abs context not_zero in
-    scalar_read earlier width entry bits left rest old new index states after so_far read (omega (arith, given, large))
+    scalar_read earlier width coding bits left rest old new index states after so_far read (omega (arith, given, large))
 
 -- where the code can't be read under the state that stood there
-pub code_halted_at : (width : ℕ) (entry : ℕ → ℕ → ℤ) (level : Bool) (samples : List ℕ) (states : List ContextState) (bits : List Bool) (near : SamplesAbout)
+pub code_halted_at : (width : ℕ) (coding : Coding) (level : Bool) (samples : List ℕ) (states : List ContextState) (bits : List Bool) (near : SamplesAbout)
     (context : ℤ) (i sample : ℕ) (z : ContextState) (fault : CodeFault)
-    → near ≡ neighbours_at width samples (length samples) → context ≡ context_of entry near → i ≡ nat_abs context → i < length states → z ≡ get_or states i z
-    → IsCodeFault 8 z level bits fault → sample ≡ length samples → IsCodeHalted width entry level samples states bits fault sample
-code_halted_at width entry level samples states bits near context i sample z fault near_is context_is i_is below z_is given place =
-    let number : i ≡ next_context width entry samples = i_is ∙ ap nat_abs (context_is ∙ ap (context_of entry) near_is) in
-    let z_there : z ≡ get_or states (next_context width entry samples) start_state = get_or_read states i z below z_is start_state
+    → near ≡ neighbours_at width samples (length samples) → context ≡ context_of coding.entry near → i ≡ nat_abs context → i < length states → z ≡ get_or states i z
+    → IsCodeFault coding.depth z level bits fault → sample ≡ length samples → IsCodeHalted width coding level samples states bits fault sample
+code_halted_at width coding level samples states bits near context i sample z fault near_is context_is i_is below z_is given place =
+    let number : i ≡ next_context width coding samples = i_is ∙ ap nat_abs (context_is ∙ ap (context_of coding.entry) near_is) in
+    let z_there : z ≡ get_or states (next_context width coding samples) start_state = get_or_read states i z below z_is start_state
     ∙ ap (λ k. get_or states k start_state) number in
-    let P : ContextState → Type 0 = λ s. IsCodeFault 8 s level bits fault in
+    let P : ContextState → Type 0 = λ s. IsCodeFault coding.depth s level bits fault in
     record { place = place; below = omega (arith, number, below); given = subst P z_there given }

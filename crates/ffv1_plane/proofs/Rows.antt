@@ -1,14 +1,15 @@
 -- The lines of a reader: their cells are the samples about the next one, and a row further they are so again.
-use Rattle.std.proofs.Common.{◌≡◌, ℕ, zero, suc, ◌+◌, ◌-◌, ◌*◌, ◌/◌, ◌%◌, ◌<◌, ◌≤◌, ◌≢◌, false, eqb, min, List, [], ◌∷◌, ◌++◌, length, take, drop, get_or, set, replicate, refl, sym, ap, ◌∙◌, append_assoc, arith, inl, inr, ⊎_elim, length-append, get_or-set_other, get_or-set_same}
+use Rattle.std.proofs.Common.{◌≡◌, ℕ, zero, suc, ◌+◌, ◌-◌, ◌*◌, ◌/◌, ◌%◌, ◌<◌, ◌≤◌, ◌≢◌, false, eqb, min, List, [], ◌∷◌, ◌++◌, length, take, drop, get_or, set, replicate, refl, sym, ap, ◌∙◌, append_assoc, arith, inl, inr, ⊎_elim, length-append, get_or-set_other, get_or-set_same, ◌^◌}
 use Rattle.std.proofs.Math.Seq.{get_or-append_right}
 use Rattle.std.proofs.lemmas.Bool.{cases_lt, lt-ltb, le-ltb}
-use Rattle.std.proofs.lemmas.Nat.{div-add-mod', div-mul-add, mod-mul-add}
+use Rattle.std.proofs.lemmas.Nat.{div-add-mod', div-mul-add, mod-mul-add, pow_pos}
 use Rattle.std.proofs.lemmas.List.{get_or_append_left, get_or-take, get_or-drop, length-take-le, length-drop, length-set, append-nil, drop-set-add, take_more_set, length-replicate}
+use Rattle.ffv1_rice.specs.States.{IsCodedDepth}
 use Rattle.ffv1_bits.specs.Limits.{greatest_side}
 use Rattle.ffv1_plane.specs.Samples.{sample_inside, sample_at, neighbours_at}
 use Rattle.ffv1_plane.specs.Inner.Rows.{AreCellsOf, AreNearLines, samples_so_far}
 use Rattle.ffv1_plane.proofs.Causal.{at_same}
-use Rattle.ffv1_plane.proofs.Halting.{bytes_push}
+use Rattle.ffv1_plane.proofs.Halting.{small_push}
 use Rattle.ffv1_plane.proofs.Wholes.{get_or-zeros}
 
 -- ---- how many samples there are
@@ -16,22 +17,22 @@ use Rattle.ffv1_plane.proofs.Wholes.{get_or-zeros}
 part_long : (w x : ℕ) (line : List ℕ) → length line ≡ w + 3 → x ≤ w → length (take x (drop 2 line)) ≡ x
 part_long w x line long within = length-take-le x (drop 2 line) (omega (arith, length-drop 2 line))
 
-pub count_is : (w x : ℕ) (rows line above far : List ℕ) → AreNearLines w x rows line above far → length (samples_so_far x rows line) ≡ length rows + x
-count_is w x rows line above far h = omega (arith, length-append rows (take x (drop 2 line)), part_long w x line h.line_long h.within)
+pub count_is : (depth w x : ℕ) (rows line above far : List ℕ) → AreNearLines depth w x rows line above far → length (samples_so_far x rows line) ≡ length rows + x
+count_is depth w x rows line above far h = omega (arith, length-append rows (take x (drop 2 line)), part_long w x line h.line_long h.within)
 
 rows_are : (w n : ℕ) → n % w ≡ 0 → n ≡ n / w * w
 rows_are w n whole = omega (arith, div-add-mod' n w)
 
-module _ (w x : ℕ) (rows line above far : List ℕ) (h : AreNearLines w x rows line above far) where
+module _ (depth w x : ℕ) (rows line above far : List ℕ) (h : AreNearLines depth w x rows line above far) where
   pub column_is : x < w → length (samples_so_far x rows line) % w ≡ x
   column_is less =
-      let e : length (samples_so_far x rows line) ≡ length rows / w * w + x = count_is w x rows line above far h
+      let e : length (samples_so_far x rows line) ≡ length rows / w * w + x = count_is depth w x rows line above far h
       ∙ ap (λ n. n + x) (rows_are w (length rows) h.whole) in
       ap (λ n. n % w) e ∙ mod-mul-add (length rows / w) w x less
 
   row_is : x < w → length (samples_so_far x rows line) / w ≡ length rows / w
   row_is less =
-      let e : length (samples_so_far x rows line) ≡ length rows / w * w + x = count_is w x rows line above far h
+      let e : length (samples_so_far x rows line) ≡ length rows / w * w + x = count_is depth w x rows line above far h
       ∙ ap (λ n. n + x) (rows_are w (length rows) h.whole) in
       ap (λ n. n / w) e ∙ div-mul-add (length rows / w) w x less
 
@@ -96,9 +97,9 @@ module _ (w x : ℕ) (rows line above far : List ℕ) (h : AreNearLines w x rows
 
 -- ---- one sample further
 
-pub push_is : (w x : ℕ) (rows line above far : List ℕ) (v : ℕ) → AreNearLines w x rows line above far → x < w
+pub push_is : (depth w x : ℕ) (rows line above far : List ℕ) (v : ℕ) → AreNearLines depth w x rows line above far → x < w
     → samples_so_far (x + 1) rows (set line (x + 2) v) ≡ samples_so_far x rows line ++ v ∷ []
-push_is w x rows line above far v h less =
+push_is depth w x rows line above far v h less =
     let long = h.line_long in
     let inside : x < length (drop 2 line) = omega (arith, length-drop 2 line) in
     let place : x + 2 ≡ 2 + x = omega arith in
@@ -106,15 +107,16 @@ push_is w x rows line above far v h less =
     ap (λ l. rows ++ take (x + 1) l) cells ∙ ap (λ l. rows ++ l) (take_more_set (drop 2 line) x v inside)
     ∙ sym (append_assoc rows (take x (drop 2 line)) (v ∷ []))
 
-pub pushed : (w x : ℕ) (rows line above far : List ℕ) (v : ℕ) → AreNearLines w x rows line above far → x < w → v < 256
-    → AreNearLines w (x + 1) rows (set line (x + 2) v) above far
-pushed w x rows line above far v h less small = record {
+pub pushed : (depth w x : ℕ) (rows line above far : List ℕ) (v : ℕ) → AreNearLines depth w x rows line above far → x < w → v < 2 ^ depth
+    → AreNearLines depth w (x + 1) rows (set line (x + 2) v) above far
+pushed depth w x rows line above far v h less small = record {
+  deep = h.deep;
   some = h.some;
   wide = h.wide;
   within = omega arith;
   whole = h.whole;
-  bytes = λ s. let e = ap (λ l. get_or l s 0) (push_is w x rows line above far v h less) in
-      let b = bytes_push (samples_so_far x rows line) v h.bytes small s in omega (arith, e, b);
+  small = λ s. let e = ap (λ l. get_or l s 0) (push_is depth w x rows line above far v h less) in
+      let b = small_push depth (samples_so_far x rows line) v h.small small s in omega (arith, e, b);
   line_long = length-set line (x + 2) v ∙ h.line_long;
   above_long = h.above_long;
   far_above_long = h.far_above_long;
@@ -124,10 +126,10 @@ pushed w x rows line above far v h less small = record {
 }
 
 -- it is the one to the left of the next
-pub push_left : (w x : ℕ) (rows line above far : List ℕ) (v : ℕ) → AreNearLines w x rows line above far → x < w → v < 256 → x + 1 < w
+pub push_left : (depth w x : ℕ) (rows line above far : List ℕ) (v : ℕ) → AreNearLines depth w x rows line above far → x < w → v < 2 ^ depth → x + 1 < w
     → v ≡ (neighbours_at w (samples_so_far (x + 1) rows (set line (x + 2) v)) (length (samples_so_far (x + 1) rows (set line (x + 2) v)))).left
-push_left w x rows line above far v h less small further =
-    let about = near_is w (x + 1) rows (set line (x + 2) v) above far (pushed w x rows line above far v h less small) further in
+push_left depth w x rows line above far v h less small further =
+    let about = near_is depth w (x + 1) rows (set line (x + 2) v) above far (pushed depth w x rows line above far v h less small) further in
     let place : x + 1 + 1 ≡ x + 2 = omega arith in
     sym (get_or-set_same line (x + 2) v 0 (let long = h.line_long in omega arith))
     ∙ ap (λ i. get_or (set line (x + 2) v) i 0) (sym place) ∙ ap (λ near. near.left) about
@@ -158,10 +160,10 @@ far_border : (w row other : ℕ) (xs ys : List ℕ) → sample_at w xs 0 row ≡
 unfolding sample_at
 far_border w row other xs ys = refl
 
-module _ (w : ℕ) (rows line above far : List ℕ) (h : AreNearLines w w rows line above far) (more moved : List ℕ) (more_is : more ≡ samples_so_far w rows line)
+module _ (depth w : ℕ) (rows line above far : List ℕ) (h : AreNearLines depth w w rows line above far) (more moved : List ℕ) (more_is : more ≡ samples_so_far w rows line)
     (moved_is : moved ≡ set line (w + 2) (get_or line (w + 1) 0)) where
   long_more : length more ≡ (length rows / w + 1) * w + 0
-  long_more = omega (arith, ap length more_is, count_is w w rows line above far h, rows_are w (length rows) h.whole)
+  long_more = omega (arith, ap length more_is, count_is depth w w rows line above far h, rows_are w (length rows) h.whole)
 
   row_more : length more / w ≡ length rows / w + 1
   row_more = ap (λ n. n / w) long_more ∙ div-mul-add (length rows / w + 1) w 0 h.some
@@ -171,25 +173,26 @@ module _ (w : ℕ) (rows line above far : List ℕ) (h : AreNearLines w w rows l
   moved_row column less = ⊎_elim
       (λ inside.
       let other : column ≢ w + 2 = omega arith in
-      ap (λ l. get_or l column 0) moved_is ∙ get_or-set_other line (w + 2) column _ 0 other ∙ line_is w w rows line above far h column inside
+      ap (λ l. get_or l column 0) moved_is ∙ get_or-set_other line (w + 2) column _ 0 other ∙ line_is depth w w rows line above far h column inside
       ∙ ap (λ l. sample_at w l column (length rows / w + 2)) (sym more_is))
       (λ last.
       let is : column ≡ w + 2 = omega arith in
       let there : w + 2 < length line = (let long = h.line_long in omega arith) in
       let border : get_or line (w + 1) 0 ≡ sample_at w more (w + 2) (length rows / w + 2) =
-      line_is w w rows line above far h (w + 1) (omega arith) ∙ ap (λ l. sample_at w l (w + 1) (length rows / w + 2)) (sym more_is)
+      line_is depth w w rows line above far h (w + 1) (omega arith) ∙ ap (λ l. sample_at w l (w + 1) (length rows / w + 2)) (sym more_is)
       ∙ right_border w (length rows / w + 2) more h.some in
       ap (λ l. get_or l column 0) moved_is ∙ ap (λ i. get_or (set line (w + 2) (get_or line (w + 1) 0)) i 0) is ∙ get_or-set_same line (w + 2) _ 0 there
       ∙ border ∙ ap (λ i. sample_at w more i (length rows / w + 2)) (sym is))
       (cases_lt column (w + 2))
 
-  pub rolled : AreNearLines w 0 more (set far 1 (get_or moved 2 0)) moved above
+  pub rolled : AreNearLines depth w 0 more (set far 1 (get_or moved 2 0)) moved above
   rolled = record {
+    deep = h.deep;
     some = h.some;
     wide = h.wide;
     within = omega arith;
     whole = ap (λ n. n % w) long_more ∙ mod-mul-add (length rows / w + 1) w 0 h.some;
-    bytes = λ s. let e = ap (λ l. get_or l s 0) (append-nil more ∙ more_is) in let b = h.bytes s in omega (arith, e, b);
+    small = λ s. let e = ap (λ l. get_or l s 0) (append-nil more ∙ more_is) in let b = h.small s in omega (arith, e, b);
     line_long = length-set far 1 _ ∙ h.far_above_long;
     above_long = ap length moved_is ∙ length-set line (w + 2) _ ∙ h.line_long;
     far_above_long = h.above_long;
@@ -211,7 +214,7 @@ module _ (w : ℕ) (rows line above far : List ℕ) (h : AreNearLines w w rows l
     is_above = λ column less. let row : length rows / w + 2 ≡ length more / w + 1 = omega (arith, row_more) in moved_row column less
         ∙ ap (λ r. sample_at w more column r) row;
     is_far_above = λ column less.
-        h.is_above column less ∙ above_stays w w rows line above far h (take w (drop 2 line)) column (length rows / w + 1) (omega arith)
+        h.is_above column less ∙ above_stays depth w w rows line above far h (take w (drop 2 line)) column (length rows / w + 1) (omega arith)
         ∙ ap (λ l. sample_at w l column (length rows / w + 1)) (sym more_is)
         ∙ ap (λ r. sample_at w more column r) (sym row_more);
   }
@@ -237,14 +240,15 @@ left_of_plane w (suc (suc column)) row first less = absurd (omega arith)
 none_above : (w : ℕ) → 1 ≤ w → 0 / w ≡ 0
 none_above w some = ap (λ n. n / w) (let e : 0 ≡ 0 * w + 0 = omega arith in e) ∙ div-mul-add 0 w 0 some
 
-pub first_lines : (w : ℕ) (line above far : List ℕ) → 1 ≤ w → w ≤ greatest_side → line ≡ replicate (w + 3) 0 → above ≡ replicate (w + 3) 0
-    → far ≡ replicate (w + 3) 0 → AreNearLines w 0 [] line above far
-first_lines w line above far some wide line_zero above_zero far_zero = record {
+pub first_lines : (depth w : ℕ) (line above far : List ℕ) → IsCodedDepth depth → 1 ≤ w → w ≤ greatest_side → line ≡ replicate (w + 3) 0 → above ≡ replicate (w + 3) 0
+    → far ≡ replicate (w + 3) 0 → AreNearLines depth w 0 [] line above far
+first_lines depth w line above far deep some wide line_zero above_zero far_zero = record {
+  deep = deep;
   some = some;
   wide = wide;
   within = omega arith;
   whole = ap (λ n. n % w) (let e : 0 ≡ 0 * w + 0 = omega arith in e) ∙ mod-mul-add 0 w 0 some;
-  bytes = λ s. omega arith;
+  small = λ s. pow_pos depth;
   line_long = ap length line_zero ∙ length-replicate {A = ℕ} (w + 3) 0;
   above_long = ap length above_zero ∙ length-replicate {A = ℕ} (w + 3) 0;
   far_above_long = ap length far_zero ∙ length-replicate {A = ℕ} (w + 3) 0;

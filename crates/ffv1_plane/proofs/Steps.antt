@@ -25,7 +25,7 @@ not_skipped_after r s coded = rw coded (and-false (not (begins_line r (suc s))))
 
 -- a sample that is coded where no run starts
 code_alone : (earlier : ℕ → List ℤ) (r : Residuals) (s index : ℕ) (code : List Bool) → starts_run r s ≡ false → is_skipped r s ≡ false
-    → SpellsValue 8 (state_before earlier r (context_number r s) s) (value_at r s) code → SampleSpells earlier r s index code index
+    → SpellsValue r.depth (state_before earlier r (context_number r s) s) (value_at r s) code → SampleSpells earlier r s index code index
 code_alone earlier r s index code start skip coded =
     record {
       run = [];
@@ -39,7 +39,7 @@ code_alone earlier r s index code start skip coded =
 
 pub scalar_step : (earlier : ℕ → List ℤ) (r : Residuals) (s index : ℕ) (bits code left rest : List Bool) → Progress earlier r s bits index left
     → is_zero (r.context s) ≡ false
-    → SpellsValue 8 (state_before earlier r (context_number r s) s) (r.difference s) code → left ≡ code ++ rest → Progress earlier r (suc s) bits index rest
+    → SpellsValue r.depth (state_before earlier r (context_number r s) s) (r.difference s) code → left ≡ code ++ rest → Progress earlier r (suc s) bits index rest
 unfolding SamplesSpell
 scalar_step earlier r s index bits code left rest p scalar coded is =
     let outside : is_in_run r s ≡ false = in_run_is r s ∙ rw (scalar, p.fresh) refl in
@@ -56,7 +56,7 @@ scalar_step earlier r s index bits code left rest p scalar coded is =
         p.spells,
         code_alone earlier r s index code start skip
             (let value : r.difference s ≡ value_at r s = rw outside refl in
-            subst (λ (v : ℤ). SpellsValue 8 (state_before earlier r (context_number r s) s) v code) value coded),
+            subst (λ (v : ℤ). SpellsValue r.depth (state_before earlier r (context_number r s) s) v code) value coded),
       );
       fresh = not_skipped_after r s skip;
     }
@@ -70,17 +70,17 @@ values_more r k s = ap (map (value_at r)) (filter-append (λ j. is_coded r j && 
     ∙ map-append (value_at r) _ _
 
 pub state_more : (earlier : ℕ → List ℤ) (r : Residuals) (k s : ℕ) → state_before earlier r k (suc s)
-    ≡ cond (is_coded r s && eqb (context_number r s) k) (after_value 8 (state_before earlier r k s) (value_at r s)) (state_before earlier r k s)
+    ≡ cond (is_coded r s && eqb (context_number r s) k) (after_value r.depth (state_before earlier r k s) (value_at r s)) (state_before earlier r k s)
 state_more earlier r k s =
     let apart : earlier k ++ values_before r k (suc s) ≡ (earlier k ++ values_before r k s) ++ map (value_at r)
     (cond (is_coded r s && eqb (context_number r s) k) (s ∷ []) []) =
     ap (λ l. earlier k ++ l) (values_more r k s) ∙ sym (append_assoc (earlier k) (values_before r k s) _) in
-    ap (fold (λ state value. after_value 8 state value) start_state) apart
-    ∙ fold-append (λ state value. after_value 8 state value) start_state (earlier k ++ values_before r k s) _
+    ap (fold (λ state value. after_value r.depth state value) start_state) apart
+    ∙ fold-append (λ state value. after_value r.depth state value) start_state (earlier k ++ values_before r k s) _
     ∙ either (is_coded r s && eqb (context_number r s) k)
   where
-    either : (b : Bool) → fold (λ state value. after_value 8 state value) (state_before earlier r k s) (map (value_at r) (cond b (s ∷ []) [])) ≡ cond b
-        (after_value 8 (state_before earlier r k s) (value_at r s)) (state_before earlier r k s)
+    either : (b : Bool) → fold (λ state value. after_value r.depth state value) (state_before earlier r k s) (map (value_at r) (cond b (s ∷ []) [])) ≡ cond b
+        (after_value r.depth (state_before earlier r k s) (value_at r s)) (state_before earlier r k s)
     either true = refl
     either false = refl
 
@@ -229,15 +229,15 @@ module _ (earlier : ℕ → List ℤ) (r : Residuals) (some : 0 < r.width) (s n 
         }
 
     level_portion : (code : List Bool) → n < left_in_line r s → is_zero (r.difference (s + n)) ≡ false
-        → SpellsValue 8 (state_before earlier r (context_number r (s + n)) (s + n)) (decoded_value true (r.difference (s + n))) code
+        → SpellsValue r.depth (state_before earlier r (context_number r (s + n)) (s + n)) (decoded_value true (r.difference (s + n))) code
         → (front : List Bool) → SamplesSpell earlier r s front index → SamplesSpell earlier r (suc (s + n)) (front ++ (run ++ code)) next
     unfolding SamplesSpell
     level_portion code inside level coded front before =
         let in_it : is_in_run r (s + n) ≡ true = in_run_to n (omega arith) inside in
         let skip : is_skipped r (s + n) ≡ false = rw (in_it, level) refl in
         let value : decoded_value true (r.difference (s + n)) ≡ value_at r (s + n) = rw in_it refl in
-        let coded' : SpellsValue 8 (state_before earlier r (context_number r (s + n)) (s + n)) (value_at r (s + n)) code =
-        subst (λ (v : ℤ). SpellsValue 8 (state_before earlier r (context_number r (s + n)) (s + n)) v code) value coded in
+        let coded' : SpellsValue r.depth (state_before earlier r (context_number r (s + n)) (s + n)) (value_at r (s + n)) code =
+        subst (λ (v : ℤ). SpellsValue r.depth (state_before earlier r (context_number r (s + n)) (s + n)) v code) value coded in
         ⊎_elim
         (λ none.
         let k : s ≡ s + n = omega arith in
@@ -276,7 +276,7 @@ module _ (earlier : ℕ → List ℤ) (r : Residuals) (some : 0 < r.width) (s n 
 
     -- a level ends the run
     pub run_level : (bits left code rest : List Bool) → n < left_in_line r s → is_zero (r.difference (s + n)) ≡ false
-        → SpellsValue 8 (state_before earlier r (context_number r (s + n)) (s + n)) (decoded_value true (r.difference (s + n))) code
+        → SpellsValue r.depth (state_before earlier r (context_number r (s + n)) (s + n)) (decoded_value true (r.difference (s + n))) code
         → Progress earlier r s bits index left → left ≡ run ++ (code ++ rest) → Progress earlier r (suc (s + n)) bits next rest
     run_level bits left code rest inside level coded p is =
         let in_it : is_in_run r (s + n) ≡ true = in_run_to n (omega arith) inside in

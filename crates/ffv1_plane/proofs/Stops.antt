@@ -2,6 +2,7 @@
 use Rattle.std.proofs.Common.{◌≡◌, ℕ, ◌+◌, ◌-◌, ◌*◌, ◌/◌, ◌%◌, ◌<◌, ◌≤◌, Bool, true, false, List, [], ◌∷◌, ◌++◌, replicate, take, drop, length, refl, sym, ap, ◌∙◌, subst, arith, append_assoc, inl, inr, ⊎_elim, ◌⊎◌}
 use Rattle.std.specs.Prelude.{◌==◌}
 use Rattle.std.proofs.lemmas.Nat.{div-add-mod', div_below}
+use Rattle.ffv1_plane.specs.Samples.{coding_at}
 use Rattle.ffv1_bits.specs.Bits.{bits_of}
 use Rattle.ffv1_range.specs.Header.{IsHeadOf, header_limits}
 use Rattle.ffv1_range.specs.Setup.{SetupValue, IsInProfile, set_entry}
@@ -29,7 +30,7 @@ use Rattle.ffv1_plane.proofs.Wholes.{filled}
 pub tile_plane_stops : (setup : SetupValue) (head : SliceHead) (plane : ℕ) (states : List ContextState) (bits : List Bool) (fault : CodeFault) (sample : ℕ)
     → 1 ≤ (plane_rect (grid_of setup) head.tile plane).w
     → IsDecodingHalted (plane_rect (grid_of setup) head.tile plane).w (plane_rect (grid_of setup) head.tile plane).h
-    (set_entry setup (plane_set head plane)) states bits (plane_faults.Code fault sample)
+    (coding_at 8 (set_entry setup (plane_set head plane))) states bits (plane_faults.Code fault sample)
     → IsPlaneOfHalted setup head plane states bits (Code fault plane (sample / (plane_rect (grid_of setup) head.tile plane).w)
     (sample % (plane_rect (grid_of setup) head.tile plane).w))
 tile_plane_stops setup head plane states bits fault sample some halts = (
@@ -41,14 +42,14 @@ tile_plane_stops setup head plane states bits fault sample some halts = (
       record {
         row_there = (let inside = there.inside in div_below sample rect.w rect.h some (omega (arith, inside)));
         column_there = omega (arith, some);
-        halted = subst (λ (k : ℕ). IsPlaneHalted earlier rect.w rect.h (set_entry setup (plane_set head plane)) bits fault k) place there;
+        halted = subst (λ (k : ℕ). IsPlaneHalted earlier rect.w rect.h (coding_at 8 (set_entry setup (plane_set head plane))) bits fault k) place there;
       },
 )
 
 pub cr_stops : (setup : SetupValue) (head : SliceHead) (states between : List ContextState) (bits mid : List Bool) (cb : List ℕ)
-    → AreStatesAfter no_values states → IsPlaneIn (plane_rect (grid_of setup) head.tile 1) cb
+    → AreStatesAfter 8 no_values states → IsPlaneIn (plane_rect (grid_of setup) head.tile 1) cb
     → IsPlaneRead (plane_rect (grid_of setup) head.tile 1).w (plane_rect (grid_of setup) head.tile 1).h
-    (set_entry setup (plane_set head 1)) states bits cb between mid
+    (coding_at 8 (set_entry setup (plane_set head 1))) states bits cb between mid
     → (fault : TileFault) → IsPlaneOfHalted setup head 2 between mid fault → IsChromaHalted setup head bits fault
 cr_stops setup head states between bits mid cb fresh size read (Code fault level y x) h =
     let first = read no_values fresh in
@@ -74,7 +75,7 @@ blank rect = [] ++ replicate (rect.w * rect.h - length {A = ℕ} []) 0
 
 blank_in : (rect : TileRect) → IsPlaneIn rect (blank rect)
 unfolding blank
-blank_in rect = filled rect.w rect.h [] (λ s. omega arith) (omega arith)
+blank_in rect = filled 8 rect.w rect.h [] (λ s. omega arith) (omega arith)
 
 module _ (setup : SetupValue) (head : SliceHead) (profile : IsInProfile setup) (inside : head.tile < tile_count (grid_of setup)) where
   luma_stuck : (bits : List Bool) (fault : CodeFault) (y x : ℕ) → IsTilePlaneHalted setup head 0 no_values bits fault y x

@@ -47,19 +47,19 @@ corrected_some s h = grind arith
 counted_some : (s : ContextState) → 1 ≤ (counted s).count
 counted_some s = grind arith
 
-some_on : (values : List ℤ) (s : ContextState) → 1 ≤ s.count → 1 ≤ (fold (λ state value. after_value 8 state value) s values).count
-some_on [] s h = h
-some_on (v ∷ values) s h = some_on values (after_value 8 s v) (corrected_some (counted (with_value s (coded_value 8 s v)))
-    (counted_some (with_value s (coded_value 8 s v))))
+some_on : (n : ℕ) (values : List ℤ) (s : ContextState) → 1 ≤ s.count → 1 ≤ (fold (λ state value. after_value n state value) s values).count
+some_on n [] s h = h
+some_on n (v ∷ values) s h = some_on n values (after_value n s v) (corrected_some (counted (with_value s (coded_value n s v)))
+    (counted_some (with_value s (coded_value n s v))))
 
-pub some_counted : (values : List ℤ) → 1 ≤ (state_after values).count
-some_counted values = some_on values start_state (omega arith)
+pub some_counted : (n : ℕ) (values : List ℤ) → 1 ≤ (state_after n values).count
+some_counted n values = some_on n values start_state (omega arith)
 
 -- each value has a code after all others
-pub code_of : (values : List ℤ) (value : ℤ) → (code : List Bool) × SpellsValue 8 (state_after values) value code
-code_of values value =
-    let p = parameter_of (state_after values) (some_counted values) in
-    (code_bits 8 (code_number 8 (state_after values) value) p.0, record { parameter = p.0; is_parameter = p.1; same = refl })
+pub code_of : (n : ℕ) (values : List ℤ) (value : ℤ) → (code : List Bool) × SpellsValue n (state_after n values) value code
+code_of n values value =
+    let p = parameter_of (state_after n values) (some_counted n values) in
+    (code_bits n (code_number n (state_after n values) value) p.0, record { parameter = p.0; is_parameter = p.1; same = refl })
 
 -- ---- runs
 
@@ -99,13 +99,13 @@ differ h k = cc
 
 -- the code of a sample, if it is coded
 record CodePart (earlier : ℕ → List ℤ) (r : Residuals) (s : ℕ) (code : List Bool) : Type 0 where
-  coded : is_coded r s ≡ true → SpellsValue 8 (state_before earlier r (context_number r s) s) (value_at r s) code
+  coded : is_coded r s ≡ true → SpellsValue r.depth (state_before earlier r (context_number r s) s) (value_at r s) code
   not_coded : is_coded r s ≡ false → code ≡ []
 
 code_part : (earlier : ℕ → List ℤ) (r : Residuals) (s : ℕ) → (code : List Bool) × CodePart earlier r s code
 code_part earlier r s = ⊎_elim
     (λ yes.
-    let c = code_of (earlier (context_number r s) ++ values_before r (context_number r s) s) (value_at r s) in
+    let c = code_of r.depth (earlier (context_number r s) ++ values_before r (context_number r s) s) (value_at r s) in
     (c.0, record { coded = λ h. c.1; not_coded = λ h. absurd (differ yes h) }))
     (λ no. ([], record { coded = λ h. absurd (differ h no); not_coded = λ h. refl }))
     (cases_Bool (is_coded r s))

@@ -1,7 +1,7 @@
 -- The definitions on worked rows, by computation.
 use Rattle.std.proofs.Common.{◌≡◌, ℕ, [], ◌∷◌, ℤ, pos, negsuc, nat_lt, refl}
 use Rattle.std.specs.Prelude.{◌==◌, if◌then◌else◌}
-use Rattle.ffv1_plane.specs.Samples.{sample_inside, sample_at, neighbours_at, prediction_of, context_of, difference_of, plane_of, context_at, difference_at}
+use Rattle.ffv1_plane.specs.Samples.{sample_inside, sample_at, neighbours_at, prediction_of, context_of, difference_of, plane_of, context_at, difference_at, coding_at}
 
 -- a first table of runs 1 and 127, and four of one run
 abbrev two_contexts : ℕ → ℕ → ℤ
@@ -35,15 +35,31 @@ unfolding prediction_of
 inside = refl
 
 -- 250 249 in one row: the second sample has context -1, so that its difference -1 is coded as 1
-negative_context : context_at (plane_of 2 two_contexts (250 ∷ 249 ∷ [])) 1 ≡ negsuc 0
+negative_context : context_at (plane_of 2 (coding_at 8 two_contexts) (250 ∷ 249 ∷ [])) 1 ≡ negsuc 0
 unfolding context_of neighbours_at sample_at sample_inside
 negative_context = refl
 
-turned : difference_at (plane_of 2 two_contexts (250 ∷ 249 ∷ [])) 1 ≡ pos 1
+turned : difference_at (plane_of 2 (coding_at 8 two_contexts) (250 ∷ 249 ∷ [])) 1 ≡ pos 1
 unfolding context_of neighbours_at sample_at sample_inside prediction_of difference_of
 turned = refl
 
 -- 5 over 5: context 1, a scalar
-positive_context : context_at (plane_of 1 two_contexts (5 ∷ 5 ∷ [])) 1 ≡ pos 1
+positive_context : context_at (plane_of 1 (coding_at 8 two_contexts) (5 ∷ 5 ∷ [])) 1 ≡ pos 1
 unfolding context_of neighbours_at sample_at sample_inside
 positive_context = refl
+
+-- ---- at other depths
+
+-- 300 5 in one row of 10 bits: 300 is 44 modulo 256, so the context is 1, and the difference -295 is coded as it is ..
+deep_context : context_at (plane_of 2 (coding_at 10 two_contexts) (300 ∷ 5 ∷ [])) 1 ≡ pos 1
+unfolding context_of neighbours_at sample_at sample_inside
+deep_context = refl
+
+deep_difference : difference_at (plane_of 2 (coding_at 10 two_contexts) (300 ∷ 5 ∷ [])) 1 ≡ negsuc 294
+unfolding context_of neighbours_at sample_at sample_inside prediction_of difference_of
+deep_difference = refl
+
+-- .. and 900 5 has context -1, since 900 is 132 modulo 256: 895 is coded in 10 bits as -129
+turned_deep : difference_at (plane_of 2 (coding_at 10 two_contexts) (900 ∷ 5 ∷ [])) 1 ≡ negsuc 128
+unfolding context_of neighbours_at sample_at sample_inside prediction_of difference_of
+turned_deep = refl

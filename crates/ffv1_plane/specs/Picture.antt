@@ -6,7 +6,7 @@ use Rattle.ffv1_range.specs.Setup.{SetupValue, IsInProfile, set_entry}
 use Rattle.ffv1_range.specs.Tiles.{grid_of, plane_count, plane_rect, tile_count}
 use Rattle.ffv1_range.specs.declared.grid.TileRect.{TileRect}
 use Rattle.ffv1_range.specs.declared.head.SliceHead.{SliceHead}
-use Rattle.ffv1_plane.specs.Samples.{Plane, plane_of, IsPlaneOfSize}
+use Rattle.ffv1_plane.specs.Samples.{Plane, plane_of, coding_at, IsPlaneOfSize}
 use Rattle.ffv1_plane.specs.Spelling.{PlaneSpells, values_after}
 
 -- The planes Y, or Y, Cb and Cr, each row by row, and how many bits stand after the last code.
@@ -21,7 +21,7 @@ samples_of planes plane = slice_index_or planes plane []
 
 -- The samples fill the rectangle, a byte each.
 abbrev pub IsPlaneIn : TileRect → List ℕ → Type 0
-IsPlaneIn rect samples = IsPlaneOfSize rect.w rect.h samples
+IsPlaneIn rect samples = IsPlaneOfSize 8 rect.w rect.h samples
 
 -- The planes are those of a tile: as many as the setup has, each of the size that the tile has in it.
 pub record ArePlanesOf (setup : SetupValue) (tile : ℕ) (planes : List (List ℕ)) : Type 0 where
@@ -35,7 +35,7 @@ plane_set head (suc plane) = head.table_c
 
 -- these samples as plane number `plane` of a header's tile
 abbrev pub shaped_plane : SetupValue → SliceHead → ℕ → List ℕ → Plane
-shaped_plane setup head plane samples = plane_of (plane_rect (grid_of setup) head.tile plane).w (set_entry setup (plane_set head plane)) samples
+shaped_plane setup head plane samples = plane_of (plane_rect (grid_of setup) head.tile plane).w (coding_at 8 (set_entry setup (plane_set head plane))) samples
 
 abbrev pub tile_plane : SetupValue → SliceHead → List (List ℕ) → ℕ → Plane
 tile_plane setup head planes plane = shaped_plane setup head plane (samples_of planes plane)

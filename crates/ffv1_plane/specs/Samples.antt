@@ -1,5 +1,5 @@
 -- The samples of a plane, what is predicted of them, and what is left to code (RFC 9043, sections 3.1 to 3.5 and 3.8).
-use Rattle.std.specs.Prelude.{ℕ, ◌+◌, ◌-◌, ◌*◌, ◌/◌, ◌%◌, ◌==◌, ◌≡◌, ◌<◌, nat_lt, min, max, List, length, get_or, ℤ, pos, ◌+ℤ◌, ◌-ℤ◌, int_lt, if◌then◌else◌}
+use Rattle.std.specs.Prelude.{ℕ, ◌+◌, ◌-◌, ◌*◌, ◌/◌, ◌%◌, ◌^◌, ◌==◌, ◌≡◌, ◌<◌, nat_lt, min, max, List, length, get_or, ℤ, pos, ◌+ℤ◌, ◌-ℤ◌, int_lt, if◌then◌else◌}
 use Rattle.ffv1_rice.specs.States.{fold}
 
 -- ---- samples and borders
@@ -49,9 +49,9 @@ median a b c = max (min a b) (min (max a b) c)
 unfoldable pub prediction_of : SamplesAbout → ℕ
 prediction_of n = median n.left n.top (n.left + n.top - n.top_left)
 
--- the difference of two samples, modulo 256
+-- the difference of two samples, modulo 256 at each depth
 abbrev pub modular_difference : ℕ → ℕ → ℕ
-modular_difference a b = (a + 256 - b) % 256
+modular_difference a b = (a % 256 + 256 - b % 256) % 256
 
 -- the context, where entry t i is entry i of quantization table t (sections 3.4 and 3.5)
 unfoldable pub context_of : (ℕ → ℕ → ℤ) → SamplesAbout → ℤ
@@ -62,32 +62,40 @@ context_of entry n =
     +ℤ entry 3 (modular_difference n.left_of_left n.left)
     +ℤ entry 4 (modular_difference n.top_of_top n.top)
 
--- what is coded of a sample that was predicted, its sign turned where the context is negative (section 3.8)
-unfoldable pub difference_of : ℤ → ℕ → ℕ → ℤ
-difference_of context prediction sample =
-    if int_lt context (pos 0) then fold 8 (pos prediction -ℤ pos sample) else fold 8 (pos sample -ℤ pos prediction)
+-- what is coded of a sample of n bits that was predicted, its sign turned where the context is negative (section 3.8)
+unfoldable pub difference_of : ℕ → ℤ → ℕ → ℕ → ℤ
+difference_of n context prediction sample =
+    if int_lt context (pos 0) then fold n (pos prediction -ℤ pos sample) else fold n (pos sample -ℤ pos prediction)
 
 -- ---- planes
 
--- the width of a plane, the entries of its quantization tables, and its samples
+-- how samples are coded: at which depth, and by which entry i of each quantization table t
+pub record Coding : Type 0 where
+  pub depth : ℕ
+  pub entry : ℕ → ℕ → ℤ
+
+abbrev pub coding_at : ℕ → (ℕ → ℕ → ℤ) → Coding
+coding_at depth entry = record { depth = depth; entry = entry }
+
+-- the width of a plane, how it is coded, and its samples
 pub record Plane : Type 0 where
   pub width : ℕ
-  pub entry : ℕ → ℕ → ℤ
+  pub coding : Coding
   pub samples : List ℕ
 
-abbrev pub plane_of : ℕ → (ℕ → ℕ → ℤ) → List ℕ → Plane
-plane_of width entry samples = record { width = width; entry = entry; samples = samples }
+abbrev pub plane_of : ℕ → Coding → List ℕ → Plane
+plane_of width coding samples = record { width = width; coding = coding; samples = samples }
 
 abbrev pub prediction_at : Plane → ℕ → ℕ
 prediction_at p s = prediction_of (neighbours_at p.width p.samples s)
 
 abbrev pub context_at : Plane → ℕ → ℤ
-context_at p s = context_of p.entry (neighbours_at p.width p.samples s)
+context_at p s = context_of p.coding.entry (neighbours_at p.width p.samples s)
 
 abbrev pub difference_at : Plane → ℕ → ℤ
-difference_at p s = difference_of (context_at p s) (prediction_at p s) (get_or p.samples s 0)
+difference_at p s = difference_of p.coding.depth (context_at p s) (prediction_at p s) (get_or p.samples s 0)
 
--- The samples are those of a plane of this size: a byte each.
-pub record IsPlaneOfSize (width height : ℕ) (samples : List ℕ) : Type 0 where
+-- The samples are those of a plane of this size: n bits each.
+pub record IsPlaneOfSize (n width height : ℕ) (samples : List ℕ) : Type 0 where
   pub count : length samples ≡ width * height
-  pub bytes : (s : ℕ) → get_or samples s 0 < 256
+  pub small : (s : ℕ) → get_or samples s 0 < 2 ^ n

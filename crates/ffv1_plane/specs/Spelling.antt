@@ -6,14 +6,15 @@ use Rattle.ffv1_rice.specs.Codes.{SpellsValue, decoded_value}
 use Rattle.ffv1_rice.specs.Runs.{SpellsRun}
 use Rattle.ffv1_plane.specs.Samples.{Plane, context_at, difference_at}
 
--- What of a plane is coded: at each sample, in scan order, its context and its difference.
+-- What of a plane is coded: at each sample, in scan order, its context and its difference, which has the bits of the depth.
 pub record Residuals : Type 0 where
+  pub depth : ℕ
   pub width : ℕ
   pub context : ℕ → ℤ
   pub difference : ℕ → ℤ
 
 unfoldable pub residuals_of : Plane → Residuals
-residuals_of p = record { width = p.width; context = context_at p; difference = difference_at p }
+residuals_of p = record { depth = p.coding.depth; width = p.width; context = context_at p; difference = difference_at p }
 
 -- ---- which samples are coded
 
@@ -75,14 +76,14 @@ samples_before (suc s) = samples_before s ++ s ∷ []
 abbrev pub values_before : Residuals → ℕ → ℕ → List ℤ
 values_before r context s = map (value_at r) (filter (λ j. is_coded r j && (context_number r j == context)) (samples_before s))
 
--- the state that values leave of the start state, where they are coded one after the other
-abbrev pub state_after : List ℤ → ContextState
-state_after values = fold (λ state value. after_value 8 state value) start_state values
+-- the state that values of n bits leave of the start state, where they are coded one after the other
+abbrev pub state_after : ℕ → List ℤ → ContextState
+state_after n values = fold (λ state value. after_value n state value) start_state values
 
 -- The state of a context at sample s is what all values coded with it have left: those of an earlier plane that shares
 -- its states, and those of this plane.
 abbrev pub state_before : (ℕ → List ℤ) → Residuals → ℕ → ℕ → ContextState
-state_before earlier r context s = state_after (earlier context ++ values_before r context s)
+state_before earlier r context s = state_after r.depth (earlier context ++ values_before r context s)
 
 -- ---- the bits of a plane
 
@@ -94,7 +95,7 @@ pub record SampleSpells (earlier : ℕ → List ℤ) (r : Residuals) (s : ℕ) (
   pub joined : bits ≡ run ++ code
   pub run_starts : starts_run r s ≡ true → SpellsRun (run_length r s) (left_in_line r s) index run next
   pub no_run_starts : starts_run r s ≡ false → (run ≡ []) × (next ≡ index)
-  pub coded : is_coded r s ≡ true → SpellsValue 8 (state_before earlier r (context_number r s) s) (value_at r s) code
+  pub coded : is_coded r s ≡ true → SpellsValue r.depth (state_before earlier r (context_number r s) s) (value_at r s) code
   pub not_coded : is_coded r s ≡ false → code ≡ []
 
 -- the bits of the first count samples, from run index 0

@@ -64,7 +64,7 @@ IsRunWordShort earlier r s bits others = (index : ℕ) × IsRunWordDue earlier r
 -- After these bits a code is due at sample s, and the others end within it or begin with what no sample has.
 abbrev pub IsCodeRefused : (ℕ → List ℤ) → Residuals → ℕ → List Bool → List Bool → CodeFault → Type 0
 IsCodeRefused earlier r s bits others fault =
-    IsCodeDue earlier r s bits × IsCodeFault 8 (state_before earlier r (context_number r s) s) (is_in_run r s) others fault
+    IsCodeDue earlier r s bits × IsCodeFault r.depth (state_before earlier r (context_number r s) s) (is_in_run r s) others fault
 
 -- After these bits no word of sample s can be read, for this fault.
 abbrev pub IsWordRefused : (ℕ → List ℤ) → Residuals → ℕ → List Bool → List Bool → CodeFault → Type 0

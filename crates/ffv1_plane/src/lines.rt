@@ -4,7 +4,8 @@
 //! before its row and one after it, for the borders, which are written once a row.
 ghost use Rattle.std.specs.Prelude.{◌≡◌, ℕ, ◌<◌, ◌≤◌, ◌+◌, ◌^◌, ◌%◌, [], ◌∷◌, ◌++◌, length, slice_index, IfOk, OnOk, ℤ};
 ghost use Rattle.ffv1_bits.specs.Limits.{greatest_side};
-ghost use Rattle.ffv1_plane.specs.Samples.{neighbours_at};
+ghost use Rattle.ffv1_rice.specs.States.{IsCodedDepth};
+ghost use Rattle.ffv1_plane.specs.Samples.{Coding, neighbours_at, prediction_of};
 ghost use Rattle.ffv1_plane.specs.Inner.Progress.{AreSkipped};
 ghost use Rattle.ffv1_plane.specs.Inner.Rows.{left_of, IsLeftAsAbove, IsLeftOfNext};
 
@@ -16,14 +17,16 @@ use std::mem;
 /// The samples of a plane that were read, and the lines about the next one.
 #[derive(Drop)]
 pub(crate) struct Lines {
+    /// The coded depth of the samples.
+    depth: u32,
     width: usize,
     /// How many samples of the row were read.
     x: usize,
     /// The rows that are ended.
-    rows: Vec<u8>,
-    line: Vec<u8>,
-    above: Vec<u8>,
-    far_above: Vec<u8>,
+    rows: Vec<u32>,
+    line: Vec<u32>,
+    above: Vec<u32>,
+    far_above: Vec<u32>,
 }
 
 impl Model for Lines {
@@ -31,24 +34,31 @@ impl Model for Lines {
 
     ghost Value = { RowsRead };
 
-    ghost view = { λ l. record { width = l.width; x = l.x; samples = samples_so_far l.x l.rows.items l.line.items } };
+    ghost view = { λ l. record { depth = l.depth; width = l.width; x = l.x; samples = samples_so_far l.x l.rows.items l.line.items } };
 
-    ghost invariant = { λ l. AreNearLines l.width l.x l.rows.items l.line.items l.above.items l.far_above.items };
+    ghost invariant = { λ l. AreNearLines l.depth l.width l.x l.rows.items l.line.items l.above.items l.far_above.items };
 }
 
 impl Lines {
-    /// The lines about the first sample of a plane.
-    pub(crate) fn new(alloc: Global, width: usize, height: usize) -> Result<Lines, AllocError>
+    /// The lines about the first sample of a plane of this coded depth.
+    pub(crate) fn new(
+        alloc: Global,
+        depth: u32,
+        width: usize,
+        height: usize,
+    ) -> Result<Lines, AllocError>
+        requires depth { IsCodedDepth depth }
         requires some { 1 ≤ width }
         requires width { width ≤ greatest_side }
         requires height { height ≤ greatest_side }
-        ensures { IfOk result (λ lines. lines ≡ record { width = width; x = 0; samples = [] }) }
+        ensures { IfOk result (λ lines. lines ≡ record { depth = depth; width = width; x = 0; samples = [] }) }
     {
         let rows = Vec::with_capacity(alloc, width * height)?;
         let line = vec![in alloc; 0; width + 3]?;
         let above = vec![in alloc; 0; width + 3]?;
         let far_above = vec![in alloc; 0; width + 3]?;
         Ok(Lines {
+            depth,
             width,
             x: 0,
             rows,
@@ -56,6 +66,14 @@ impl Lines {
             above,
             far_above,
         })
+    }
+
+    /// The coded depth of the plane.
+    pub(crate) fn depth(&self) -> u32
+        ensures value { result ≡ self.now.depth }
+        ensures deep { IsCodedDepth self.now.depth }
+    {
+        self.depth
     }
 
     /// The width of the plane.
@@ -73,7 +91,7 @@ impl Lines {
         ensures value { result ≡ self.now.x }
         ensures within { result ≤ self.now.width }
         ensures place { result < self.now.width → length self.now.samples % self.now.width ≡ result }
-        ensures bytes { (s : ℕ) → slice_index self.now.samples s < 256 }
+        ensures small { (s : ℕ) → slice_index self.now.samples s < 2 ^ self.now.depth }
     {
         self.x
     }
@@ -88,7 +106,7 @@ impl Lines {
 
     /// The sample to the left of the next one.
     #[inline(always)]
-    pub(crate) fn left(&self) -> u8
+    pub(crate) fn left(&self) -> u32
         requires { self.now.x < self.now.width }
         ensures { result ≡ left_of self.now }
     {
@@ -97,10 +115,12 @@ impl Lines {
 
     /// The samples about the next one, of which the one to the left is at hand: it was the last to be written.
     #[inline(always)]
-    pub(crate) fn neighbours(&self, left: u8) -> Neighbours
+    pub(crate) fn neighbours(&self, left: u32) -> Neighbours
         requires inside { self.now.x < self.now.width }
         requires left { left ≡ left_of self.now }
-        ensures { result ≡ neighbours_at self.now.width self.now.samples (length self.now.samples) }
+        ensures value { result ≡ neighbours_at self.now.width self.now.samples (length self.now.samples) }
+        ensures small { prediction_of result < 2 ^ self.now.depth }
+        ensures deep { IsCodedDepth self.now.depth }
     {
         Neighbours {
             left,
@@ -114,9 +134,10 @@ impl Lines {
 
     /// The next sample of the row is this one.
     #[inline(always)]
-    pub(crate) fn push(&mut self, sample: u8)
-        requires { self.old.x < self.old.width }
-        ensures value { self.new ≡ record { width = self.old.width; x = self.old.x + 1; samples = self.old.samples ++ sample ∷ [] } }
+    pub(crate) fn push(&mut self, sample: u32)
+        requires inside { self.old.x < self.old.width }
+        requires small { sample < 2 ^ self.old.depth }
+        ensures value { self.new ≡ record { depth = self.old.depth; width = self.old.width; x = self.old.x + 1; samples = self.old.samples ++ sample ∷ [] } }
         ensures left { IsLeftOfNext self.new sample }
     {
         let x = self.x;
@@ -127,11 +148,12 @@ impl Lines {
     /// Skips the next samples of the row: each is what is predicted of it.
     pub(crate) fn skip(&mut self, count: usize)
         requires { self.old.x + count ≤ self.old.width }
+        ensures depth { self.new.depth ≡ self.old.depth }
         ensures width { self.new.width ≡ self.old.width }
         ensures x { self.new.x ≡ self.old.x + count }
         ensures count { length self.new.samples ≡ length self.old.samples + count }
-        ensures bytes { (s : ℕ) → slice_index self.new.samples s < 256 }
-        ensures skipped { (entry : ℕ → ℕ → ℤ) → AreSkipped self.old.width entry self.old.samples self.new.samples count }
+        ensures small { (s : ℕ) → slice_index self.new.samples s < 2 ^ self.old.depth }
+        ensures skipped { (coding : Coding) → IsCodedDepth coding.depth → AreSkipped self.old.width coding self.old.samples self.new.samples count }
     {
         for done in 0..count {
             let near = self.neighbours(self.left());
@@ -141,7 +163,7 @@ impl Lines {
             }
             self.push(near.prediction());
         }
-        // Its contract says that the samples are bytes.
+        // Its contract says that the samples are small.
         let _column = self.column();
     }
 
@@ -151,11 +173,12 @@ impl Lines {
         requires some { 1 ≤ count }
         requires count { self.old.x + count ≤ self.old.width }
         requires same { IsLeftAsAbove self.old }
+        ensures depth { self.new.depth ≡ self.old.depth }
         ensures width { self.new.width ≡ self.old.width }
         ensures x { self.new.x ≡ self.old.x + count }
         ensures count { length self.new.samples ≡ length self.old.samples + count }
-        ensures bytes { (s : ℕ) → slice_index self.new.samples s < 256 }
-        ensures skipped { (entry : ℕ → ℕ → ℤ) → AreSkipped self.old.width entry self.old.samples self.new.samples count }
+        ensures small { (s : ℕ) → slice_index self.new.samples s < 2 ^ self.old.depth }
+        ensures skipped { (coding : Coding) → IsCodedDepth coding.depth → AreSkipped self.old.width coding self.old.samples self.new.samples count }
     {
         let from = self.x + 2;
         let end = from + count;
@@ -166,7 +189,7 @@ impl Lines {
     /// Ends the row, of which all samples were read: the lines move up by one, and the next row has its left border.
     pub(crate) fn end_row(&mut self) -> Result<(), AllocError>
         requires { self.old.x ≡ self.old.width }
-        ensures { OnOk result (self.new ≡ record { width = self.old.width; x = 0; samples = self.old.samples }) }
+        ensures { OnOk result (self.new ≡ record { depth = self.old.depth; width = self.old.width; x = 0; samples = self.old.samples }) }
     {
         self.rows.extend_from_slice(&self.line[2..self.width + 2])?;
         self.line[self.width + 2] = self.line[self.width + 1];
@@ -178,11 +201,12 @@ impl Lines {
     }
 
     /// The samples of a plane whose rows are ended.
-    pub(crate) fn into_rows(self) -> Vec<u8>
+    pub(crate) fn into_rows(self) -> Vec<u32>
         requires { self.x ≡ 0 }
         ensures { result.items ≡ self.samples }
     {
         let Lines {
+            depth: _,
             width: _,
             x: _,
             rows,

@@ -1,6 +1,6 @@
 //! What is predicted of a sample from those before it (RFC 9043, sections 3.1 to 3.5).
-ghost use Rattle.std.specs.Prelude.{◌≡◌, ◌≤◌, pos, neg_ℤ, ◌≤ℤ◌};
-ghost use Rattle.ffv1_rice.specs.States.{IsDifference};
+ghost use Rattle.std.specs.Prelude.{◌≡◌, ℕ, ◌<◌, ◌^◌};
+ghost use Rattle.ffv1_rice.specs.States.{IsCodedDepth, IsDifference};
 ghost use Rattle.ffv1_plane.specs.Samples.{prediction_of, difference_of};
 ghost use Rattle.ffv1_plane.specs.Inner.Sums.{IsSumModulo};
 
@@ -9,12 +9,12 @@ use std::marker::Model;
 /// The samples about a place (RFC 9043, section 3.2).
 #[derive(Clone, Copy)]
 pub struct Neighbours {
-    pub left: u8,
-    pub top: u8,
-    pub top_left: u8,
-    pub top_right: u8,
-    pub left_of_left: u8,
-    pub top_of_top: u8,
+    pub left: u32,
+    pub top: u32,
+    pub top_left: u32,
+    pub top_right: u32,
+    pub left_of_left: u32,
+    pub top_of_top: u32,
 }
 
 impl Model for Neighbours {
@@ -44,34 +44,37 @@ impl Model for Neighbours {
 impl Neighbours {
     /// The median of the sample to the left, the one above, and their sum less the one between them (section 3.3).
     #[tactic(auto, unfolding(crate::specs::Samples::prediction_of))]
-    pub fn prediction(&self) -> u8
-        ensures { result ≡ prediction_of self.now }
+    pub fn prediction(&self) -> u32
+        ensures value { result ≡ prediction_of self.now }
+        ensures small { (bound : ℕ) → self.now.left < bound → self.now.top < bound → result < bound }
     {
-        let (left, top) = (i32::from(self.left), i32::from(self.top));
-        let sum = left + top - i32::from(self.top_left);
+        let (left, top) = (i64::from(self.left), i64::from(self.top));
+        let sum = left + top - i64::from(self.top_left);
         let slope = sum.max(left.min(top)).min(left.max(top));
-        slope as u8
+        slope as u32
     }
 }
 
-/// The sample with this difference from its prediction (section 3.8).
-pub(crate) fn sample_of(context: i32, prediction: u8, difference: i32) -> u8
-    requires { IsDifference 8 difference }
-    ensures { difference_of context prediction result ≡ difference }
+/// The sample of a coded depth with this difference from its prediction (section 3.8).
+#[inline(always)]
+pub(crate) fn sample_of(context: i32, prediction: u32, difference: i32, depth: u32) -> u32
+    requires depth { IsCodedDepth depth }
+    requires range { IsDifference depth difference }
+    ensures value { difference_of depth context prediction result ≡ difference }
+    ensures small { result < 2 ^ depth }
 {
     if context < 0 {
-        added(prediction, -difference)
+        added(prediction, -difference, depth)
     } else {
-        added(prediction, difference)
+        added(prediction, difference, depth)
     }
 }
 
-/// The sum modulo 256.
-#[tactic(auto, using(crate::proofs::Back::added_back))]
-fn added(prediction: u8, change: i32) -> u8
-    requires low { neg_ℤ (pos 128) ≤ℤ change }
-    requires high { change ≤ℤ pos 128 }
-    ensures { IsSumModulo prediction change result }
+/// The sum modulo 2^depth.
+#[inline(always)]
+fn added(prediction: u32, change: i32, depth: u32) -> u32
+    requires { IsCodedDepth depth }
+    ensures { IsSumModulo depth prediction change result }
 {
-    (i32::from(prediction) + change).rem_euclid(256) as u8
+    change.cast_unsigned().wrapping_add(prediction) % (1 << depth)
 }

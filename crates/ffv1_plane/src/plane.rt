@@ -1,21 +1,22 @@
 //! A plane, sample by sample and run by run (RFC 9043, sections 3.8.2 and 4.8).
 //!
 //! A `PlaneReader` has a state for each context of its tables.
-ghost use Rattle.std.specs.Prelude.{◌≡◌, ℕ, ◌<◌, ◌≤◌, ◌+◌, ◌*◌, ◌%◌, length, slice_index, List, Bool, OnOk, IfOk, IfErr, nat_abs, ℤ, true};
+ghost use Rattle.std.specs.Prelude.{◌≡◌, ℕ, ◌<◌, ◌≤◌, ◌+◌, ◌*◌, ◌%◌, ◌^◌, length, slice_index, List, Bool, OnOk, IfOk, IfErr, nat_abs, ℤ, true};
 ghost use Rattle.ffv1_bits.specs.Limits.{greatest_side};
 ghost use Rattle.ffv1_range.specs.Setup.{set_contexts, set_entry};
-ghost use Rattle.ffv1_plane.specs.Samples.{IsPlaneOfSize, neighbours_at, context_of};
+ghost use Rattle.ffv1_rice.specs.States.{IsCodedDepth};
+ghost use Rattle.ffv1_plane.specs.Samples.{IsPlaneOfSize, coding_at, neighbours_at, context_of};
 ghost use Rattle.ffv1_plane.specs.Inner.Progress.{IsSampleRead, IsPlaneRead};
 ghost use Rattle.ffv1_plane.specs.Inner.Halts.{IsSampleHalted, IsDecodingHalted};
 ghost use Rattle.ffv1_plane.specs.Inner.Rows.{left_of, IsLeftOfNext};
-ghost use Rattle.ffv1_plane.specs.Inner.Readers.{entry_of, HasStates, IsSamePlane, HasRead, IsHaltedAt};
+ghost use Rattle.ffv1_plane.specs.Inner.Readers.{coding_of, HasStates, IsSamePlane, HasRead, IsHaltedAt};
 
 use crate::lines::Lines;
 use crate::neighbours::{Neighbours, sample_of};
 use crate::run::read_run;
 use crate::tables::Tables;
 use ffv1_bits::Bits;
-use ffv1_rice::{CodeFault, RunIndex, VlcState};
+use ffv1_rice::{BYTE_DEPTH, CodeFault, RunIndex, VlcState};
 use std::alloc::Global;
 
 /// Why a plane can't be read.
@@ -40,60 +41,73 @@ pub(crate) struct PlaneReader<'t, 's, 'b> {
 impl PlaneReader<'_, '_, '_> {
     /// Reads the next sample, a run's level or a scalar, by one code, and returns it.
     #[inline(always)]
-    fn read_code(&mut self, near: &Neighbours, context: i32, level: bool) -> Result<u8, PlaneFault>
+    fn read_code(
+        &mut self,
+        near: &Neighbours,
+        context: i32,
+        depth: u32,
+        level: bool,
+    ) -> Result<u32, PlaneFault>
+        requires depth { depth ≡ self.old.lines.depth }
         requires inside { self.old.lines.x < self.old.lines.width }
         requires near { near.now ≡ neighbours_at self.old.lines.width self.old.lines.samples (length self.old.lines.samples) }
-        requires context { context ≡ context_of (entry_of self.old) near.now }
+        requires context { context ≡ context_of (coding_of self.old).entry near.now }
         requires below { nat_abs context < length self.old.states.items }
         ensures same { IsSamePlane self.old self.new }
         ensures index { self.new.index ≡ self.old.index }
         ensures moved { OnOk result (self.new.lines.x ≡ self.old.lines.x + 1) }
         ensures left { IfOk result (IsLeftOfNext self.new.lines) }
         ensures read { OnOk result (IsSampleRead self.old.lines.width
-            (entry_of self.old) level self.old.lines.samples self.old.states.items self.old.bits.left
+            (coding_of self.old) level self.old.lines.samples self.old.states.items self.old.bits.left
             self.new.lines.samples self.new.states.items self.new.bits.left) }
         ensures err { IfErr result (IsSampleHalted self.old.lines.width
-            (entry_of self.old) level self.old.lines.samples self.old.states.items self.old.bits.left) }
+            (coding_of self.old) level self.old.lines.samples self.old.states.items self.old.bits.left) }
     {
+        // It says that the depth is one of samples.
+        let _depth = self.lines.depth();
         // Before the code is read: one number stays at hand then, and not the samples about it.
         let prediction = near.prediction();
         let state = &mut self.states[context.unsigned_abs() as usize];
-        let difference = match state.decode(&mut self.bits, level) {
+        let difference = match state.decode_at(&mut self.bits, depth, level) {
             Ok(difference) => difference,
             Err(fault) => {
                 let sample = self.lines.place();
                 return Err(PlaneFault::Code { fault, sample });
             }
         };
-        let sample = sample_of(context, prediction, difference);
+        let sample = sample_of(context, prediction, difference, depth);
         self.lines.push(sample);
         Ok(sample)
     }
 
     /// Reads the level after a run, and returns its sample.
-    fn read_level(&mut self) -> Result<u8, PlaneFault>
+    #[inline(always)]
+    fn read_level(&mut self, depth: u32) -> Result<u32, PlaneFault>
         requires states { HasStates self.old }
+        requires depth { depth ≡ self.old.lines.depth }
         requires inside { self.old.lines.x < self.old.lines.width }
         ensures same { IsSamePlane self.old self.new }
         ensures index { self.new.index ≡ self.old.index }
         ensures moved { OnOk result (self.new.lines.x ≡ self.old.lines.x + 1) }
         ensures left { IfOk result (IsLeftOfNext self.new.lines) }
         ensures read { OnOk result (IsSampleRead self.old.lines.width
-            (entry_of self.old) true self.old.lines.samples self.old.states.items self.old.bits.left
+            (coding_of self.old) true self.old.lines.samples self.old.states.items self.old.bits.left
             self.new.lines.samples self.new.states.items self.new.bits.left) }
         ensures err { IfErr result (IsSampleHalted self.old.lines.width
-            (entry_of self.old) true self.old.lines.samples self.old.states.items self.old.bits.left) }
+            (coding_of self.old) true self.old.lines.samples self.old.states.items self.old.bits.left) }
     {
         let near = self.lines.neighbours(self.lines.left());
         let context = self.tables.context(&near);
-        self.read_code(&near, context, true)
+        self.read_code(&near, context, depth, true)
     }
 
     /// Reads a scalar, or a run with the level that ends it, after the sample to the left, and returns the last sample:
     /// it stays at hand, where a look into the line would wait for it. After a run up to the line's end it is any.
     #[inline(always)]
-    fn read_next(&mut self, left: u8) -> Result<u8, PlaneFault>
+    #[inline(always)]
+    fn read_next(&mut self, left: u32, depth: u32) -> Result<u32, PlaneFault>
         requires states { HasStates self.old }
+        requires depth { depth ≡ self.old.lines.depth }
         requires inside { self.old.lines.x < self.old.lines.width }
         requires left { left ≡ left_of self.old.lines }
         ensures same { IsSamePlane self.old self.new }
@@ -106,7 +120,7 @@ impl PlaneReader<'_, '_, '_> {
         let near = self.lines.neighbours(left);
         let context = self.tables.context(&near);
         if context != 0 {
-            return self.read_code(&near, context, false);
+            return self.read_code(&near, context, depth, false);
         }
         let most = self.lines.width() - self.lines.column();
         let count = match read_run(&mut self.index, &mut self.bits, most as u32) {
@@ -119,7 +133,7 @@ impl PlaneReader<'_, '_, '_> {
         };
         self.lines.skip(count);
         if count < most {
-            self.read_level()
+            self.read_level(depth)
         } else {
             Ok(left)
         }
@@ -134,39 +148,64 @@ impl PlaneReader<'_, '_, '_> {
         ensures read { OnOk result ((earlier : ℕ → List ℤ) (whole : List Bool) → HasRead earlier whole self.old → HasRead earlier whole self.new) }
         ensures full { OnOk result (self.new.lines.x ≡ self.new.lines.width) }
         ensures count { OnOk result (length self.new.lines.samples ≡ length self.old.lines.samples + self.old.lines.width) }
-        ensures bytes { OnOk result ((s : ℕ) → slice_index self.new.lines.samples s < 256) }
+        ensures small { OnOk result ((s : ℕ) → slice_index self.new.lines.samples s < 2 ^ self.old.lines.depth) }
+        ensures err { IfErr result (IsHaltedAt self.old) }
+    {
+        let depth = self.lines.depth();
+        // The codes of bytes are read faster where their depth is a constant.
+        if depth == BYTE_DEPTH {
+            self.read_row_at(BYTE_DEPTH)
+        } else {
+            self.read_row_at(depth)
+        }
+    }
+
+    /// Reads a row at a coded depth, that of the plane.
+    #[inline(always)]
+    fn read_row_at(&mut self, depth: u32) -> Result<(), PlaneFault>
+        requires states { HasStates self.old }
+        requires depth { depth ≡ self.old.lines.depth }
+        requires start { self.old.lines.x ≡ 0 }
+        requires whole { length self.old.lines.samples % self.old.lines.width ≡ 0 }
+        ensures same { IsSamePlane self.old self.new }
+        ensures read { OnOk result ((earlier : ℕ → List ℤ) (whole : List Bool) → HasRead earlier whole self.old → HasRead earlier whole self.new) }
+        ensures full { OnOk result (self.new.lines.x ≡ self.new.lines.width) }
+        ensures count { OnOk result (length self.new.lines.samples ≡ length self.old.lines.samples + self.old.lines.width) }
+        ensures small { OnOk result ((s : ℕ) → slice_index self.new.lines.samples s < 2 ^ self.old.lines.depth) }
         ensures err { IfErr result (IsHaltedAt self.old) }
     {
         let width = self.lines.width();
         let mut left = self.lines.left();
         while self.lines.column() < width {
-            left = self.read_next(left)?;
+            left = self.read_next(left, depth)?;
         }
         Ok(())
     }
 }
 
-/// Reads a plane of this size. The states are those that planes before it have left, and come back as this one leaves
+/// Reads a plane of this coded depth and size. The states are those that planes before it have left, and come back as this one leaves
 /// them; bits after its last sample are left.
 pub(crate) fn decode_plane(
     alloc: Global,
+    depth: u32,
     width: usize,
     height: usize,
     tables: &Tables,
     states: Vec<VlcState>,
     bits: &mut Bits,
-) -> Result<(Vec<u8>, Vec<VlcState>), PlaneFault>
+) -> Result<(Vec<u32>, Vec<VlcState>), PlaneFault>
+    requires depth { IsCodedDepth depth }
     requires some { 1 ≤ width }
     requires width { width ≤ greatest_side }
     requires height { height ≤ greatest_side }
     requires contexts { length states.items ≡ set_contexts tables.now.setup tables.now.set }
     ensures len { IfOk result (λ read. length read.1.items ≡ length states.items) }
-    ensures size { IfOk result (λ read. IsPlaneOfSize width height read.0.items) }
-    ensures read { IfOk result (λ read. IsPlaneRead width height (set_entry tables.now.setup tables.now.set) states.items bits.old.left read.0.items
+    ensures size { IfOk result (λ read. IsPlaneOfSize depth width height read.0.items) }
+    ensures read { IfOk result (λ read. IsPlaneRead width height (coding_at depth (set_entry tables.now.setup tables.now.set)) states.items bits.old.left read.0.items
         read.1.items bits.new.left) }
-    ensures err { IfErr result (IsDecodingHalted width height (set_entry tables.now.setup tables.now.set) states.items bits.old.left) }
+    ensures err { IfErr result (IsDecodingHalted width height (coding_at depth (set_entry tables.now.setup tables.now.set)) states.items bits.old.left) }
 {
-    let Ok(lines) = Lines::new(alloc, width, height) else {
+    let Ok(lines) = Lines::new(alloc, depth, width, height) else {
         return Err(PlaneFault::Memory);
     };
     let mut reader = PlaneReader {

@@ -88,13 +88,13 @@ impl<'s> Tables<'s> {
 
     /// The entry of a table at the difference of two samples, modulo 256.
     #[inline(always)]
-    fn entry(&self, table: usize, high: u8, low: u8) -> i32
+    fn entry(&self, table: usize, high: u32, low: u32) -> i32
         requires table { table < 5 }
         ensures low { neg_ℤ (pos 32767) ≤ℤ result }
         ensures high { result ≤ℤ pos 32767 }
         ensures entry { result ≡ set_entry self.now.setup self.now.set table (modular_difference high low) }
     {
-        i32::from(self.entries[table][usize::from(high.wrapping_sub(low))])
+        i32::from(self.entries[table][(high.wrapping_sub(low) % 256) as usize])
     }
 }
 

@@ -2,10 +2,11 @@
 //!
 //! Planes stand in the order Y, Cb, Cr, and a gray tile has Y alone. The adaptive states start anew in each slice: there
 //! are some for Y, and some for Cb and Cr together. Bits after the last sample are counted and ignored.
-ghost use Rattle.std.specs.Prelude.{◌≡◌, ◌≢◌, ◌<◌, ◌≤◌, ◌^◌, ◌==◌, ℕ, Err, length, map, IfOk, IfErr, MatchResult, ◌⊎◌};
+ghost use Rattle.std.specs.Prelude.{◌≡◌, ◌≢◌, ◌<◌, ◌≤◌, ◌^◌, ◌==◌, ℕ, Err, length, slice_index, map, IfOk, IfErr, MatchResult, ◌⊎◌};
 ghost use Rattle.ffv1_bits.specs.Limits.{payload_limit};
 ghost use Rattle.ffv1_range.specs.Setup.{IsInProfile, set_contexts, set_entry};
 ghost use Rattle.ffv1_range.specs.Tiles.{grid_of, tile_count, plane_count, plane_rect};
+ghost use Rattle.ffv1_plane.specs.Samples.{coding_at};
 ghost use Rattle.ffv1_plane.specs.Progress.{AreStatesAfter};
 ghost use Rattle.ffv1_plane.specs.Inner.Progress.{IsPlaneRead};
 ghost use Rattle.ffv1_plane.specs.Inner.Halts.{IsPlaneOfHalted, IsLumaHalted, IsChromaHalted, ArePlanesHalted};
@@ -24,7 +25,7 @@ use crate::plane::{PlaneFault, decode_plane};
 use crate::tables::Tables;
 use ffv1_bits::Bits;
 use ffv1_range::{HeadFault, Setup, SliceHead, read_head};
-use ffv1_rice::{CodeFault, VlcState};
+use ffv1_rice::{BYTE_DEPTH, CodeFault, VlcState};
 use std::alloc::{AllocError, AllocFailed, Global};
 
 /// Why a slice's content gives no picture of a tile.
@@ -206,7 +207,7 @@ fn decode_chroma(
 pub fn start_states(alloc: Global, setup: &Setup, set: usize) -> Result<Vec<VlcState>, AllocError>
     requires { set < length setup.now.sets }
     ensures len { IfOk result (λ states. length states.items ≡ set_contexts setup.now set) }
-    ensures fresh { IfOk result (λ states. AreStatesAfter no_values states.items) }
+    ensures fresh { IfOk result (λ states. AreStatesAfter 8 no_values states.items) }
 {
     vec![in alloc; VlcState::start(); setup.contexts(set) as usize]
 }
@@ -232,13 +233,42 @@ fn decode_plane_of(
     ensures len { IfOk result (λ read. length read.1.items ≡ length states.items) }
     ensures size { IfOk result (λ read. IsPlaneIn (plane_rect (grid_of setup.now) head.now.tile plane) read.0.items) }
     ensures read { IfOk result (λ read. IsPlaneRead (plane_rect (grid_of setup.now) head.now.tile plane).w
-        (plane_rect (grid_of setup.now) head.now.tile plane).h (set_entry setup.now
-        (plane_set head.now plane)) states.items bits.old.left read.0.items read.1.items bits.new.left) }
+        (plane_rect (grid_of setup.now) head.now.tile plane).h (coding_at 8 (set_entry setup.now
+        (plane_set head.now plane))) states.items bits.old.left read.0.items read.1.items bits.new.left) }
+    ensures err { IfErr result (IsPlaneOfHalted setup.now head.now plane states.items bits.old.left) }
+{
+    let (samples, states) = decode_samples_of(alloc, setup, head, plane, tables, states, bits)?;
+    let bytes = bytes_of(alloc, &samples)?;
+    Ok((bytes, states))
+}
+
+/// The samples of one plane of a tile, and the states that it leaves.
+fn decode_samples_of(
+    alloc: Global,
+    setup: &Setup,
+    head: &SliceHead,
+    plane: usize,
+    tables: &Tables,
+    states: Vec<VlcState>,
+    bits: &mut Bits,
+) -> Result<(Vec<u32>, Vec<VlcState>), TileFault>
+    requires profile { IsInProfile setup.now }
+    requires tile { head.now.tile < tile_count (grid_of setup.now) }
+    requires plane { plane < plane_count (grid_of setup.now) }
+    requires luma_table { head.now.table_y < length setup.now.sets }
+    requires chroma_table { head.now.table_c < length setup.now.sets }
+    requires tables { tables.now ≡ record { setup = setup.now; set = plane_set head.now plane } }
+    requires contexts { length states.items ≡ set_contexts setup.now (plane_set head.now plane) }
+    ensures len { IfOk result (λ read. length read.1.items ≡ length states.items) }
+    ensures size { IfOk result (λ read. IsPlaneIn (plane_rect (grid_of setup.now) head.now.tile plane) read.0.items) }
+    ensures read { IfOk result (λ read. IsPlaneRead (plane_rect (grid_of setup.now) head.now.tile plane).w
+        (plane_rect (grid_of setup.now) head.now.tile plane).h (coding_at 8 (set_entry setup.now
+        (plane_set head.now plane))) states.items bits.old.left read.0.items read.1.items bits.new.left) }
     ensures err { IfErr result (IsPlaneOfHalted setup.now head.now plane states.items bits.old.left) }
 {
     let rect = setup.grid().plane_rect(head.tile, plane);
     let (width, height) = (rect.w as usize, rect.h as usize);
-    match decode_plane(alloc, width, height, tables, states, bits) {
+    match decode_plane(alloc, BYTE_DEPTH, width, height, tables, states, bits) {
         Ok(read) => Ok(read),
         Err(PlaneFault::Memory) => Err(TileFault::Memory),
         Err(PlaneFault::Code { fault, sample }) => Err(TileFault::Code {
@@ -248,6 +278,18 @@ fn decode_plane_of(
             x: sample % width,
         }),
     }
+}
+
+/// Samples of 8 bits as bytes.
+fn bytes_of(alloc: Global, samples: &[u32]) -> Result<Vec<u8>, AllocError>
+    requires { (s : ℕ) → slice_index samples.now s < 256 }
+    ensures { IfOk result (λ bytes. bytes.items ≡ samples.now) }
+{
+    let mut bytes = vec![in alloc; 0; samples.len()]?;
+    for place in 0..samples.len() {
+        bytes[place] = samples[place] as u8;
+    }
+    Ok(bytes)
 }
 
 /// No bits begin with the spellings of two pictures of a tile, and a content has one picture.

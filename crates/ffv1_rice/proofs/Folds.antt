@@ -106,20 +106,48 @@ fold_one n v w b depth hv hw same =
     one_difference n v w depth hv hw
     (record { more = first.more + second.less; less = first.less + second.more; same = omega (arith, ints, first.same, second.same, same) })
 
+-- nothing is left of nothing
+pub fold_zero : (n : ℕ) → IsCodedDepth n → fold n (pos 0) ≡ pos 0
+fold_zero n depth =
+    let p = powers n depth in
+    sym (one_difference n (pos 0) (fold n (pos 0)) depth (record { low = omega (arith, ints); high = omega (arith, ints) })
+    (fold_range n (pos 0) depth) (fold_alike n (pos 0) depth))
+
+-- numbers of n bits that are alike are equal
+pub one_number_alike : (n a b : ℕ) → IsCodedDepth n → a < 2 ^ n → b < 2 ^ n → AreAlike n (pos a) (pos b) → a ≡ b
+one_number_alike n a b depth small tiny alike =
+    let p = powers n depth in
+    let h : ℤ = pos (2 ^ (n - 1)) in
+    let same : pos a -ℤ h ≡ pos b -ℤ h = one_difference n (pos a -ℤ h) (pos b -ℤ h) depth
+    (record { low = omega (arith, ints); high = omega (arith, ints) }) (record { low = omega (arith, ints); high = omega (arith, ints) })
+    (record { more = alike.more; less = alike.less; same = omega (arith, ints, alike.same) }) in
+    omega (arith, ints, same)
+
 -- ---- in 32 bits
 
 -- what a sum leaves in 32 bits, and how often 2^32 was passed over
-wrapped : (d : ℤ) (r h : ℕ) → SFits w32 d → r ≡ of_z w32 d → h ≤ 65536
+wrapped : (d : ℤ) (r h : ℕ) → SFits w32 d → r ≡ of_z w32 d
     → (times : ℕ) × (sum : ℕ) × (sum ≡ times * 4294967296 + (r + h) % 4294967296) × ((d +ℤ pos h) +ℤ pos 4294967296 ≡ pos sum)
-wrapped (pos a) r h fits is few =
-    let below : a < 2147483648 = fits.sfits in
-    (1, a + h + 4294967296, omega arith, omega (arith, ints))
-wrapped (negsuc a) r h fits is few =
+wrapped (pos a) r h fits is = ((r + h) / 4294967296 + 1, a + h + 4294967296, omega arith, omega (arith, ints))
+wrapped (negsuc a) r h fits is =
     let below : suc a ≤ 2147483648 = omega (arith, ints) in
-    ⊎_elim
-    (λ over. (1, h - suc a + 4294967296, omega arith, omega (arith, ints)))
-    (λ under. (0, h + 4294967296 - suc a, omega arith, omega (arith, ints)))
-    (cases_lt a h)
+    ((r + h) / 4294967296, r + h, omega arith, omega (arith, ints))
+
+-- what n bits of it are
+pub sum_wrapped : (n h : ℕ) (d : ℤ) (r : ℕ) → IsCodedDepth n → SFits w32 d → r ≡ of_z w32 d
+    → AreAlike n (d +ℤ pos h) (pos ((r + h) % 4294967296 % 2 ^ n))
+sum_wrapped n h d r depth fits is =
+    let p = powers n depth in
+    let some : 0 < 2 ^ n = omega (arith, p.whole, p.least) in
+    let k : ℕ = 2 ^ (32 - n) in
+    let all : k * 2 ^ n ≡ 4294967296 = sym (pow-add 2 (32 - n) n) ∙ ap (λ m. 2 ^ m) (let e : 32 - n + n ≡ 32 = omega (arith, depth.most) in e) in
+    let w = wrapped d r h fits is in
+    let t : ℕ = (r + h) % 4294967296 in
+    let split : t ≡ t / 2 ^ n * 2 ^ n + t % 2 ^ n = split_rest t (2 ^ n) some in
+    let parts : w.1 ≡ (w.0 * k + t / 2 ^ n) * 2 ^ n + t % 2 ^ n =
+    w.2 ∙ ap (λ m. w.0 * m + t) (sym all) ∙ (let e : w.0 * (k * 2 ^ n) + t ≡ (w.0 * k + t / 2 ^ n) * 2 ^ n + t % 2 ^ n = omega (arith, split) in e) in
+    let joined : (d +ℤ pos h) +ℤ pos (k * 2 ^ n) ≡ pos w.1 = ap (λ m. (d +ℤ pos h) +ℤ pos m) all ∙ w.3 in
+    record { more = k; less = w.0 * k + t / 2 ^ n; same = joined ∙ ap (λ m. pos m) parts ∙ omega (arith, ints) }
 
 pub fold_wrapped : (n : ℕ) (d : ℤ) (r : ℕ) → IsCodedDepth n → SFits w32 d → r ≡ of_z w32 d
     → fold n d ≡ pos ((r + 2 ^ (n - 1)) % 4294967296 % 2 ^ n) -ℤ pos (2 ^ (n - 1))
@@ -128,7 +156,7 @@ fold_wrapped n d r depth fits is =
     let some : 0 < 2 ^ n = omega (arith, p.whole, p.least) in
     let k : ℕ = 2 ^ (32 - n) in
     let all : k * 2 ^ n ≡ 4294967296 = sym (pow-add 2 (32 - n) n) ∙ ap (λ m. 2 ^ m) (let e : 32 - n + n ≡ 32 = omega (arith, depth.most) in e) in
-    let w = wrapped d r (2 ^ (n - 1)) fits is p.most in
+    let w = wrapped d r (2 ^ (n - 1)) fits is in
     let t : ℕ = (r + 2 ^ (n - 1)) % 4294967296 in
     let parts : w.1 ≡ w.0 * k * 2 ^ n + t =
     w.2 ∙ ap (λ m. w.0 * m + t) (sym all) ∙ (let e : w.0 * (k * 2 ^ n) + t ≡ w.0 * k * 2 ^ n + t = omega arith in e) in

@@ -36,7 +36,7 @@ impl Plane<'_> {
     {
         let near = self.near(x, y);
         let context = self.tables.context(&near);
-        let difference = i32::from(self.at(x + 2, y + 2)) - i32::from(near.prediction());
+        let difference = i32::from(self.at(x + 2, y + 2)) - near.prediction() as i32;
         let signed = if context < 0 { -difference } else { difference };
         Residual {
             context,
@@ -48,14 +48,16 @@ impl Plane<'_> {
     fn near(&self, x: usize, y: usize) -> Neighbours
         requires column { x < self.now.width }
         requires row { y < self.now.height }
+        ensures left { result.left < 256 }
+        ensures top { result.top < 256 }
     {
         Neighbours {
-            left: self.at(x + 1, y + 2),
-            top: self.at(x + 2, y + 1),
-            top_left: self.at(x + 1, y + 1),
-            top_right: self.at(x + 3, y + 1),
-            left_of_left: self.at(x, y + 2),
-            top_of_top: self.at(x + 2, y),
+            left: u32::from(self.at(x + 1, y + 2)),
+            top: u32::from(self.at(x + 2, y + 1)),
+            top_left: u32::from(self.at(x + 1, y + 1)),
+            top_right: u32::from(self.at(x + 3, y + 1)),
+            left_of_left: u32::from(self.at(x, y + 2)),
+            top_of_top: u32::from(self.at(x + 2, y)),
         }
     }
 

@@ -1,5 +1,5 @@
 -- How the parts of the decoder stop at a word that can't be read: a run, a sample, a line, a plane and the planes of a tile.
-use Rattle.std.specs.Prelude.{◌≡◌, ℕ, ◌+◌, ◌-◌, ◌*◌, ◌%◌, ◌<◌, ◌≤◌, ◌⊎◌, Bool, List, ◌++◌, length, get_or, ℤ, nat_abs}
+use Rattle.std.specs.Prelude.{◌≡◌, ℕ, ◌+◌, ◌-◌, ◌*◌, ◌%◌, ◌<◌, ◌≤◌, ◌⊎◌, Bool, List, ◌++◌, length, get_or, ℤ, nat_abs, ◌^◌}
 use Rattle.ffv1_range.specs.Setup.{SetupValue, set_entry}
 use Rattle.ffv1_range.specs.Tiles.{grid_of, plane_rect}
 use Rattle.ffv1_range.specs.declared.head.SliceHead.{SliceHead}
@@ -7,7 +7,7 @@ use Rattle.ffv1_rice.specs.States.{ContextState, start_state}
 use Rattle.ffv1_rice.specs.Codes.{IsCodeFault}
 use Rattle.ffv1_rice.specs.Runs.{IsShortWord}
 use Rattle.ffv1_rice.specs.declared.code.CodeFault.{CodeFault}
-use Rattle.ffv1_plane.specs.Samples.{plane_of, neighbours_at, context_of, IsPlaneOfSize}
+use Rattle.ffv1_plane.specs.Samples.{plane_of, neighbours_at, context_of, IsPlaneOfSize, Coding, coding_at}
 use Rattle.ffv1_plane.specs.Spelling.{Residuals, residuals_of, PlaneSpells, values_after}
 use Rattle.ffv1_plane.specs.Picture.{ArePlanesOf, IsPlaneIn, plane_set, shaped_plane, no_values}
 use Rattle.ffv1_plane.specs.Progress.{AreStatesAfter}
@@ -31,19 +31,19 @@ pub record IsRunCut (left index : ℕ) (bits : List Bool) (skipped : ℕ) : Type
   pub cut : IsShortWord next others
 
 -- the context of the next sample
-abbrev pub next_context : ℕ → (ℕ → ℕ → ℤ) → List ℕ → ℕ
-next_context width entry samples = nat_abs (context_of entry (neighbours_at width samples (length samples)))
+abbrev pub next_context : ℕ → Coding → List ℕ → ℕ
+next_context width coding samples = nat_abs (context_of coding.entry (neighbours_at width samples (length samples)))
 
 -- The code of the next sample can't be read.
-pub record IsCodeHalted (width : ℕ) (entry : ℕ → ℕ → ℤ) (level : Bool) (samples : List ℕ) (states : List ContextState) (bits : List Bool) (fault : CodeFault)
+pub record IsCodeHalted (width : ℕ) (coding : Coding) (level : Bool) (samples : List ℕ) (states : List ContextState) (bits : List Bool) (fault : CodeFault)
     (sample : ℕ) : Type 0 where
   pub place : sample ≡ length samples
-  pub below : next_context width entry samples < length states
-  pub given : IsCodeFault 8 (get_or states (next_context width entry samples) start_state) level bits fault
+  pub below : next_context width coding samples < length states
+  pub given : IsCodeFault coding.depth (get_or states (next_context width coding samples) start_state) level bits fault
 
-abbrev pub IsSampleHalted : ℕ → (ℕ → ℕ → ℤ) → Bool → List ℕ → List ContextState → List Bool → PlaneFault → Type 0
-IsSampleHalted width entry level samples states bits (plane_faults.Code fault sample) = IsCodeHalted width entry level samples states bits fault sample
-IsSampleHalted width entry level samples states bits plane_faults.Memory = Unit {0}
+abbrev pub IsSampleHalted : ℕ → Coding → Bool → List ℕ → List ContextState → List Bool → PlaneFault → Type 0
+IsSampleHalted width coding level samples states bits (plane_faults.Code fault sample) = IsCodeHalted width coding level samples states bits fault sample
+IsSampleHalted width coding level samples states bits plane_faults.Memory = Unit {0}
 
 -- ---- a line and a plane
 
@@ -55,30 +55,30 @@ pub record IsHalted (earlier : ℕ → List ℤ) (r : Residuals) (bits : List Bo
   pub refused : IsWordRefused earlier r sample part others fault
 
 -- That sample is in the rest of the line, and all is said of every plane that begins with these samples.
-pub record IsLineHalted (earlier : ℕ → List ℤ) (width : ℕ) (entry : ℕ → ℕ → ℤ) (old : List ℕ) (bits : List Bool) (fault : CodeFault) (sample : ℕ) : Type 0 where
+pub record IsLineHalted (earlier : ℕ → List ℤ) (width : ℕ) (coding : Coding) (old : List ℕ) (bits : List Bool) (fault : CodeFault) (sample : ℕ) : Type 0 where
   pub samples : List ℕ
-  pub bytes : (s : ℕ) → get_or samples s 0 < 256
+  pub small : (s : ℕ) → get_or samples s 0 < 2 ^ coding.depth
   pub inside : sample < length samples
   pub in_line : length samples ≤ length old + (width - length old % width)
-  pub halted : (more : List ℕ) → IsHalted earlier (residuals_of (plane_of width entry (samples ++ more))) bits fault sample
+  pub halted : (more : List ℕ) → IsHalted earlier (residuals_of (plane_of width coding (samples ++ more))) bits fault sample
 
-abbrev pub IsNextHalted : ℕ → (ℕ → ℕ → ℤ) → List ℕ → ℕ → List ContextState → List Bool → PlaneFault → Type 0
-IsNextHalted width entry old index states left (plane_faults.Code fault sample) =
-    (earlier : ℕ → List ℤ) (bits : List Bool) → ((s : ℕ) → get_or old s 0 < 256) → IsReadTo earlier width entry bits old index states left
-    → IsLineHalted earlier width entry old bits fault sample
-IsNextHalted width entry old index states left plane_faults.Memory = Unit {0}
+abbrev pub IsNextHalted : ℕ → Coding → List ℕ → ℕ → List ContextState → List Bool → PlaneFault → Type 0
+IsNextHalted width coding old index states left (plane_faults.Code fault sample) =
+    (earlier : ℕ → List ℤ) (bits : List Bool) → ((s : ℕ) → get_or old s 0 < 2 ^ coding.depth) → IsReadTo earlier width coding bits old index states left
+    → IsLineHalted earlier width coding old bits fault sample
+IsNextHalted width coding old index states left plane_faults.Memory = Unit {0}
 
 -- For some plane of this size no word of a sample can be read.
-pub record IsPlaneHalted (earlier : ℕ → List ℤ) (width height : ℕ) (entry : ℕ → ℕ → ℤ) (bits : List Bool) (fault : CodeFault) (sample : ℕ) : Type 0 where
+pub record IsPlaneHalted (earlier : ℕ → List ℤ) (width height : ℕ) (coding : Coding) (bits : List Bool) (fault : CodeFault) (sample : ℕ) : Type 0 where
   pub samples : List ℕ
-  pub size : IsPlaneOfSize width height samples
+  pub size : IsPlaneOfSize coding.depth width height samples
   pub inside : sample < width * height
-  pub halted : IsHalted earlier (residuals_of (plane_of width entry samples)) bits fault sample
+  pub halted : IsHalted earlier (residuals_of (plane_of width coding samples)) bits fault sample
 
-abbrev pub IsDecodingHalted : ℕ → ℕ → (ℕ → ℕ → ℤ) → List ContextState → List Bool → PlaneFault → Type 0
-IsDecodingHalted width height entry states bits (plane_faults.Code fault sample) =
-    (earlier : ℕ → List ℤ) → AreStatesAfter earlier states → IsPlaneHalted earlier width height entry bits fault sample
-IsDecodingHalted width height entry states bits plane_faults.Memory = Unit {0}
+abbrev pub IsDecodingHalted : ℕ → ℕ → Coding → List ContextState → List Bool → PlaneFault → Type 0
+IsDecodingHalted width height coding states bits (plane_faults.Code fault sample) =
+    (earlier : ℕ → List ℤ) → AreStatesAfter coding.depth earlier states → IsPlaneHalted earlier width height coding bits fault sample
+IsDecodingHalted width height coding states bits plane_faults.Memory = Unit {0}
 
 -- ---- the planes of a tile
 
@@ -88,11 +88,11 @@ pub record IsTilePlaneHalted (setup : SetupValue) (head : SliceHead) (plane : �
   pub row_there : y < (plane_rect (grid_of setup) head.tile plane).h
   pub column_there : x < (plane_rect (grid_of setup) head.tile plane).w
   pub halted : IsPlaneHalted earlier (plane_rect (grid_of setup) head.tile plane).w (plane_rect (grid_of setup) head.tile plane).h
-      (set_entry setup (plane_set head plane)) bits fault (y * (plane_rect (grid_of setup) head.tile plane).w + x)
+      (coding_at 8 (set_entry setup (plane_set head plane))) bits fault (y * (plane_rect (grid_of setup) head.tile plane).w + x)
 
 abbrev pub IsPlaneOfHalted : SetupValue → SliceHead → ℕ → List ContextState → List Bool → TileFault → Type 0
 IsPlaneOfHalted setup head plane states bits (Code fault level y x) = (level ≡ plane)
-    × ((earlier : ℕ → List ℤ) → AreStatesAfter earlier states → IsTilePlaneHalted setup head plane earlier bits fault y x)
+    × ((earlier : ℕ → List ℤ) → AreStatesAfter 8 earlier states → IsTilePlaneHalted setup head plane earlier bits fault y x)
 IsPlaneOfHalted setup head plane states bits Memory = Unit {0}
 IsPlaneOfHalted setup head plane states bits other = ⊥
 

@@ -1,10 +1,13 @@
 -- The lines of a reader, as rows of the plane that is read.
-use Rattle.std.specs.Prelude.{◌≡◌, ℕ, ◌+◌, ◌/◌, ◌%◌, ◌<◌, ◌≤◌, List, ◌++◌, length, take, drop, get_or}
+use Rattle.std.specs.Prelude.{◌≡◌, ℕ, ◌+◌, ◌/◌, ◌%◌, ◌<◌, ◌≤◌, List, ◌++◌, length, take, drop, get_or, ◌^◌}
+use Rattle.ffv1_rice.specs.States.{IsCodedDepth}
 use Rattle.ffv1_bits.specs.Limits.{greatest_side}
 use Rattle.ffv1_plane.specs.Samples.{sample_at, neighbours_at}
 
--- What is read: the width of the plane, the samples so far, and how many of them are in a row that is not ended yet.
+-- What is read: the depth and the width of the plane, the samples so far, and how many of them are in a row that is not
+-- ended yet.
 pub record RowsRead : Type 0 where
+  pub depth : ℕ
   pub width : ℕ
   pub x : ℕ
   pub samples : List ℕ
@@ -31,12 +34,13 @@ abbrev pub samples_so_far : ℕ → List ℕ → List ℕ → List ℕ
 samples_so_far x rows line = rows ++ take x (drop 2 line)
 
 -- Three lines are the row that is read, up to x, the row above it and the one above that, after the rows that are ended.
-pub record AreNearLines (width x : ℕ) (rows line above far_above : List ℕ) : Type 0 where
+pub record AreNearLines (depth width x : ℕ) (rows line above far_above : List ℕ) : Type 0 where
+  pub deep : IsCodedDepth depth
   pub some : 1 ≤ width
   pub wide : width ≤ greatest_side
   pub within : x ≤ width
   pub whole : length rows % width ≡ 0
-  pub bytes : (s : ℕ) → get_or (samples_so_far x rows line) s 0 < 256
+  pub small : (s : ℕ) → get_or (samples_so_far x rows line) s 0 < 2 ^ depth
   pub line_long : length line ≡ width + 3
   pub above_long : length above ≡ width + 3
   pub far_above_long : length far_above ≡ width + 3

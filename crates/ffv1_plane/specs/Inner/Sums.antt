@@ -1,8 +1,9 @@
--- Sums modulo 256.
-use Rattle.std.specs.Prelude.{◌≡◌, ℕ, ◌+◌, ◌*◌, ◌<◌, ℤ, pos, ◌+ℤ◌}
+-- Sums modulo 2^n.
+use Rattle.std.specs.Prelude.{◌≡◌, ℕ, ◌+◌, ◌*◌, ◌^◌, ◌<◌, ℤ, pos, ◌+ℤ◌}
 
--- result is prediction and change modulo 256
-pub record IsSumModulo (prediction : ℕ) (change : ℤ) (result : ℕ) : Type 0 where
-  pub wraps : ℕ
-  pub small : result < 256
-  pub sum : (pos prediction +ℤ change) +ℤ pos 256 ≡ pos (256 * wraps + result)
+-- result is prediction and change modulo 2^n
+pub record IsSumModulo (n prediction : ℕ) (change : ℤ) (result : ℕ) : Type 0 where
+  pub more : ℕ
+  pub less : ℕ
+  pub small : result < 2 ^ n
+  pub sum : (pos prediction +ℤ change) +ℤ pos (more * 2 ^ n) ≡ pos (less * 2 ^ n + result)

@@ -1,6 +1,8 @@
-use Rattle.std.proofs.Common.{◌≡◌, ◌≤◌, ◌+◌, ◌*◌, ◌%◌, length, slice_index, arith, ap, sym, refl, ◌∙◌}
+use Rattle.std.proofs.Common.{◌≡◌, ◌≤◌, ◌+◌, ◌*◌, ◌%◌, length, slice_index, arith, ap, sym, refl, ◌∙◌, subst, ◌<◌, ◌^◌}
 use Rattle.std.proofs.Math.Nat.{mul_comm, mul-le-mul_right, mul-mod_left}
 use Rattle.std.proofs.lemmas.Result.{err_from_is_err_and}
+use Rattle.std.proofs.lemmas.Nat.{pow_pos}
+use Rattle.ffv1_plane.specs.Samples.{coding_at}
 use Rattle.ffv1_range.specs.Setup.{set_entry, set_contexts}
 use Rattle.ffv1_plane.proofs.Reading.{whole_plane, no_samples}
 use Rattle.ffv1_plane.proofs.Wholes.{plane_halted}
@@ -8,7 +10,7 @@ use Rattle.ffv1_plane.proofs.Readers.{same_read, same_halted}
 use Rattle.ffv1_plane.proofs.plane.decode_plane.Goals as goal
 
 pub new-requires : goal.new-requires
-new-requires c = record { some = c.requires.some; width = c.requires.width; height = c.requires.height }
+new-requires c = record { depth = c.requires.depth; some = c.requires.some; width = c.requires.width; height = c.requires.height }
 
 pub read_row-requires : goal.read_row-requires
 read_row-requires c = record {
@@ -30,13 +32,14 @@ loop-init c =
     record {
       read = λ earlier after.
           rw (samples, c.start.ensures, c.fork.ensures) (no_samples earlier c.args.width
-          (set_entry c.args.tables.now.setup c.args.tables.now.set) c.args.bits.now.left c.args.states.items after);
+          (coding_at c.args.depth (set_entry c.args.tables.now.setup c.args.tables.now.set)) c.args.bits.now.left c.args.states.items after);
+      depth = ap (λ r. r.depth) c.in-Ok.ensures;
       width = ap (λ r. r.width) c.in-Ok.ensures;
       tables = refl;
       states = refl;
       start = ap (λ r. r.x) c.in-Ok.ensures;
       size = omega (arith, ap length samples);
-      bytes = λ s. let e = ap (λ l. slice_index l s) samples in omega (arith, e);
+      small = λ s. let e = ap (λ l. slice_index l s) samples in omega (arith, e, pow_pos c.args.depth);
     }
 
 pub loop-preserved : goal.loop-preserved
@@ -44,24 +47,26 @@ loop-preserved c =
     let same = c.in_ok-read_row.ensures.same in
     let ended = c.in-Ok-end_row.ensures in
     let width = ap (λ r. r.width) ended ∙ same.width ∙ c.loop.invariant.width in
+    let depth = ap (λ r. r.depth) ended ∙ same.depth ∙ c.loop.invariant.depth in
     let samples = ap (λ r. r.samples) ended in
     record {
       read = λ earlier after.
-          same_read earlier c.read_row.new.self.lines.width c.args.width c.read_row.new.self.tables.now c.args.tables.now c.read_row.new.self.index
+          same_read earlier c.read_row.new.self.lines.depth c.args.depth c.read_row.new.self.lines.width c.args.width c.read_row.new.self.tables.now c.args.tables.now c.read_row.new.self.index
           c.read_row.new.self.index c.args.bits.now.left c.read_row.new.self.bits.left
-          c.read_row.new.self.lines.samples c.end_row.new.self.samples c.read_row.new.self.states.items (sym (same.width ∙ c.loop.invariant.width))
+          c.read_row.new.self.lines.samples c.end_row.new.self.samples c.read_row.new.self.states.items (sym (same.depth ∙ c.loop.invariant.depth)) (sym (same.width ∙ c.loop.invariant.width))
           (sym (same.tables ∙ c.loop.invariant.tables)) refl samples
           (c.in_ok-read_row.ensures.read earlier c.args.bits.now.left
-          (same_read earlier c.args.width c.loop.reader.lines.width c.args.tables.now c.loop.reader.tables.now c.loop.reader.index c.loop.reader.index
+          (same_read earlier c.args.depth c.loop.reader.lines.depth c.args.width c.loop.reader.lines.width c.args.tables.now c.loop.reader.tables.now c.loop.reader.index c.loop.reader.index
           c.args.bits.now.left c.loop.reader.bits.left
-          c.loop.reader.lines.samples c.loop.reader.lines.samples c.loop.reader.states.items c.loop.invariant.width c.loop.invariant.tables refl refl
+          c.loop.reader.lines.samples c.loop.reader.lines.samples c.loop.reader.states.items c.loop.invariant.depth c.loop.invariant.width c.loop.invariant.tables refl refl
           (c.loop.invariant.read earlier after)));
+      depth = depth;
       width = width;
       tables = same.tables ∙ c.loop.invariant.tables;
       states = same.states ∙ c.loop.invariant.states;
       start = ap (λ r. r.x) ended;
       size = omega (arith, ap length samples, c.in_ok-read_row.ensures.count, c.loop.invariant.size, c.loop.invariant.width);
-      bytes = λ s. let e = ap (λ l. slice_index l s) samples in let small = c.in_ok-read_row.ensures.bytes s in omega (arith, e, small);
+      small = λ s. let e = ap (λ l. slice_index l s) samples in let below = subst (λ n. slice_index c.read_row.new.self.lines.samples s < 2 ^ n) c.loop.invariant.depth (c.in_ok-read_row.ensures.small s) in omega (arith, e, below);
     }
 
 pub returns-in_err-read_row : goal.returns-in_err-read_row
@@ -74,12 +79,12 @@ returns-in_err-read_row c =
       size = tt;
       read = tt;
       err =
-          plane_halted c.args.width c.args.height (set_entry c.args.tables.now.setup c.args.tables.now.set) c.args.states.items c.loop.reader.states.items
+          plane_halted c.args.width c.args.height (coding_at c.args.depth (set_entry c.args.tables.now.setup c.args.tables.now.set)) c.args.states.items c.loop.reader.states.items
           c.args.bits.now.left c.loop.reader.bits.left c.loop.reader.lines.samples c.loop.reader.index _
-          c.requires.some c.loop.invariant.read c.loop.invariant.bytes (omega (arith, rows, c.loop.invariant.size, c.requires.some))
-          (same_halted c.loop.reader.lines.width c.args.width c.loop.reader.tables.now c.args.tables.now c.loop.reader.lines.samples c.loop.reader.index
+          c.requires.some c.loop.invariant.read c.loop.invariant.small (omega (arith, rows, c.loop.invariant.size, c.requires.some))
+          (same_halted c.loop.reader.lines.depth c.args.depth c.loop.reader.lines.width c.args.width c.loop.reader.tables.now c.args.tables.now c.loop.reader.lines.samples c.loop.reader.index
           c.loop.reader.states.items c.loop.reader.bits.left _
-          (sym c.loop.invariant.width) (sym c.loop.invariant.tables) c.in_err-read_row.ensures.err);
+          (sym c.loop.invariant.depth) (sym c.loop.invariant.width) (sym c.loop.invariant.tables) c.in_err-read_row.ensures.err);
     })
 
 pub returns : goal.returns
@@ -90,11 +95,11 @@ returns c =
       size = record {
         count = ap length c.into_rows.ensures ∙ c.loop.invariant.size ∙ ap
             (λ n. n * c.args.width) all ∙ mul_comm c.args.height c.args.width;
-        bytes = λ s. let e = ap (λ l. slice_index l s) c.into_rows.ensures in let small = c.loop.invariant.bytes s in omega (arith, e, small);
+        small = λ s. let e = ap (λ l. slice_index l s) c.into_rows.ensures in let below = c.loop.invariant.small s in omega (arith, e, below);
       };
       read = λ earlier after.
           rw c.into_rows.ensures
-          (whole_plane earlier c.args.width (set_entry c.args.tables.now.setup c.args.tables.now.set) c.args.bits.now.left c.loop.reader.bits.left
+          (whole_plane earlier c.args.width (coding_at c.args.depth (set_entry c.args.tables.now.setup c.args.tables.now.set)) c.args.bits.now.left c.loop.reader.bits.left
           c.loop.reader.lines.samples c.loop.reader.index c.loop.reader.states.items (c.loop.invariant.read earlier after));
       err = tt;
     }

@@ -21,14 +21,14 @@ invariant_of-self-2 c =
     let more : c.extend_from_slice.new.self.items ≡ samples_so_far c.self.inside.width c.self.inside.rows.items c.self.inside.line.items =
     c.in_ok-extend_from_slice.ensures.items ∙ ap (λ l. c.self.inside.rows.items ++ take (c.self.inside.width + 2 - 2) (drop 2 l)) c.deref.ensures.value
     ∙ ap (λ n. c.self.inside.rows.items ++ take n (drop 2 c.self.inside.line.items)) w_is in
-    let whole : AreNearLines c.self.inside.width c.self.inside.width c.self.inside.rows.items c.self.inside.line.items c.self.inside.above.items
+    let whole : AreNearLines c.self.inside.depth c.self.inside.width c.self.inside.width c.self.inside.rows.items c.self.inside.line.items c.self.inside.above.items
     c.self.inside.far_above.items =
-    subst (λ (k : ℕ). AreNearLines c.self.inside.width k c.self.inside.rows.items c.self.inside.line.items c.self.inside.above.items
+    subst (λ (k : ℕ). AreNearLines c.self.inside.depth c.self.inside.width k c.self.inside.rows.items c.self.inside.line.items c.self.inside.above.items
     c.self.inside.far_above.items) full c.self.invariant in
     let left : c.index-2.result.now ≡ get_or c.swap-2.new.x.items 2 0 = get_or_read c.swap-2.new.x.items 2 c.index-2.result.now
     (omega (arith, ap length moved, length-set c.self.inside.line.items (c.self.inside.width + 2) c.index.result.now, long)) c.index-2.ensures 0 in
     rw (left, cleared, raised)
-    (rolled c.self.inside.width c.self.inside.rows.items c.self.inside.line.items c.self.inside.above.items c.self.inside.far_above.items whole
+    (rolled c.self.inside.depth c.self.inside.width c.self.inside.rows.items c.self.inside.line.items c.self.inside.above.items c.self.inside.far_above.items whole
     c.extend_from_slice.new.self.items c.swap-2.new.x.items more bordered)
 
 pub returns-in_err-extend_from_slice : goal.returns-in_err-extend_from_slice

@@ -9,5 +9,5 @@ returns c =
     let left = get_or_read c.self.inside.line.items (c.self.inside.x + 1) c.index.result.now (omega arith) c.index.ensures 0 in
     rw (← c.self.view_is)
     (left
-    ∙ ap (λ near. near.left) (near_is c.self.inside.width c.self.inside.x c.self.inside.rows.items c.self.inside.line.items c.self.inside.above.items
+    ∙ ap (λ near. near.left) (near_is c.self.inside.depth c.self.inside.width c.self.inside.x c.self.inside.rows.items c.self.inside.line.items c.self.inside.above.items
     c.self.inside.far_above.items c.self.invariant less))

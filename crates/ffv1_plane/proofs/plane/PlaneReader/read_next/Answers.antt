@@ -1,8 +1,7 @@
-use Rattle.std.proofs.Common.{◌≡◌, ◌≤◌, ◌<◌, ◌-◌, ◌%◌, ℕ, true, pos, length, arith, rules, subst, refl, ◌∙◌}
+use Rattle.std.proofs.Common.{◌≡◌, ◌≤◌, ◌<◌, ◌-◌, ◌%◌, pos, length, arith, rules, refl, ◌∙◌}
 use Rattle.std.proofs.lemmas.Int.{ints}
 use Rattle.std.proofs.lemmas.Result.{on_ok_weaker, IfErr-weaker}
-use Rattle.ffv1_plane.specs.Inner.Progress.{IsSampleRead}
-use Rattle.ffv1_plane.specs.Inner.Readers.{entry_of}
+use Rattle.ffv1_plane.specs.Inner.Readers.{coding_of}
 use Rattle.ffv1_plane.proofs.Reading.{scalar_read_at, zero_here, run_end_read, run_level_read}
 use Rattle.ffv1_plane.proofs.Halting.{scalar_stops, word_halted, level_stops}
 use Rattle.ffv1_plane.proofs.Readers.{same_read, one_more}
@@ -24,22 +23,22 @@ returns-then-context-ne0 c =
       same = same;
       left = c.read_code.ensures.left;
       read = on_ok_weaker c.read_code.result
-          (λ read earlier whole so_far. same_read earlier c.args.self.now.lines.width c.read_code.new.self.lines.width c.args.self.now.tables.now
+          (λ read earlier whole so_far. same_read earlier c.args.self.now.lines.depth c.read_code.new.self.lines.depth c.args.self.now.lines.width c.read_code.new.self.lines.width c.args.self.now.tables.now
           c.read_code.new.self.tables.now c.args.self.now.index c.read_code.new.self.index whole c.read_code.new.self.bits.left
-          c.read_code.new.self.lines.samples c.read_code.new.self.lines.samples c.read_code.new.self.states.items same.width same.tables
+          c.read_code.new.self.lines.samples c.read_code.new.self.lines.samples c.read_code.new.self.states.items same.depth same.width same.tables
           c.read_code.ensures.index
           refl
-          (scalar_read_at earlier c.args.self.now.lines.width (entry_of c.args.self.now) _ _ _ _ _ _ _ c.neighbours-near.result c.context-context.result some
-          c.neighbours-near.ensures c.context-context.ensures.value
+          (scalar_read_at earlier c.args.self.now.lines.width (coding_of c.args.self.now) _ _ _ _ _ _ _ c.neighbours-near.result c.context-context.result some
+          c.neighbours-near.ensures.value c.context-context.ensures.value
           (λ e. absurd (omega (arith, ints, e))) read whole so_far))
           c.read_code.ensures.read;
       more = on_ok_weaker c.read_code.result (λ moved. omega (arith, moved)) c.read_code.ensures.moved;
       count = one_more c.read_code.result _ _ _ _ _ _ _ _ _ c.args.self.now.lines.x c.read_code.new.self.lines.x c.read_code.ensures.moved
           c.read_code.ensures.read;
       err = IfErr-weaker c.read_code.result _ _
-          (scalar_stops c.args.self.now.lines.width (entry_of c.args.self.now) some c.args.self.now.lines.samples c.args.self.now.index
+          (scalar_stops c.args.self.now.lines.width (coding_of c.args.self.now) some c.neighbours-near.ensures.deep c.args.self.now.lines.samples c.args.self.now.index
           c.args.self.now.states.items c.args.self.now.bits.left
-          c.neighbours-near.result c.context-context.result c.neighbours-near.ensures c.context-context.ensures.value (λ e. absurd (omega (arith, ints, e))))
+          c.neighbours-near.result c.context-context.result c.neighbours-near.ensures.value c.context-context.ensures.value (λ e. absurd (omega (arith, ints, e))))
           c.read_code.ensures.err;
     }
 
@@ -48,15 +47,15 @@ returns-in-Err c =
     let due = run_due (goal.at.returns-in-Err c).After-read_run in
     let cut = rw due.2 at c.in-Err.ensures.err in
     record {
-      same = record { width = refl; tables = refl; states = refl };
+      same = record { depth = refl; width = refl; tables = refl; states = refl };
       left = tt;
       read = tt;
       more = tt;
       count = tt;
-      err = word_halted c.args.self.now.lines.width (entry_of c.args.self.now) due.0 c.args.self.now.lines.samples c.args.self.now.index
+      err = word_halted c.args.self.now.lines.width (coding_of c.args.self.now) due.0 c.neighbours-near.ensures.deep c.args.self.now.lines.samples c.args.self.now.index
           c.args.self.now.states.items
           c.args.self.now.bits.left
-          c.neighbours-near.result c.context-context.result c.neighbours-near.ensures c.context-context.ensures.value due.1 _ _ _ c.in-Err.ensures.truncated
+          c.neighbours-near.result c.context-context.result c.neighbours-near.ensures.value c.context-context.ensures.value due.1 _ _ _ c.in-Err.ensures.truncated
           (search rules) cut;
     }
 
@@ -68,34 +67,33 @@ returns-then-count-most c =
     omega (arith, due.2, c.if-count-most.true) in
     let same = c.read_level.ensures.same in
     record {
-      same = record { width = same.width ∙ c.skip.ensures.width; tables = same.tables; states = same.states };
+      same = record { depth = same.depth ∙ c.skip.ensures.depth; width = same.width ∙ c.skip.ensures.width; tables = same.tables; states = same.states };
       left = c.read_level.ensures.left;
       read = on_ok_weaker c.read_level.result
-          (λ read earlier whole so_far. same_read earlier c.args.self.now.lines.width c.read_level.new.self.lines.width c.args.self.now.tables.now
+          (λ read earlier whole so_far. same_read earlier c.args.self.now.lines.depth c.read_level.new.self.lines.depth c.args.self.now.lines.width c.read_level.new.self.lines.width c.args.self.now.tables.now
           c.read_level.new.self.tables.now c.read_run.new.index c.read_level.new.self.index whole c.read_level.new.self.bits.left
           c.read_level.new.self.lines.samples c.read_level.new.self.lines.samples c.read_level.new.self.states.items
-          (same.width ∙ c.skip.ensures.width) same.tables c.read_level.ensures.index refl
-          (run_level_read earlier c.args.self.now.lines.width (entry_of c.args.self.now) due.0 whole c.args.self.now.bits.left c.args.self.now.lines.samples
+          (same.depth ∙ c.skip.ensures.depth) (same.width ∙ c.skip.ensures.width) same.tables c.read_level.ensures.index refl
+          (run_level_read earlier c.args.self.now.lines.width (coding_of c.args.self.now) due.0 whole c.args.self.now.bits.left c.args.self.now.lines.samples
           c.skip.new.self.samples c.args.self.now.index c.args.self.now.states.items so_far
-          (zero_here c.args.self.now.lines.width (entry_of c.args.self.now) c.args.self.now.lines.samples c.neighbours-near.result c.context-context.result due.0
-          c.neighbours-near.ensures c.context-context.ensures.value due.1)
-          c.in-Ok.count c.read_run.new.index c.read_run.new.bits.left run (c.skip.ensures.skipped (entry_of c.args.self.now))
+          (zero_here c.args.self.now.lines.width (coding_of c.args.self.now) c.args.self.now.lines.samples c.neighbours-near.result c.context-context.result due.0
+          c.neighbours-near.ensures.value c.context-context.ensures.value due.1)
+          c.in-Ok.count c.read_run.new.index c.read_run.new.bits.left run (c.skip.ensures.skipped (coding_of c.args.self.now) c.neighbours-near.ensures.deep)
           _ _ _ less
-          (subst (λ (w : ℕ). IsSampleRead w (entry_of c.args.self.now) true c.skip.new.self.samples c.args.self.now.states.items c.read_run.new.bits.left
-          c.read_level.new.self.lines.samples c.read_level.new.self.states.items c.read_level.new.self.bits.left) c.skip.ensures.width read)))
+          (rw (c.skip.ensures.depth, c.skip.ensures.width) at read)))
           c.read_level.ensures.read;
       more = on_ok_weaker c.read_level.result (λ moved. omega (arith, moved, c.skip.ensures.x)) c.read_level.ensures.moved;
       count = on_ok_weaker c.read_level.result (λ more. omega (arith, more, c.skip.ensures.x, c.skip.ensures.count))
           (one_more c.read_level.result _ _ _ _ _ _ _ _ _ c.skip.new.self.x c.read_level.new.self.lines.x c.read_level.ensures.moved c.read_level.ensures.read);
       err = IfErr-weaker c.read_level.result _ _
-          (level_stops c.args.self.now.lines.width (entry_of c.args.self.now) due.0 c.args.self.now.lines.samples c.args.self.now.index
+          (level_stops c.args.self.now.lines.width (coding_of c.args.self.now) due.0 c.neighbours-near.ensures.deep c.args.self.now.lines.samples c.args.self.now.index
           c.args.self.now.states.items
           c.args.self.now.bits.left
-          c.neighbours-near.result c.context-context.result c.neighbours-near.ensures c.context-context.ensures.value due.1 c.skip.new.self.samples
+          c.neighbours-near.result c.context-context.result c.neighbours-near.ensures.value c.context-context.ensures.value due.1 c.skip.new.self.samples
           c.in-Ok.count
           c.read_run.new.index c.read_run.new.bits.left run
-          (c.skip.ensures.skipped (entry_of c.args.self.now)) less c.skip.ensures.bytes)
-          (rw c.skip.ensures.width at c.read_level.ensures.err);
+          (c.skip.ensures.skipped (coding_of c.args.self.now) c.neighbours-near.ensures.deep) less c.skip.ensures.small)
+          (rw (c.skip.ensures.depth, c.skip.ensures.width) at c.read_level.ensures.err);
     }
 
 pub returns-else-count-most : goal.returns-else-count-most
@@ -105,16 +103,16 @@ returns-else-count-most c =
     let whole_row : c.args.self.now.lines.width - length c.args.self.now.lines.samples % c.args.self.now.lines.width ≡ c.in-Ok.count =
     (let enough = c.if-count-most.false in omega (arith, due.2, enough, run.fits)) in
     record {
-      same = record { width = c.skip.ensures.width; tables = refl; states = refl };
+      same = record { depth = c.skip.ensures.depth; width = c.skip.ensures.width; tables = refl; states = refl };
       left = λ inside. absurd (omega (arith, inside, c.skip.ensures.x, c.skip.ensures.width, c.width.ensures.value, c.column.ensures.value));
-      read = λ earlier whole so_far. same_read earlier c.args.self.now.lines.width c.skip.new.self.width c.args.self.now.tables.now c.args.self.now.tables.now
+      read = λ earlier whole so_far. same_read earlier c.args.self.now.lines.depth c.skip.new.self.depth c.args.self.now.lines.width c.skip.new.self.width c.args.self.now.tables.now c.args.self.now.tables.now
           c.read_run.new.index c.read_run.new.index whole c.read_run.new.bits.left
-          c.skip.new.self.samples c.skip.new.self.samples c.args.self.now.states.items c.skip.ensures.width refl refl refl
-          (run_end_read earlier c.args.self.now.lines.width (entry_of c.args.self.now) due.0 whole c.args.self.now.bits.left c.args.self.now.lines.samples
+          c.skip.new.self.samples c.skip.new.self.samples c.args.self.now.states.items c.skip.ensures.depth c.skip.ensures.width refl refl refl
+          (run_end_read earlier c.args.self.now.lines.width (coding_of c.args.self.now) due.0 whole c.args.self.now.bits.left c.args.self.now.lines.samples
           c.skip.new.self.samples c.args.self.now.index c.args.self.now.states.items so_far
-          (zero_here c.args.self.now.lines.width (entry_of c.args.self.now) c.args.self.now.lines.samples c.neighbours-near.result c.context-context.result due.0
-          c.neighbours-near.ensures c.context-context.ensures.value due.1)
-          c.in-Ok.count c.read_run.new.index c.read_run.new.bits.left run (c.skip.ensures.skipped (entry_of c.args.self.now)) whole_row);
+          (zero_here c.args.self.now.lines.width (coding_of c.args.self.now) c.args.self.now.lines.samples c.neighbours-near.result c.context-context.result due.0
+          c.neighbours-near.ensures.value c.context-context.ensures.value due.1)
+          c.in-Ok.count c.read_run.new.index c.read_run.new.bits.left run (c.skip.ensures.skipped (coding_of c.args.self.now) c.neighbours-near.ensures.deep) whole_row);
       more = omega (arith, c.requires.inside, c.skip.ensures.x, c.width.ensures.value, c.column.ensures.value);
       count = omega (arith, c.skip.ensures.x, c.skip.ensures.count);
       err = tt;

@@ -1,4 +1,4 @@
-use Rattle.std.proofs.Common.{◌≡◌, ◌<◌, ◌%◌, [], pos, get_or, arith, ap, ◌∙◌}
+use Rattle.std.proofs.Common.{◌≡◌, ◌<◌, ◌%◌, [], pos, get_or, arith, ap, ◌∙◌, ◌+◌, ◌-◌}
 use Rattle.ffv1_range.specs.Setup.{set_entry}
 use Rattle.ffv1_plane.specs.Samples.{modular_difference}
 use Rattle.ffv1_plane.proofs.Contexts.{entry_low, entry_high, kept_entry}
@@ -6,17 +6,18 @@ use Rattle.ffv1_plane.proofs.tables.Tables.entry.Goals as goal
 
 pub returns-clause-entry : goal.returns-clause-entry
 returns-clause-entry c =
-    let place : c.from.result ≡ modular_difference c.args.high c.args.low = c.from.ensures ∙ ap (λ n. n % 256) (let small = c.ranges.low in omega arith) in
+    let place : (c.args.high + (4294967296 - c.args.low)) % 4294967296 % 256 ≡ modular_difference c.args.high c.args.low =
+    (let small = c.ranges.low in let tiny = c.ranges.high in omega arith) in
     let inside : modular_difference c.args.high c.args.low < 256 = omega arith in
     let kept = c.self.invariant.are_entries c.args.table (modular_difference c.args.high c.args.low) c.requires.table inside in
-    let there : get_or (get_or c.self.inside.entries c.args.table []) c.from.result
+    let there : get_or (get_or c.self.inside.entries c.args.table []) ((c.args.high + (4294967296 - c.args.low)) % 4294967296 % 256)
     (pos 0) ≡ set_entry c.self.inside.setup.now c.self.inside.set c.args.table (modular_difference c.args.high c.args.low) =
     ap (λ k. get_or (get_or c.self.inside.entries c.args.table []) k (pos 0)) place ∙ kept in
     let low = entry_low c.self.inside.setup.now c.self.inside.set c.args.table
     (modular_difference c.args.high c.args.low) c.self.invariant.profile c.self.invariant.there c.requires.table in
     let high = entry_high c.self.inside.setup.now c.self.inside.set c.args.table
     (modular_difference c.args.high c.args.low) c.self.invariant.profile c.self.invariant.there c.requires.table in
-    rw (← c.self.view_is) (kept_entry c.from-2.result _ _ c.from-2.ensures there low high)
+    rw (← c.self.view_is) (kept_entry c.from.result _ _ c.from.ensures there low high)
 
 pub returns-clause-low : goal.returns-clause-low
 returns-clause-low c =

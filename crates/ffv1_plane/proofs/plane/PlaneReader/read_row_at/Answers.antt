@@ -1,9 +1,9 @@
-use Rattle.std.proofs.Common.{◌≡◌, ◌<◌, ◌%◌, length, sym, arith, ap, refl, ◌∙◌}
+use Rattle.std.proofs.Common.{◌≡◌, ◌<◌, ◌%◌, length, sym, arith, ap, refl, ◌∙◌, subst, slice_index, ◌^◌}
 use Rattle.std.proofs.lemmas.Result.{err_from_is_err_and}
 use Rattle.ffv1_range.specs.Setup.{set_contexts}
-use Rattle.ffv1_plane.specs.Inner.Readers.{entry_of}
+use Rattle.ffv1_plane.specs.Inner.Readers.{coding_of}
 use Rattle.ffv1_plane.proofs.Readers.{same_plane, same_planes, row_halted, same_read, same_halted}
-use Rattle.ffv1_plane.proofs.plane.PlaneReader.read_row.Goals as goal
+use Rattle.ffv1_plane.proofs.plane.PlaneReader.read_row_at.Goals as goal
 
 pub loop-self-init : goal.loop-self-init
 loop-self-init c = record {
@@ -20,6 +20,7 @@ read_next-requires c =
     omega (arith, c.loop-self-test.true, c.column.ensures.value, c.width-width.ensures.value, same.width) in
     record {
       states = same.states ∙ c.requires.states ∙ ap (λ t. set_contexts t.setup t.set) (sym same.tables);
+      depth = c.requires.depth ∙ sym same.depth;
       inside = inside;
       left = c.loop-self.invariant.left inside;
     }
@@ -57,20 +58,21 @@ returns-in_err-left c =
       read = tt;
       full = tt;
       count = tt;
-      bytes = tt;
+      small = tt;
       err =
-          (row_halted c.args.self.now.lines.width (entry_of c.args.self.now) c.args.self.now.lines.samples c.loop-self.self.lines.samples c.args.self.now.index
+          (row_halted c.args.self.now.lines.width (coding_of c.args.self.now) c.args.self.now.lines.samples c.loop-self.self.lines.samples c.args.self.now.index
           c.loop-self.self.index c.loop-self.self.lines.x
           c.args.self.now.states.items c.loop-self.self.states.items c.args.self.now.bits.left c.loop-self.self.bits.left _ c.requires.whole inside
           (ap (λ w. length c.loop-self.self.lines.samples % w) (sym same.width) ∙ column ∙ c.column.ensures.value)
-          c.loop-self.invariant.count c.column.ensures.bytes
-          (λ earlier bits so_far. same_read earlier c.loop-self.self.lines.width c.args.self.now.lines.width c.loop-self.self.tables.now c.args.self.now.tables.now
+          c.loop-self.invariant.count
+          (λ s. subst (λ n. slice_index c.loop-self.self.lines.samples s < 2 ^ n) same.depth (c.column.ensures.small s))
+          (λ earlier bits so_far. same_read earlier c.loop-self.self.lines.depth c.args.self.now.lines.depth c.loop-self.self.lines.width c.args.self.now.lines.width c.loop-self.self.tables.now c.args.self.now.tables.now
           c.loop-self.self.index c.loop-self.self.index bits c.loop-self.self.bits.left
-          c.loop-self.self.lines.samples c.loop-self.self.lines.samples c.loop-self.self.states.items (sym same.width) (sym same.tables) refl refl
+          c.loop-self.self.lines.samples c.loop-self.self.lines.samples c.loop-self.self.states.items (sym same.depth) (sym same.width) (sym same.tables) refl refl
           (c.loop-self.invariant.read earlier bits so_far))
-          (same_halted c.loop-self.self.lines.width c.args.self.now.lines.width c.loop-self.self.tables.now c.args.self.now.tables.now
+          (same_halted c.loop-self.self.lines.depth c.args.self.now.lines.depth c.loop-self.self.lines.width c.args.self.now.lines.width c.loop-self.self.tables.now c.args.self.now.tables.now
           c.loop-self.self.lines.samples c.loop-self.self.index c.loop-self.self.states.items c.loop-self.self.bits.left _
-          (sym same.width) (sym same.tables) c.in_err-left.ensures.err));
+          (sym same.depth) (sym same.width) (sym same.tables) c.in_err-left.ensures.err));
     })
 
 pub returns : goal.returns
@@ -82,6 +84,6 @@ returns c =
       read = c.loop-self.invariant.read;
       full = full;
       count = omega (arith, c.loop-self.invariant.count, full, c.loop-self.invariant.same.width);
-      bytes = c.column.ensures.bytes;
+      small = λ s. subst (λ n. slice_index c.loop-self.self.lines.samples s < 2 ^ n) c.loop-self.invariant.same.depth (c.column.ensures.small s);
       err = tt;
     }
