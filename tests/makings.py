@@ -99,8 +99,8 @@ class Copier(readings.Coder):
 def with_grid(record, grid):
     """A record with another grid."""
     copier, row = Copier(record[:-4], {7: grid[0] - 1, 8: grid[1] - 1}), [128] * 32
-    readings.read_front(copier, row, (readings.GREATEST_SIDE,) * 2)
-    assert readings.read_deltas(copier, row, readings.read_tables(copier, row))
+    readings.read_fields(copier, row, (readings.GREATEST_SIDE,) * 2, readings.PROFILE)
+    readings.initial_states(copier, row, readings.sets_of(copier, row)[1], 1000)
     copier.number(row)
     copier.number(row)
     return readings.with_parity(copier.made.closed())

@@ -13,12 +13,14 @@ ORIGINS_LIMIT = 1 << 26
 MAGIC = b"FFV1HLD"
 
 
-Setup = collections.namedtuple("Setup", "micro chroma shifts grid contexts intra")
-
-
 # FORMAT: The holding file
 class Fault(Exception):
     """A number that can't be read, or a holding file's fault with its number."""
+
+
+# FORMAT: Symbols
+class SymbolTooLong(Fault):
+    """The exponent of a symbol reaches its limit."""
 
 
 # FORMAT: Parity
@@ -84,11 +86,11 @@ AFTER_ONE = transitions()
 class Coder:
     """A range decoder. After a record's content it reads zeros, after a slice's header nothing: then it is not closed."""
 
-    def __init__(self, content, closed=False):
+    def __init__(self, content, closed=False, after_one=AFTER_ONE):
         if len(content) < 2 or content[0] == 0xFF:
             raise Fault
         self.content, self.range, self.low, self.used = content, 65280, content[0] << 8 | content[1], 2
-        self.closed = closed
+        self.closed, self.after_one = closed, after_one
 
     def next(self):
         if self.used < len(self.content):
@@ -104,39 +106,34 @@ class Coder:
         bit = self.low >= self.range
         if bit:
             self.low, self.range = self.low - self.range, part
-        row[slot] = AFTER_ONE[state] if bit else 256 - AFTER_ONE[256 - state]
+        row[slot] = self.after_one[state] if bit else state and (256 - self.after_one[256 - state]) % 256
         if self.range < 256:
             self.range, self.low = self.range * 256, self.low * 256 + self.next()
             self.used += 1
         return bit
 
-    def number(self, row, signed=False):
+    def number(self, row, signed=False, limit=32):
         if self.bit(row, 0):
             return 0
         highest = 0
         while self.bit(row, 1 + min(highest, 9)):
             highest += 1
-            if highest == 32:
-                raise Fault
+            if highest == limit:
+                raise SymbolTooLong
         value = 1
         for place in range(highest - 1, -1, -1):
             value = value * 2 + self.bit(row, 22 + min(place, 9))
         return -value if signed and self.bit(row, 11 + min(highest, 10)) else value
 
 
-# FORMAT: The configuration record
-def table_runs(coder, scale):
-    """Reads a table of a set, and returns the scale after it."""
-    row, filled, runs = [128] * 32, 0, 0
-    while filled < 128:
-        filled += coder.number(row) + 1
-        runs += 1
-        if filled > 128:
-            raise Fault(14)
-    scale *= 2 * runs - 1
-    if scale > 65535:
-        raise Fault(15)
-    return scale
+# What a record may have: of any recording, and of the profile.
+Scope = collections.namedtuple("Scope", "coders spaces depths greatest_shift extra modes")
+ANY = Scope((0, 1, 2), (0, 1), (0, *range(8, 17)), 4, (0, 1), (0, 1))
+PROFILE = Scope((0,), (0,), (0, 8), 2, (0,), (1,))
+
+Recording = collections.namedtuple(
+    "Recording", "micro coder is_rgb depth chroma shifts has_alpha grid tables contexts initial ec intra one_states size"
+)
 
 
 # FORMAT: The configuration record
@@ -145,69 +142,116 @@ def judge(holds, number):
         raise Fault(number)
 
 
+# FORMAT: Transitions
+def one_states(deltas):
+    """The state after a bit 1, where each entry of the default table but the first has a delta."""
+    return [0] + [(AFTER_ONE[state] + deltas[state - 1]) % 256 for state in range(1, 256)]
+
+
 # FORMAT: The configuration record
-def read_front(coder, row, size):
-    """What a record has before its tables: micro_version, planes and shifts, and the grid."""
+def table_of(coder, scale):
+    """A quantization table of 256 entries, and the scale after it."""
+    row, half, runs = [128] * 32, [], 0
+    while len(half) < 128:
+        count = coder.number(row) + 1
+        judge(len(half) + count <= 128, 14)
+        half += [scale * runs] * count
+        runs += 1
+    scale *= 2 * runs - 1
+    judge(scale <= 65535, 15)
+    return half + [-half[127 if place == 0 else 128 - place] for place in range(128)], scale
+
+
+# FORMAT: The configuration record
+def sets_of(coder, row):
+    """The tables of each set, and how many contexts each has."""
+    count = coder.number(row)
+    judge(1 <= count <= 8, 13)
+    sets, contexts = [], []
+    for _ in range(count):
+        scale, tables = 1, []
+        for _ in range(5):
+            table, scale = table_of(coder, scale)
+            tables.append(table)
+        sets.append(tables)
+        contexts.append((scale + 1) // 2)
+    return sets, contexts
+
+
+# FORMAT: Initial states
+class TooManyStates(Exception):
+    """A set has initial states for more contexts than are read here."""
+
+
+# FORMAT: Initial states
+def initial_states(coder, row, contexts, most):
+    """For each set its initial states, or None where none are coded; TooManyStates where they are of more contexts than the most."""
+    rows, initial = [[128] * 32 for _ in range(32)], []
+    for count in contexts:
+        states, last = None, [128] * 32
+        if coder.bit(row, 0):
+            if count > most:
+                raise TooManyStates
+            states = []
+            for _ in range(count):
+                last = [(state + coder.number(rows[place], True)) % 256 for place, state in enumerate(last)]
+                states.append(last)
+        initial.append(states)
+    return initial
+
+
+# FORMAT: The configuration record
+def read_fields(coder, row, size, scope):
+    """What a record has before its tables."""
     judge(coder.number(row) == 3, 4)
     micro = coder.number(row)
     judge(micro >= 4, 5)
-    for accepted, fault in (([0], 6), ([0], 7), ([0, 8], 8)):
-        judge(coder.number(row) in accepted, fault)
+    kind = coder.number(row)
+    judge(kind in scope.coders, 6)
+    deltas = [coder.number(row, True) for _ in range(255)] if kind == 2 else [0] * 255
+    space = coder.number(row)
+    judge(space in scope.spaces, 7)
+    depth = coder.number(row)
+    judge(depth in scope.depths, 8)
     chroma = coder.bit(row, 0)
+    judge(chroma or not space, 7)
     shifts = []
     for _ in range(2):
         shifts.append(coder.number(row))
-        judge(not chroma or shifts[-1] <= 2, 10)
-    judge(not coder.bit(row, 0), 9)
-    grid = (coder.number(row) + 1, coder.number(row) + 1)
+        judge(not chroma or shifts[-1] <= (0 if space else scope.greatest_shift), 10)
+    has_alpha = coder.bit(row, 0)
+    judge(has_alpha in scope.extra, 9)
+    grid = coder.number(row) + 1, coder.number(row) + 1
     judge(grid[0] <= size[0] and grid[1] <= size[1], 11)
     judge(grid[0] * grid[1] <= MOST_TILES, 12)
-    return micro, chroma, shifts if chroma else [0, 0], grid
+    return micro, kind, space == 1, depth or 8, chroma, shifts if chroma else [0, 0], has_alpha, grid, one_states(deltas)
 
 
 # FORMAT: The configuration record
-def read_deltas(coder, row, contexts):
-    """Passes over the deltas of all sets. Answers whether they are few enough to be read here."""
-    rows = [[128] * 32 for _ in range(32)]
-    for count in contexts:
-        if coder.bit(row, 0):
-            if count > 1000:
-                return False
-            for number in range(32 * count):
-                coder.number(rows[number % 32], True)
-    return True
-
-
-# FORMAT: The configuration record
-def read_tables(coder, row):
-    """The contexts of each set of tables."""
-    sets = coder.number(row)
-    judge(1 <= sets <= 8, 13)
-    contexts = []
-    for _ in range(sets):
-        scale = 1
-        for _ in range(5):
-            scale = table_runs(coder, scale)
-        contexts.append((scale + 1) // 2)
-    return contexts
-
-
-# FORMAT: The configuration record
-def setup_of(record, size):
-    """The setup of a record, or Fault with the number of its first fault; None where its deltas are too many to be read here."""
+def recording_of(record, size, scope=ANY, most=1 << 15):
+    """The recording of a record, or Fault with the number of its first fault."""
     judge(len(record) >= 6, 1)
     judge(parity(record) == 0, 2)
     judge(all(1 <= side <= GREATEST_SIDE for side in size), 17)
     try:
         coder, row = Coder(record[:-4], True), [128] * 32
-        front = read_front(coder, row, size)
-        contexts = read_tables(coder, row)
-        if not read_deltas(coder, row, contexts):
-            return None
-        judge(coder.number(row) == 1, 16)
-        return Setup(*front, contexts, coder.number(row))
+        *fields, transitions = read_fields(coder, row, size, scope)
+        tables, contexts = sets_of(coder, row)
+        initial = initial_states(coder, row, contexts, most)
+        ec = coder.number(row)
+        judge(ec in scope.modes, 16)
+        return Recording(*fields, tables, contexts, initial, ec, coder.number(row), transitions, size)
     except Fault as fault:
         raise Fault(*(fault.args or [3])) from None
+
+
+# FORMAT: The configuration record
+def setup_of(record, size):
+    """The recording of a record that has to be in the profile; None where its initial states are too many to be read here."""
+    try:
+        return recording_of(record, size, PROFILE, 1000)
+    except TooManyStates:
+        return None
 
 
 # FORMAT: Tiles
