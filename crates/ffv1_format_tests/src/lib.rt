@@ -5,6 +5,8 @@
 #[cfg(test)]
 mod bits;
 #[cfg(test)]
+mod colors;
+#[cfg(test)]
 mod flac;
 #[cfg(test)]
 mod frames;
