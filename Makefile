@@ -54,11 +54,12 @@ fuzz: $(PROGRAM)
 	tests/fuzz $(PROGRAM) $(SECONDS) --workers $(WORKERS) --seed $(SEED)
 
 # FFmpeg's samples of the stored frames, large frames that it makes, and FRAMES small ones of many formats, from the number FRAME on,
-# damaged and spliced, where it is installed.
+# damaged and spliced, and RECORDINGS of all its formats, where it is installed.
 FRAMES ?= 480
 FRAME ?= 0
+RECORDINGS ?= 720
 ffmpeg: $(PROGRAM)
-	tests/ffmpeg $(PROGRAM) $(FRAMES) $(FRAME)
+	tests/ffmpeg $(PROGRAM) $(FRAMES) $(FRAME) $(RECORDINGS)
 
 # Damaged reels, made and read by FFmpeg, mended: REELS of them, from the number FIRST on.
 REELS ?= 20
