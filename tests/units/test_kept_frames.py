@@ -5,8 +5,10 @@ import stat
 import tempfile
 import unittest
 
-from mend_reel.model import Content, Copy, Fault, Track
+from mend_reel.judging.results import FrameResult, FrameState
+from mend_reel.model import Content, Copy, Fault, Frame, Track
 from mend_reel.program.kept_frames import Held, Keeper, copy_over, refuse_kept
+from mend_reel.reports.pictures import Shape, thumbnail
 
 VIDEO = Track(1, Content.VIDEO, "V_FFV1", True, 48, 40, b"record")
 SHOWN = 'printf "version 3.4\\ncoder 0\\n{line}\\n"'
@@ -64,6 +66,24 @@ class KeeperTest(unittest.TestCase):
         keeper.pixels[1] = "gray"
         keeper.hold(self.held())
         self.assertEqual((self.work / "keep/frame-3.report").read_text(), f"{origin} /films/a\\x0ab.mkv\n")
+
+    def test_a_frame_for_the_report_is_drawn(self):
+        shown = 'printf "version 3.4\ncoder 0\nplanes 1 shift 0 0\ngrid 2x1 tiles 2\n"'
+        report = 'printf "reel 48x40 tiles 2\ntile 0 settled status 0\ntile 1 missing\n"'
+        keeper = self.keeper(f'case "$1" in show) {shown};; report) {report};; picture) head -c 1920 /dev/zero > "$3"; exit 3;; *) touch "$5";; esac', False)
+        keeper.keep, keeper.draws = None, True
+        self.assertTrue(keeper.is_asked_for(VIDEO))
+        result = FrameResult(3, 3, Frame(1, 0.12, 100, 50), 0, FrameState.LOST, (0,))
+        keeper.hold(self.held()._replace(drawn=result))
+        (drawn,) = keeper.drawn
+        self.assertEqual((drawn.result, drawn.lost, drawn.tiles, keeper.notes), (result, 1, 2, []))
+        self.assertEqual(drawn.image, thumbnail(Shape(48, 40, None, (2, 1)), bytes(1920), [1]))
+        self.assertEqual(list((self.work / "keep").iterdir()) + list((self.work / "pictures").iterdir()), [])
+
+    def test_a_report_has_no_note_of_a_recording_outside_the_profile(self):
+        keeper = self.keeper("exit 1", False)
+        keeper.keep, keeper.draws = None, True
+        self.assertEqual((keeper.is_asked_for(VIDEO), keeper.notes), (False, []))
 
     def test_a_list_that_cannot_be_kept_is_a_note(self):
         keeper = self.keeper("exit 0")

@@ -1,4 +1,5 @@
 """The report for machines, and the page."""
+import base64
 import dataclasses
 import html.parser
 import io
@@ -16,6 +17,7 @@ from mend_reel.judging.results import FrameState
 from mend_reel.judging.verdict import Evidence, judge
 from mend_reel.model import Because, Content, Kind, Outcome, SliceReport, State
 from mend_reel.reports import json_document, page, timeline
+from mend_reel.reports.pictures import Drawn
 from mend_reel.reports.summary import CopySummary, Role, Summary
 from mend_reel.reports.timeline import COLUMNS, Shade, Timeline
 from .test_verdict import element, missing, plain, recording, repaired, settled, undivided, voted
@@ -35,7 +37,7 @@ def summary(layout, *outcomes, out=True, copies=2, compared=None, **more):
 class Strict(html.parser.HTMLParser):
     """Sees that each element is closed in its turn, and keeps what is shown."""
 
-    VOID = {"meta", "br"}
+    VOID = {"meta", "br", "img"}
 
     def __init__(self):
         super().__init__()
@@ -139,7 +141,7 @@ class PageTest(unittest.TestCase):
         seen = Strict()
         seen.feed(file.getvalue())
         seen.close()
-        self.assertEqual((seen.open, seen.links), ([], []))
+        self.assertEqual((seen.open, [link for link in seen.links if not link.startswith("data:image/png;base64,")]), ([], []))
         self.assertNotRegex(file.getvalue(), r"<script|url\(|@import|http")
         return file.getvalue(), " ".join(seen.words)
 
@@ -199,6 +201,15 @@ class PageTest(unittest.TestCase):
         _, words = self.page(summary(recording(), *DAMAGED, out=False, copies=1))
         self.assertIn("Bytes of /films/copy-0.mkv", words)
         self.assertNotRegex(words, r"\bOUT\b")
+
+    def test_pictures_of_frames_that_are_not_restored(self):
+        made = summary(recording(), *DAMAGED)
+        lost = [result for result in made.verdict.results.frames.values() if result.state is FrameState.LOST]
+        made.pictures = [Drawn(lost[0], 1, 24, b"few"), Drawn(lost[0], 9, 24, b"more")]
+        text, words = self.page(made)
+        self.assertLess(words.index("9 of 24 tiles lost"), words.index("1 of 24 tiles lost"))
+        self.assertEqual(re.findall(r'src="data:image/png;base64,([^"]*)"', text), [base64.b64encode(image).decode() for image in (b"more", b"few")])
+        self.assertNotIn("What can be shown", "".join(self.page(summary(recording(), *DAMAGED))[1]))
 
     def test_many_frames_make_a_bounded_page(self):
         layout = recording(2200)

@@ -37,6 +37,10 @@ class FrameResult:
     damaged: tuple[int, ...]  # the copies in which it is damaged
     slices: tuple[SliceReport, ...] = ()  # as the program listed them
 
+    def lost_bytes(self) -> int:
+        """How many of its bytes are in no slice that is settled or woven."""
+        return self.frame.size - sum(each.end - each.start for each in self.slices if each.state in GIVEN)
+
 
 @dataclasses.dataclass
 class Counts:

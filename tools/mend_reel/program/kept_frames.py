@@ -10,7 +10,9 @@ import tempfile
 from collections.abc import Iterable, Sequence
 from typing import NamedTuple
 
+from ..judging.results import FrameResult
 from ..model import Copy, Fault, Track
+from ..reports.pictures import Drawn, Shape, lost_tiles, thumbnail
 from .external_programs import last_line, run
 from .output_files import in_one_line, is_same
 
@@ -24,12 +26,14 @@ KEPT = re.compile(r"list|copies|frames-of-copy-\d+|(?:track-\d+-)?frame-\d+\.(?:
 
 
 class Held(NamedTuple):
-    """A damaged frame: its name among what is kept, its track, what the copies have of it by their paths, and whether it is restored."""
+    """A damaged frame: its name among what is kept, its track, what the copies have of it by their paths, whether it is restored, and what
+    became of it if the report is to show it."""
 
     name: str
     track: Track
     pieces: Sequence[tuple[str, bytes]]
     is_restored: bool
+    drawn: FrameResult | None = None
 
 
 def refuse_kept(folders: Iterable[str], copies: Sequence[str], force: bool) -> None:
@@ -45,10 +49,12 @@ def refuse_kept(folders: Iterable[str], copies: Sequence[str], force: bool) -> N
 class Keeper:
     """Keeps what was asked for, in the working folder, until all is done. What fails here is a note: OUT is not lost for it."""
 
-    def __init__(self, program: str, work: pathlib.Path, keep: str | None, pictures: str | None) -> None:
-        self.program, self.work, self.keep, self.pictures = program, work, keep, pictures
+    def __init__(self, program: str, work: pathlib.Path, keep: str | None, pictures: str | None, draws: bool = False) -> None:
+        self.program, self.work, self.keep, self.pictures, self.draws = program, work, keep, pictures, draws
         self.notes: list[str] = []
         self.pixels: dict[int, str] = {}
+        self.shapes: dict[int, Shape] = {}
+        self.drawn: list[Drawn] = []
         if pictures and not shutil.which("ffmpeg"):
             raise Fault("there is no ffmpeg on the PATH, and it makes the pictures")
         for name in ("keep", "pictures"):
@@ -69,7 +75,7 @@ class Keeper:
 
     def is_asked_for(self, track: Track) -> bool:
         """Whether a track's frames are to be held, and can be: it is in the profile of holdings."""
-        if (self.keep or self.pictures) and track.number not in self.pixels:
+        if (self.keep or self.pictures or self.draws) and track.number not in self.pixels:
             self.pixels[track.number] = self.judge(track)
         return bool(self.pixels.get(track.number))
 
@@ -79,10 +85,15 @@ class Keeper:
         record.write_bytes(track.record)
         done = run(self.program, "show", record, str(track.width), str(track.height))
         if done.returncode:
-            why = last_line(done.stderr, done.returncode)
-            self.notes.append(f"no frame of track {track.number} is kept or shown: the recording is not in the profile ({why})")
+            if self.keep or self.pictures:
+                why = last_line(done.stderr, done.returncode)
+                self.notes.append(f"no frame of track {track.number} is kept or shown: the recording is not in the profile ({why})")
             return ""
-        planes, shifts = done.stdout.decode().splitlines()[2].split(" shift ")
+        lines = done.stdout.decode().splitlines()
+        planes, shifts = lines[2].split(" shift ")
+        if self.draws:
+            h, v, across, down = map(int, (*shifts.split(), *lines[3].split()[1].split("x")))
+            self.shapes[track.number] = Shape(track.width, track.height, (h, v) if planes == "planes 3" else None, (across, down))
         pixels = PIXELS.get(" ".join((planes.split()[1], *shifts.split()[:2])), NO_PICTURE)
         if self.pictures and pixels == NO_PICTURE:
             self.notes.append(f"no frame of track {track.number} is shown: its planes ({planes}, shift {shifts}) have no name in FFmpeg")
@@ -98,6 +109,8 @@ class Keeper:
                     self.report(frame, hold)
                 if self.pictures and not frame.is_restored and self.pixels[frame.track.number] != NO_PICTURE:
                     self.show(frame, hold)
+                if frame.drawn:
+                    self.draw(frame.track, frame.drawn, hold)
         except (Fault, OSError) as fault:
             self.notes.append(f"{frame.name} is not kept: {fault}")
 
@@ -127,6 +140,14 @@ class Keeper:
         if run(self.program, "picture", hold, samples).returncode in (0, 3):
             run("ffmpeg", "-v", "quiet", "-y", "-f", "rawvideo", "-pix_fmt", self.pixels[frame.track.number], "-s",
                 f"{frame.track.width}x{frame.track.height}", "-i", samples, self.work / "pictures" / f"{frame.name}.png")
+
+    def draw(self, track: Track, result: FrameResult, hold: pathlib.Path) -> None:
+        """A small picture of what a holding file has, for the report."""
+        shape, samples = self.shapes[track.number], hold.parent / "drawn"
+        lost = list(lost_tiles(run(self.program, "report", hold).stdout.decode()))
+        if run(self.program, "picture", hold, samples).returncode in (0, 3):
+            image = thumbnail(shape, samples.read_bytes(), lost)
+            self.drawn.append(Drawn(result, len(lost), shape.grid[0] * shape.grid[1], image))
 
     def hand_over(self, others: Sequence[str]) -> list[str]:
         """Copies what was kept to where it is asked for, but over none of some other files. Returns what could not be, in lines."""

@@ -3,6 +3,7 @@ from __future__ import annotations
 
 import dataclasses
 import datetime
+import heapq
 import os
 import pathlib
 import stat
@@ -16,7 +17,7 @@ from ..copies.inputs import Inputs, gather
 from ..copies.preferred_copy import follow
 from ..judging import copy_health, decoding, kept_digests
 from ..judging.frame_checks import Scan
-from ..judging.results import FrameState
+from ..judging.results import FrameResult, FrameState
 from ..judging.verdict import Evidence, Verdict, judge
 from ..model import MATROSKA, Copy, Fault, Frame, Layout, Outcome, State, Stretch, open_copy, or_fault
 from ..reports import json_document, page
@@ -31,6 +32,8 @@ from .progress import Progress
 
 NOWHERE = "/dev/null"
 PIECE = 1 << 20
+# How many frames a report shows.
+MOST_SHOWN = 200
 SUFFIXES = {MATROSKA: {".mkv", ".webm", ".mka"}, "avi": {".avi"}, "mov": {".mov", ".mp4", ".m4v", ".qt"}, "nut": {".nut"}, "mxf": {".mxf"}}
 WRITERS = {"report": page.write, "json": json_document.write}
 
@@ -121,7 +124,7 @@ class Session:
         self.options, self.work, self.outputs, self.progress = options, work, outputs, progress
         self.program = find_ffv1restore()
         self.judge = Scan(self.program, work)
-        self.keeper = Keeper(self.program, work, options.keep, options.pictures)
+        self.keeper = Keeper(self.program, work, options.keep, options.pictures, options.report is not None)
         self.notes: list[str] = list(outputs.left)
 
     def run(self) -> Summary:
@@ -258,12 +261,14 @@ class Session:
         """Keeps what was asked for of each damaged frame."""
         tracks = {track.number: track for track in layout.tracks}
         several = sum(track.is_ffv1 for track in layout.tracks) > 1
+        lost = (result for result in verdict.results.frames.values() if result.state is FrameState.LOST)
+        shown = {result.number for result in heapq.nlargest(MOST_SHOWN, lost, key=FrameResult.lost_bytes)} if self.options.report else set()
         for result in verdict.results.frames.values():
-            track = tracks[result.frame.track]
-            if self.keeper.is_asked_for(track):
+            track, is_shown = tracks[result.frame.track], result.number in shown
+            if (self.options.keep or self.options.pictures or is_shown) and self.keeper.is_asked_for(track):
                 name = f"track-{track.number}-frame-{result.order}" if several else f"frame-{result.order}"
                 pieces = self.versions(result.frame, made.stretches[result.stretch], inputs)
-                self.keeper.hold(Held(name, track, pieces, result.state is not FrameState.LOST))
+                self.keeper.hold(Held(name, track, pieces, result.state is not FrameState.LOST, result if is_shown else None))
         self.notes += self.keeper.notes
 
     def versions(self, frame: Frame, stretch: Stretch, inputs: Inputs) -> list[tuple[str, bytes]]:
@@ -288,4 +293,5 @@ class Session:
             out = CopySummary(self.options.out, os.stat(part).st_size, form, sha256=sum_)
         versions = {"mend-reel": VERSION, "ffv1restore": version_of(self.program), "ffprobe": version_of("ffprobe")}
         date = datetime.datetime.now(datetime.timezone.utc).isoformat(timespec="seconds")
-        return Summary(date, versions, ["mend-reel", *sys.argv[1:]], summaries, out, layout, verdict, arrangement.matched, self.notes)
+        return Summary(date, versions, ["mend-reel", *sys.argv[1:]], summaries, out, layout, verdict, arrangement.matched, self.notes,
+                       self.keeper.drawn)

@@ -1,6 +1,8 @@
 """The report for people: one page in HTML that stands alone."""
 from __future__ import annotations
 
+import base64
+import functools
 import html
 import itertools
 import pkgutil
@@ -8,9 +10,10 @@ from collections.abc import Iterable, Sequence
 from typing import Any, TextIO
 
 from ..judging.reasons import lines, span_of_times, time_code
-from ..judging.results import FrameResult, FrameState
+from ..judging.results import FrameResult, FrameState, Results
 from ..model import Kind
 from .json_document import Made, frame_of, listed, text_of
+from .pictures import Drawn
 from .summary import CopySummary, Summary
 from .timeline import COLOURS, OF_COPY, OF_OUT, WORDS, Shade, Timeline
 
@@ -37,7 +40,7 @@ def write(file: TextIO, summaries: Sequence[Summary]) -> None:
                f"<title>{title}</title><style>{STYLE}</style></head><body>")
     for summary in summaries:
         file.write(f"<h1>{text(summary.title())}</h1>\n")
-        file.writelines(part(summary) + "\n" for part in (verdict, counts, doubts, copies, timeline, frames, others))
+        file.writelines(part(summary) + "\n" for part in (verdict, counts, doubts, copies, timeline, frames, pictures, others))
     first = summaries[0]
     made = ", ".join(f"{name} {version}" for name, version in first.versions.items())
     file.write(f"<footer><p>{text(first.date)}. {text(made)}.</p><p><code>{text(' '.join(first.command))}</code></p></footer>"
@@ -127,6 +130,22 @@ def frame_row(result: FrameResult, frame: Made, several: bool) -> str:
     track = f'<td class="n">{frame["track"]}</td>' if several else ""
     return (f'<tr><td class="n">{frame["frame"]}</td>{track}<td class="n">{time_code(frame["time"])}</td>'
             f"<td>{numbers(frame['damaged_in'])}</td><td class=\"k\">{frame['state']}</td><td>{'<br>'.join(map(text, spans))}</td></tr>")
+
+
+def pictures(summary: Summary) -> str:
+    """What can be shown of frames that are not restored, those with the most lost tiles first."""
+    shown = sorted(summary.pictures, key=lambda each: (-each.lost, each.result.number))
+    several = sum(track.is_ffv1 for track in summary.layout.tracks) > 1
+    figures = "".join(map(functools.partial(figure, results=summary.verdict.results, several=several), shown))
+    return f'<h2>What can be shown of frames that are not restored</h2><p>Hatched: no copy has it.</p><div class="side">{figures}</div>' if shown else ""
+
+
+def figure(drawn: Drawn, results: Results, several: bool) -> str:
+    frame = frame_of(drawn.result, results)
+    name = f"frame {frame['frame']}" + (f" of track {frame['track']}" if several else "") + f", {time_code(frame['time'])}"
+    image = base64.b64encode(drawn.image).decode()
+    lost = f"{drawn.lost} of {drawn.tiles} tiles lost"
+    return f'<figure><img src="data:image/png;base64,{image}" alt="{name}: {lost}"><figcaption>{name}<br>{lost}</figcaption></figure>'
 
 
 def how_slice(place: Made) -> str:

@@ -11,6 +11,7 @@ from ..judging import reasons
 from ..judging.results import Counts, Sums
 from ..judging.verdict import Verdict
 from ..model import Layout
+from .pictures import Drawn
 
 
 class Role(enum.Enum):
@@ -51,6 +52,7 @@ class Summary:
     verdict: Verdict
     matched: Sequence[Matched] = ()
     notes: Sequence[str] = ()  # what else is to be said
+    pictures: Sequence[Drawn] = ()  # of frames that are not restored
 
     def title(self) -> str:
         return self.out.name() if self.out else ", ".join(copy.name() for copy in self.copies[:4])
