@@ -1,8 +1,8 @@
 //! Configuration records of any recording of version 3, worked by a program of its own.
 use ffv1_range::{RangeDecoder, Recording, Setup, SetupFault, TileRect};
 
-/// What a record says of the samples: coder_type, whether they are RGB, the bits of one and of a coded one, whether there is alpha, the planes,
-/// and ec.
+/// What a record says of the samples: coder_type, whether they are RGB, the bits of one and of a coded one, whether there is alpha, the
+/// planes, and ec.
 type Said = (u32, bool, u32, u32, bool, usize, u32);
 
 /// Records of one set of tables, and what they say.

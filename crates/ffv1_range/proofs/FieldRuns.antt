@@ -262,7 +262,8 @@ followed_at (flag_then next) k mode p =
     bind_each (flag mode p) (λ x. form_of (next x.0) mode x.1) (λ x. form_of (k x.0) mode x.1) (λ x. form_of (followed (next x.0) k) mode x.1)
     (λ x. followed_at (next x.0) k mode x.1)
 followed_at (deltas_then coder next) k mode p =
-    bind_each (transition_deltas coder mode p) (λ x. form_of (next x.0) mode x.1) (λ x. form_of (k x.0) mode x.1) (λ x. form_of (followed (next x.0) k) mode x.1)
+    bind_each (transition_deltas coder mode p) (λ x. form_of (next x.0) mode x.1) (λ x. form_of (k x.0) mode x.1) (λ x. form_of (followed
+    (next x.0) k) mode x.1)
     (λ x. followed_at (next x.0) k mode x.1)
 followed_at (tested true fault next) k mode p = followed_at next k mode p
 followed_at (tested false fault next) k mode p = refl

@@ -68,7 +68,8 @@ sized_ok granted false is_height scope width height content value h = absurd cc
 -- the start of the content, and what the fields give there
 started_ok : (granted : Bool) (scope : Scope) (width height : ℕ) (at : Result Coder RangeFault) (value : RecordingValue)
     → value_of (from_place Range at (λ c. record_form granted scope width height record_mode (place_of c fresh_row))) ≡ Ok value
-    → (c : Coder) × (at ≡ Ok c) × ((y : RecordingValue × Place) × (record_form granted scope width height record_mode (place_of c fresh_row) ≡ Ok y) × (y.0 ≡ value))
+    → (c : Coder) × (at ≡ Ok c) × ((y : RecordingValue × Place) × (record_form granted scope width height record_mode
+    (place_of c fresh_row) ≡ Ok y) × (y.0 ≡ value))
 unfolding value_of
 started_ok granted scope width height (Ok c) value h =
     let x = bind_is_ok (record_form granted scope width height record_mode (place_of c fresh_row)) (λ x. Ok x.0) value h in
@@ -87,7 +88,8 @@ record Opening (granted : Bool) (config : List ℕ) (scope : Scope) (width heigh
   read : record_form granted scope width height record_mode (place_of start fresh_row) ≡ Ok outcome
   is : outcome.0 ≡ value
 
-opening : (granted : Bool) (config : List ℕ) (scope : Scope) (width height : ℕ) (value : RecordingValue) → record_read granted config scope width height ≡ Ok value
+opening : (granted : Bool) (config : List ℕ) (scope : Scope) (width height : ℕ) (value : RecordingValue)
+    → record_read granted config scope width height ≡ Ok value
     → Opening granted config scope width height value
 unfolding sized fields_read value_of
 opening granted config scope width height value h =
@@ -117,7 +119,8 @@ record-found config scope width height value h =
 
 -- ---- the record's setup is read
 
-pub record-run : (config : List ℕ) (scope : Scope) (width height : ℕ) (value : RecordingValue) → IsScopedRecord config scope width height value → record_read true config scope width height ≡ Ok value
+pub record-run : (config : List ℕ) (scope : Scope) (width height : ℕ) (value : RecordingValue) → IsScopedRecord config scope width height value
+    → record_read true config scope width height ≡ Ok value
 unfolding fields_read value_of
 record-run config scope width height value s =
     let r = record_form-run scope width height s.start s.fields s.end s.accepted s.is_width.1 s.is_height.1 s.coded in
@@ -321,20 +324,24 @@ without_memory : (config : List ℕ) (scope : Scope) (width height : ℕ) (value
 unfolding fields_read value_of front_rest memory_rest sets_rest deltas_rest last_rest
 without_memory config scope width height value h =
     let o = opening true config scope width height value h in
-    let a = bind_is_ok (front_form scope width height record_mode (place_of o.start fresh_row)) (λ x. front_rest true scope width height x.0 record_mode x.1) o.outcome o.read in
+    let a = bind_is_ok (front_form scope width height record_mode (place_of o.start fresh_row)) (λ x. front_rest true scope width height x.0
+    record_mode x.1) o.outcome o.read in
     sized_read false config o.content scope width height o.checked o.is_width o.is_height
     ∙ ap (λ z. value_of (from_place Range z (λ c. record_form false scope width height record_mode (place_of c fresh_row)))) o.started
-    ∙ ap value_of (bind_ok (front_form scope width height record_mode (place_of o.start fresh_row)) (λ x. front_rest false scope width height x.0 record_mode x.1) a.0 a.1)
+    ∙ ap value_of (bind_ok (front_form scope width height record_mode (place_of o.start fresh_row)) (λ x. front_rest false scope width height x.0
+    record_mode x.1) a.0 a.1)
 
 -- ---- a result that reading gives
 
-only_of : (config : List ℕ) (scope : Scope) (width height : ℕ) (granted : Bool) (e : SetupFault) (setup : RecordingValue) → record_read granted config scope width height ≡ Err e
+only_of : (config : List ℕ) (scope : Scope) (width height : ℕ) (granted : Bool) (e : SetupFault) (setup : RecordingValue)
+    → record_read granted config scope width height ≡ Err e
     → IsScopedRecord config scope width height setup → e ≡ Memory
 only_of config scope width height true e setup h s = absurd (apart_results (sym h ∙ record-run config scope width height setup s))
   where
     apart_results : ◌≡◌ {A = Result RecordingValue SetupFault} (Err e) (Ok setup) → ⊥
     apart_results h = cc
-only_of config scope width height false e setup h s = same_err e Memory (sym h ∙ without_memory config scope width height setup (record-run config scope width height setup s))
+only_of config scope width height false e setup h s = same_err e Memory (sym h ∙ without_memory config scope width height setup
+    (record-run config scope width height setup s))
   where
     same_err : (a b : SetupFault) → ◌≡◌ {A = Result RecordingValue SetupFault} (Err a) (Err b) → a ≡ b
     same_err a b h = cc
@@ -382,12 +389,14 @@ setup_refused config width height e h = (h.0, ap (λ z. z >>> λ r. Ok r.setup) 
 
 -- ---- the same once length, parity and size were found right, where the decoder has the content
 
-module _ (config content : List ℕ) (scope : Scope) (width height : ℕ) (r : Reader) (checked : checked_content config ≡ Ok content) (is_width : true ≡ is_size width)
+module _ (config content : List ℕ) (scope : Scope) (width height : ℕ) (r : Reader) (checked : checked_content config ≡ Ok content)
+    (is_width : true ≡ is_size width)
     (is_height : true ≡ is_size height) (starts : Starts record_mode content (Ok r)) where
   abbrev is_opened : IsOpened config width height r
   is_opened = opened config content width height r checked (sym is_width) (sym is_height) starts
 
-  pub refused_in : (granted : Bool) (e : SetupFault) → form_at Range (record_form granted scope width height) r fresh_row ≡ Err e → Returned config scope width height (Err e)
+  pub refused_in : (granted : Bool) (e : SetupFault) → form_at Range (record_form granted scope width height) r fresh_row ≡ Err e
+      → Returned config scope width height (Err e)
   refused_in granted e h = refused_by config scope width height granted e (opened_read granted config scope width height r (Err e) is_opened h)
 
   pub read_in : (value : RecordingValue) (place : Place) → form_at Range (record_form true scope width height) r fresh_row ≡ Ok (value, place)

@@ -74,7 +74,8 @@ record PartsCoded (c : Coder) (first : List FieldValue) (sets : List SetFields) 
   first_coded : IsRangeRun record_mode (place_of c fresh_row) (fields_bits first) front
   tables : Coder
   middle : Rows
-  tables_coded : IsRowsRun record_mode (place_of front.coder (first_rows front.states)) (table_row_bits 0 (flat_map (λ set. set.tables) sets)) (place_of tables middle)
+  tables_coded : IsRowsRun record_mode (place_of front.coder (first_rows front.states)) (table_row_bits 0 (flat_map (λ set. set.tables) sets))
+      (place_of tables middle)
   deltas : Coder
   later : Rows
   deltas_coded : IsRowsRun record_mode (place_of tables middle) (flat_map (λ set. deltas_row_bits set.deltas) sets) (place_of deltas later)
@@ -196,10 +197,16 @@ unfolding deltas_rest last_rest
 last-found scope width height front sets p y h =
     let x = bind_is_ok (last_fields scope record_mode p) (λ x. last_rest scope width height front sets x.0 record_mode x.1) y h in
     let pair = same_ok (recording_of front sets x.0.0 width height, x.0.1) y x.2 in
-    record { read = x.0; fields = plan-found (last_plan scope) record_mode p x.0 (ap (λ f. f record_mode p) (last_fields-plan scope) ∙ x.1); is = sym (ap (λ z. z.0) pair) }
+    record {
+      read = x.0;
+      fields = plan-found (last_plan scope) record_mode p x.0 (ap (λ f. f record_mode p) (last_fields-plan scope)
+          ∙ x.1);
+      is = sym (ap (λ z. z.0) pair);
+    }
 
 -- the deltas, and what is read after them
-record DeltasAt (scope : Scope) (width height : ℕ) (front : FrontValue) (sets : List SetValue) (contexts : List ℕ) (p : Place) (y : RecordingValue × Place) : Type 0 where
+record DeltasAt (scope : Scope) (width height : ℕ) (front : FrontValue) (sets : List SetValue) (contexts : List ℕ) (p : Place)
+    (y : RecordingValue × Place) : Type 0 where
   after : PlaceOf TwoRows
   read : sets_deltas contexts record_mode (place_of p.coder (p.states, fresh_rows)) ≡ Ok (tt, after)
   rest : deltas_rest scope width height front sets tt record_mode (place_of after.coder after.states.0) ≡ Ok y
@@ -226,7 +233,8 @@ record TablesAt (scope : Scope) (width height : ℕ) (front : FrontValue) (p : P
   read : sets_from front.sets [] record_mode (place_of p.coder tt) ≡ Ok (sets, after)
   rest : sets_rest scope width height front sets record_mode (place_of after.coder p.states) ≡ Ok y
 
-tables-found : (scope : Scope) (width height : ℕ) (front : FrontValue) (p : Place) (y : RecordingValue × Place) → front_rest true scope width height front record_mode p ≡ Ok y
+tables-found : (scope : Scope) (width height : ℕ) (front : FrontValue) (p : Place) (y : RecordingValue × Place)
+    → front_rest true scope width height front record_mode p ≡ Ok y
     → TablesAt scope width height front p y
 unfolding front_rest memory_rest
 tables-found scope width height front p y h =
@@ -281,17 +289,20 @@ parts_found scope width height c y front p f t =
           later = m.0;
           deltas_coded = m.1;
           end = l.read.1;
-          last_coded = subst (λ z. IsRangeRun record_mode (place_of d.after.coder z) (fields_bits (fields_of (last_plan scope) l.fields.0)) l.read.1) (sym m.2.main)
+          last_coded = subst (λ z. IsRangeRun record_mode (place_of d.after.coder z) (fields_bits (fields_of
+              (last_plan scope) l.fields.0)) l.read.1) (sym m.2.main)
               l.fields.2;
         }))
 
-pub record_form-found : (scope : Scope) (width height : ℕ) (c : Coder) (y : RecordingValue × Place) → record_form true scope width height record_mode (place_of c fresh_row) ≡ Ok y
+pub record_form-found : (scope : Scope) (width height : ℕ) (c : Coder) (y : RecordingValue × Place) → record_form true scope width height record_mode
+    (place_of c fresh_row) ≡ Ok y
     → SetupAt scope width height c y.0
 unfolding front_rest memory_rest sets_rest deltas_rest last_rest
 record_form-found scope width height c y h =
     let a = bind_is_ok (front_form scope width height record_mode (place_of c fresh_row)) (λ x. front_rest true scope width height x.0 record_mode x.1) y h in
     parts_found scope width height c y a.0.0 a.0.1
-    (plan-found (front_plan scope width height) record_mode (place_of c fresh_row) a.0 (ap (λ f. f record_mode (place_of c fresh_row)) (front_form-plan scope width height) ∙ a.1))
+    (plan-found (front_plan scope width height) record_mode (place_of c fresh_row) a.0 (ap (λ f. f record_mode (place_of c fresh_row))
+    (front_form-plan scope width height) ∙ a.1))
     (tables-found scope width height a.0.0 a.0.1 y a.2)
 
 -- ---- what is coded is read
@@ -356,13 +367,15 @@ parts_read scope width height c r p q two d last h k l m =
     bind_ok (front_form scope width height record_mode (place_of c fresh_row)) (λ x. front_rest true scope width height x.0 record_mode x.1) (front, p) h
     ∙ bind_ok (sets_apart (length r.sets) p) (λ x. sets_rest scope width height front x.0 record_mode x.1) (values, place_of q p.states)
     (bind_ok (sets_from (length r.sets) [] record_mode (place_of p.coder tt)) (λ x. Ok (x.0, place_of x.1.coder p.states)) (values, place_of q tt) k)
-    ∙ bind_ok (deltas_form (map (λ set. set.contexts) values) record_mode (place_of q p.states)) (λ x. deltas_rest scope width height front values x.0 record_mode x.1)
+    ∙ bind_ok (deltas_form (map (λ set. set.contexts) values) record_mode (place_of q p.states)) (λ x. deltas_rest scope width height front values
+    x.0 record_mode x.1)
     (tt, place_of d two.0)
     (bind_ok (sets_deltas (map (λ set. set.contexts) values) record_mode (place_of q (p.states, fresh_rows))) (λ x. Ok (x.0, place_of x.1.coder x.1.states.0))
     (tt, place_of d two) l)
     ∙ bind_ok (last_fields scope record_mode (place_of d two.0)) (λ x. last_rest scope width height front values x.0 record_mode x.1) ((r.ec, r.intra), last) m
 
-pub record_form-run : (scope : Scope) (width height : ℕ) (c : Coder) (r : RecordFields) (z : PlaceOf Rows) → IsAccepted scope width height r → width ≤ greatest_side
+pub record_form-run : (scope : Scope) (width height : ℕ) (c : Coder) (r : RecordFields) (z : PlaceOf Rows) → IsAccepted scope width height r
+    → width ≤ greatest_side
     → height ≤ greatest_side
     → IsRowsRun record_mode (place_of c fresh_states) (record_row_bits r) z
     → (last : Place) × (record_form true scope width height record_mode (place_of c fresh_row) ≡ Ok (recording_value width height r, last))
@@ -376,7 +389,8 @@ record_form-run scope width height c r z ok wide high run =
     let d = rows_split record_mode deltas back s.0 z s.2 in
     rest_run scope width height c r z run.0 s.0 d.0 ok front s.1 d.1 d.2
   where
-    rest_run : (scope : Scope) (width height : ℕ) (c : Coder) (r : RecordFields) (z : PlaceOf Rows) (p : Place) (s d : PlaceOf Rows) → IsAccepted scope width height r
+    rest_run : (scope : Scope) (width height : ℕ) (c : Coder) (r : RecordFields) (z : PlaceOf Rows) (p : Place) (s d : PlaceOf Rows)
+        → IsAccepted scope width height r
         → front_form scope width height record_mode (place_of c fresh_row) ≡ Ok (front_value r, p)
         → IsRowsRun record_mode (place_of p.coder (first_rows p.states)) (table_row_bits 0 (flat_map (λ set. set.tables) r.sets)) s
         → IsRowsRun record_mode s (flat_map (λ set. deltas_row_bits set.deltas) r.sets) d

@@ -115,32 +115,38 @@ record_form-open : (granted : Bool) (scope : Scope) (width height : ℕ) (r : Re
 unfolding front_rest memory_rest sets_rest deltas_rest last_rest
 record_form-open granted scope width height r row = continue_start Range (record_form granted scope width height) r row
 
-pub front_fails : (granted : Bool) (scope : Scope) (width height : ℕ) (e : SetupFault) (r : Reader) (row : List ℕ) → form_at Range (front_form scope width height) r row ≡ Err e
+pub front_fails : (granted : Bool) (scope : Scope) (width height : ℕ) (e : SetupFault) (r : Reader) (row : List ℕ)
+    → form_at Range (front_form scope width height) r row ≡ Err e
     → form_at Range (record_form granted scope width height) r row ≡ Err e
 front_fails granted scope width height e r row h =
     continue_stop Range (record_form granted scope width height) (front_form scope width height) (front_rest granted scope width height) r r r row row row e
     (record_form-open granted scope width height r row) h
 
-front_read : (granted : Bool) (scope : Scope) (width height : ℕ) (f : FrontValue) (r s : Reader) (row a : List ℕ) → ReadsForm Range (front_form scope width height) r row (Ok f) s a
+front_read : (granted : Bool) (scope : Scope) (width height : ℕ) (f : FrontValue) (r s : Reader) (row a : List ℕ)
+    → ReadsForm Range (front_form scope width height) r row (Ok f) s a
     → Continues Range (record_form granted scope width height) r row (front_rest granted scope width height f) s a
 front_read granted scope width height f r s row a h =
     continue_next Range (record_form granted scope width height) (front_form scope width height) (front_rest granted scope width height) r r s row row a f
     (record_form-open granted scope width height r row) h
 
-pub memory_refused : (scope : Scope) (width height : ℕ) (f : FrontValue) (r s : Reader) (row a : List ℕ) → ReadsForm Range (front_form scope width height) r row (Ok f) s a
+pub memory_refused : (scope : Scope) (width height : ℕ) (f : FrontValue) (r s : Reader) (row a : List ℕ)
+    → ReadsForm Range (front_form scope width height) r row (Ok f) s a
     → form_at Range (record_form false scope width height) r row ≡ Err Memory
 unfolding front_rest
 memory_refused scope width height f r s row a h =
     refused Range (record_form false scope width height) false Memory (memory_rest scope width height f) r s row a refl (h.0, at_ok r s h.0 h.2)
     (front_read false scope width height f r s row a h)
 
-memory_granted : (scope : Scope) (width height : ℕ) (f : FrontValue) (r s : Reader) (row a : List ℕ) → ReadsForm Range (front_form scope width height) r row (Ok f) s a
+memory_granted : (scope : Scope) (width height : ℕ) (f : FrontValue) (r s : Reader) (row a : List ℕ)
+    → ReadsForm Range (front_form scope width height) r row (Ok f) s a
     → Continues Range (record_form true scope width height) r row (apart tt (sets_from f.sets []) >>= sets_rest scope width height f) s a
 unfolding front_rest memory_rest
 memory_granted scope width height f r s row a h =
-    continue_accepted Range (record_form true scope width height) true Memory (memory_rest scope width height f) r s row a refl (front_read true scope width height f r s row a h)
+    continue_accepted Range (record_form true scope width height) true Memory (memory_rest scope width height f) r s row a refl
+    (front_read true scope width height f r s row a h)
 
-pub sets_fail : (scope : Scope) (width height : ℕ) (f : FrontValue) (e : SetupFault) (r s : Reader) (row a : List ℕ) → ReadsForm Range (front_form scope width height) r row (Ok f) s a
+pub sets_fail : (scope : Scope) (width height : ℕ) (f : FrontValue) (e : SetupFault) (r s : Reader) (row a : List ℕ)
+    → ReadsForm Range (front_form scope width height) r row (Ok f) s a
     → form_at Range (sets_from f.sets []) s tt ≡ Err e → form_at Range (record_form true scope width height) r row ≡ Err e
 sets_fail scope width height f e r s row a h k =
     continue_stop Range (record_form true scope width height) (apart tt (sets_from f.sets [])) (sets_rest scope width height f) r s s row a a e
@@ -157,12 +163,14 @@ sets_read scope width height f sets r s t row a h k =
     (memory_granted scope width height f r s row a h)
     (read_on Range (λ at_hand. tt) (λ at_hand used. at_hand) (sets_from f.sets []) s t a tt (Ok sets) k)
 
-pub deltas_fail : (scope : Scope) (width height : ℕ) (f : FrontValue) (sets : List SetValue) (contexts : List ℕ) (e : SetupFault) (r s t : Reader) (row a : List ℕ)
+pub deltas_fail : (scope : Scope) (width height : ℕ) (f : FrontValue) (sets : List SetValue) (contexts : List ℕ) (e : SetupFault) (r s t : Reader)
+    (row a : List ℕ)
     → contexts ≡ map (λ set. set.contexts) sets
     → ReadsForm Range (front_form scope width height) r row (Ok f) s a → ReadsForm Range (sets_from f.sets []) s tt (Ok sets) t tt
     → form_at Range (deltas_form contexts) t a ≡ Err e → form_at Range (record_form true scope width height) r row ≡ Err e
 deltas_fail scope width height f sets contexts e r s t row a same h k l =
-    continue_stop Range (record_form true scope width height) (deltas_form (map (λ set. set.contexts) sets)) (deltas_rest scope width height f sets) r t t row a a e
+    continue_stop Range (record_form true scope width height) (deltas_form (map (λ set. set.contexts) sets))
+    (deltas_rest scope width height f sets) r t t row a a e
     (sets_read scope width height f sets r s t row a h k)
     (subst (λ z. form_at Range (deltas_form z) t a ≡ Err e) same l)
 
@@ -173,11 +181,13 @@ deltas_read : (scope : Scope) (width height : ℕ) (f : FrontValue) (sets : List
     → Continues Range (record_form true scope width height) r row (last_fields scope >>= last_rest scope width height f sets) u b
 unfolding deltas_rest
 deltas_read scope width height f sets contexts r s t u row a b same h k l =
-    continue_next Range (record_form true scope width height) (deltas_form (map (λ set. set.contexts) sets)) (deltas_rest scope width height f sets) r t u row a b tt
+    continue_next Range (record_form true scope width height) (deltas_form (map (λ set. set.contexts) sets))
+    (deltas_rest scope width height f sets) r t u row a b tt
     (sets_read scope width height f sets r s t row a h k)
     (subst (λ z. ReadsForm Range (deltas_form z) t a (Ok tt) u b) same l)
 
-pub last_fails : (scope : Scope) (width height : ℕ) (f : FrontValue) (sets : List SetValue) (contexts : List ℕ) (e : SetupFault) (r s t u : Reader) (row a b : List ℕ)
+pub last_fails : (scope : Scope) (width height : ℕ) (f : FrontValue) (sets : List SetValue) (contexts : List ℕ) (e : SetupFault) (r s t u : Reader)
+    (row a b : List ℕ)
     → contexts ≡ map (λ set. set.contexts) sets
     → ReadsForm Range (front_form scope width height) r row (Ok f) s a → ReadsForm Range (sets_from f.sets []) s tt (Ok sets) t tt
     → ReadsForm Range (deltas_form contexts) t a (Ok tt) u b → form_at Range (last_fields scope) u b ≡ Err e
@@ -186,7 +196,8 @@ last_fails scope width height f sets contexts e r s t u row a b same h k l m =
     continue_stop Range (record_form true scope width height) (last_fields scope) (last_rest scope width height f sets) r u u row b b e
     (deltas_read scope width height f sets contexts r s t u row a b same h k l) m
 
-pub all_read : (scope : Scope) (width height : ℕ) (f : FrontValue) (sets : List SetValue) (contexts : List ℕ) (last : ℕ × ℕ) (r s t u v : Reader) (row a b d : List ℕ)
+pub all_read : (scope : Scope) (width height : ℕ) (f : FrontValue) (sets : List SetValue) (contexts : List ℕ) (last : ℕ × ℕ) (r s t u v : Reader)
+    (row a b d : List ℕ)
     → contexts ≡ map (λ set. set.contexts) sets
     → ReadsForm Range (front_form scope width height) r row (Ok f) s a → ReadsForm Range (sets_from f.sets []) s tt (Ok sets) t tt
     → ReadsForm Range (deltas_form contexts) t a (Ok tt) u b → ReadsForm Range (last_fields scope) u b (Ok last) v d

@@ -23,7 +23,14 @@ bit_read r mode total None interval next state after bit view none e a =
 bit_read r mode total (Some f) interval next state after bit view none e a = absurd cc
 
 slot_outcome : (transitions : Transitions) (slot : ℕ) (row : List ℕ) → Result (Bool × Coder) RangeFault → Result (Bool × Place) RangeFault
-slot_outcome transitions slot row (Ok x) = Ok (x.0, record { coder = x.1; states = slice_set row slot (state_following transitions (slice_index row slot) x.0) })
+slot_outcome transitions slot row (Ok x) = Ok (
+  x.0,
+  record {
+    coder = x.1;
+    states = slice_set row slot (state_following transitions
+        (slice_index row slot) x.0);
+  },
+)
 slot_outcome transitions slot row (Err e) = Err e
 
 -- a bit at a slot is a bit at its state
@@ -32,7 +39,14 @@ slot_bit : (at : Result Coder RangeFault) (mode : Mode) (slot : ℕ) (row : List
     (reads_bit (record { mode = mode; total = 0; at = at }) (slice_index row slot))
 unfolding slot_at slot_outcome
 slot_bit (Ok c) mode slot row = elim (bit_at mode.closed c (slice_index row slot)) as
-    (λ r. (r >>> λ x. Ok (x.0, record { coder = x.1; states = slice_set row slot (state_following mode.transitions (slice_index row slot) x.0) })) ≡ slot_outcome mode.transitions slot row r)
+    (λ r. (r >>> λ x. Ok (
+      x.0,
+      record {
+        coder = x.1;
+        states = slice_set row slot (state_following mode.transitions
+            (slice_index row slot) x.0);
+      },
+    )) ≡ slot_outcome mode.transitions slot row r)
     [ Ok x ↦ refl | Err e ↦ refl ]
 slot_bit (Err e) mode slot row = refl
 

@@ -51,9 +51,9 @@ impl Recording {
     /// Reads a configuration record of version 3, its parity included, for frames of this width and height in samples (RFC 9043, sections
     /// 4.2 and 4.3). What is left of the record after its last field is ignored.
     ///
-    /// Refused with the first of its faults: `TooShort`, `Parity`, `Size`, then those of the fields in the order in which they are read, each
-    /// as soon as its value was read; those of the grid after both of its numbers, that of the contexts after each table of a set. `Memory`
-    /// stands between the number of sets and the first set.
+    /// Refused with the first of its faults: `TooShort`, `Parity`, `Size`, then those of the fields in the order in which they are read,
+    /// each as soon as its value was read; those of the grid after both of its numbers, that of the contexts after each table of a set.
+    /// `Memory` stands between the number of sets and the first set.
     pub fn read(
         alloc: Global,
         config: &[u8],

@@ -96,7 +96,8 @@ unfolding setup_with
 asked_is_read config setup spec read fields count sets =
     let is = read.is ∙ ap (λ (r : RecordingValue). r.setup) read.record_of.is in
     let read_sets : setup.sets ≡ map (λ set. set_of set.tables) read.record_of.fields.sets = ap (λ z. z.sets) is in
-    let many : length (map (λ set. set_of set.tables) read.record_of.fields.sets) ≡ length read.record_of.fields.sets = length-map read.record_of.fields.sets (λ set. set_of set.tables) in
+    let many : length (map (λ set. set_of set.tables) read.record_of.fields.sets) ≡ length read.record_of.fields.sets = length-map
+    read.record_of.fields.sets (λ set. set_of set.tables) in
     let few : length (asked_sets spec) ≡ length spec.sets.items = length-map spec.sets.items (λ tables. map (λ runs. runs.items) tables.items) in
     let size : length read.record_of.fields.sets ≡ length (asked_sets spec) = sym many ∙ sym (ap length read_sets) ∙ count ∙ sym few in
     let all : setup.sets ≡ map set_of (asked_sets spec) =

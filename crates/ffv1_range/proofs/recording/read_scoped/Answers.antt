@@ -20,9 +20,11 @@ returns-then-not-is_size c =
     refused_by c.args.config.now c.args.scope c.args.width c.args.height true Size
     (elim c.then-not-is_size.branch [
       | then-not-is_size-via-then-not-is_size w ↦
-          width_refused true c.args.config.now c.in_ok-content.content.now c.args.scope c.args.width c.args.height c.in_ok-content.ensures (sym w.if-not-is_size.ensures)
+          width_refused true c.args.config.now c.in_ok-content.content.now c.args.scope c.args.width c.args.height c.in_ok-content.ensures
+          (sym w.if-not-is_size.ensures)
       | then-not-is_size-via-else-not-is_size+then-not-is_size-2 w ↦
-          height_refused true c.args.config.now c.in_ok-content.content.now c.args.scope c.args.width c.args.height c.in_ok-content.ensures (sym w.if-not-is_size.ensures)
+          height_refused true c.args.config.now c.in_ok-content.content.now c.args.scope c.args.width c.args.height c.in_ok-content.ensures
+          (sym w.if-not-is_size.ensures)
           (sym w.if-not-is_size-2.ensures)
     ])
 
