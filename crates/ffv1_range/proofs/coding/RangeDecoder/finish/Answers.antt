@@ -10,4 +10,4 @@ returns c =
     let left = bytes_to_come c.decoder.inside.fault c.decoder.inside.interval read.0 (ap (λ (z : Reader). z.at) is) in
     let total : c.decoder.inside.total ≡ c.args.self.total = ap (λ (z : Reader). z.total) is in
     let sentinel : c.decoder.inside.closed ≡ false = ap (λ (z : Reader). z.mode.closed) is ∙ c.requires in
-    ((_, read.0), read.1, omega (arith, left, total, sentinel))
+    ((_, read.0), read.1, omega (arith, left, total))
