@@ -63,7 +63,7 @@ impl PlaneReader<'_, '_, '_> {
         ensures err { IfErr result (IsSampleHalted self.old.lines.width
             (coding_of self.old) level self.old.lines.samples self.old.states.items self.old.bits.left) }
     {
-        // It says that the depth is one of samples.
+        // Its contract says that the depth is a coded depth.
         let _depth = self.lines.depth();
         // Before the code is read: one number stays at hand then, and not the samples about it.
         let prediction = near.prediction();

@@ -95,7 +95,8 @@ pub struct TilePicture {
 ///
 /// Refused with `Head` where the content has no header of the profile, then `OtherTile` where the header is that of
 /// another tile, then `Code` where the bits after it spell no picture; returns `Memory` if an allocation fails. A
-/// picture takes memory for its planes and, while they are decoded, for the adaptive states of Y, then of Cb and Cr.
+/// picture takes memory for its planes. While a plane is decoded, it takes four bytes a sample besides, and the adaptive
+/// states of Y, or of Cb and Cr.
 pub fn decode_tile(
     alloc: Global,
     setup: &Setup,
