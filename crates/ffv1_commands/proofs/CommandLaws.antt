@@ -33,7 +33,7 @@ use Rattle.ffv1_commands.specs.MergeText.{MergesFiles}
 use Rattle.ffv1_commands.specs.RestoreText.{RestoreStops}
 use Rattle.ffv1_commands.specs.PictureText.{PictureStops}
 use Rattle.ffv1_commands.specs.ReportedText.{ReportsFile}
-use Rattle.ffv1_commands.specs.Commands.{IsMadeOf, IsOfDevices, RestoresOnly, ShowsOnly, MadeOfCopies, SameCopiesMakeOneHolding, SameCopiesMakeOneFile, SameCopiesMakeOneReport, CommandsRestoreTheOriginal, CommandsRestoreNearCopies}
+use Rattle.ffv1_commands.specs.Commands.{IsMadeOf, IsNoFaultOfBytes, RestoresOnly, ShowsOnly, MadeOfCopies, SameCopiesMakeOneHolding, SameCopiesMakeOneFile, SameCopiesMakeOneReport, CommandsRestoreTheOriginal, CommandsRestoreNearCopies}
 use Rattle.ffv1_commands.specs.Commands.IsMadeOf.{by_take, by_join, by_merge}
 use Rattle.ffv1_hold.specs.declared.file_fault.HoldFileFault.{HoldFileFault}
 use Rattle.ffv1_commands.specs.declared.fault.CliFault.{CliFault}
@@ -225,7 +225,7 @@ module _ (config : List ℕ) (width height : ℕ) (setup : SetupValue) (copies :
   settled h file_is tile least =
       exact_settles (holding_of is.reel copies) original slices own exact tile (subst (λ (g : Contents). IsLeastUnsettled g tile) (read h file_is) least)
 
-  refused : (ob oa pb pa : Option (List ℕ)) (fault : CliFault) → RestoreStops (Some file) ob oa pb pa fault → IsOfDevices fault
+  refused : (ob oa pb pa : Option (List ℕ)) (fault : CliFault) → RestoreStops (Some file) ob oa pb pa fault → IsNoFaultOfBytes fault
   refused ob oa pb pa (faults.Read path) stops = tt
   refused ob oa pb pa (faults.Write path) stops = tt
   refused ob oa pb pa (faults.HoldFile fault) stops = no_fault (holding_of is.reel copies) file is.text is.has fault stops
@@ -243,7 +243,7 @@ module _ (config : List ℕ) (width height : ℕ) (setup : SetupValue) (copies :
     refused = refused;
   }
 
-  not_shown : (ob oa pb pa : Option (List ℕ)) (fault : CliFault) → PictureStops (Some file) ob oa pb pa fault → IsOfDevices fault
+  not_shown : (ob oa pb pa : Option (List ℕ)) (fault : CliFault) → PictureStops (Some file) ob oa pb pa fault → IsNoFaultOfBytes fault
   not_shown ob oa pb pa (faults.Read path) stops = tt
   not_shown ob oa pb pa (faults.Write path) stops = tt
   not_shown ob oa pb pa (faults.HoldFile fault) stops = no_fault (holding_of is.reel copies) file is.text is.has fault stops

@@ -25,9 +25,12 @@ pub mod Wrapped
 pub mod NamedFiles
 pub mod MadeFiles
 pub mod LaterInputs
+pub mod Sources
+pub mod HeldSources
 pub mod TakeReported
 pub mod JoinedFiles
 pub mod MergedFiles
 pub mod ScanCommandSteps
 pub mod MendCommandSteps
 pub mod MendCommandLaws
+pub mod UnreadLaws

@@ -1,5 +1,5 @@
 -- What writing the file of a holding and then a text says of both.
-use Rattle.std.proofs.Common.{◌≡◌, ℕ, List, Result, Ok, Err, inl, inr, refl, sym, subst}
+use Rattle.std.proofs.Common.{◌≡◌, ℕ, List, Result, Ok, Err, IfErr, inl, inr, refl, sym, subst}
 use Rattle.std.specs.Io.KnownBytes.{Keeps}
 use Rattle.std.proofs.KnownBytes.{Keeps-refl}
 use Rattle.ffv1_devices.specs.Logs.{WriteLog, Writes, StopsWriting}
@@ -33,6 +33,11 @@ module _ (h : Contents) (text : List ℕ) (a b c d : WriteLog) where
       → P (faults.Write paths.StandardOutput) → (fault : CliFault) → MadeBreaks h text a b c d fault → P fault
   made_says P none out printed fault (inl (saving, kept)) = SavingBreaks-says P h a b fault (λ file is same. none file) (λ stopped. out) saving
   made_says P none out printed fault (inr stops) = subst P (sym stops.0) printed
+
+  pub made_err : {T : Type 0} (P : CliFault → Type 0) → ((file : HoldFileFault) → P (faults.HoldFile file)) → P (faults.Write paths.Out)
+      → P (faults.Write paths.StandardOutput) → (r : Result T CliFault) → WritesMade r h text a b c d → IfErr r P
+  made_err P none out printed (Ok x) made = tt
+  made_err P none out printed (Err fault) breaks = made_says P none out printed fault breaks
 
   -- the same fault by the bytes of both
   pub made_bytes : (fault : CliFault) → MadeBreaks h text a b c d fault → MadeStops h text a.contents b.contents c.contents d.contents fault

@@ -18,7 +18,7 @@ use Rattle.ffv1_stretches.proofs.FileLaws.{any_order_mends, good_stretches_are_v
 use Rattle.ffv1_stretches.proofs.FileLemmas.{joined, kept_all}
 use Rattle.ffv1_stretches.proofs.ListLemmas.{LastLine, last_line, listed_once}
 use Rattle.ffv1_stretches.proofs.OrderLemmas.{listed_in_order}
-use Rattle.ffv1_commands.specs.Commands.{IsOfDevices}
+use Rattle.ffv1_commands.specs.Commands.{IsNoFaultOfBytes}
 use Rattle.ffv1_commands.specs.Devices.{InputBegins}
 use Rattle.ffv1_commands.specs.Fault.{of_mend}
 use Rattle.ffv1_commands.specs.Lists.{IsList}
@@ -30,7 +30,7 @@ use Rattle.ffv1_commands.specs.declared.fault.CliFault.TheVariants as faults
 
 -- ---- a list lists stretches once
 
-one_list : (copies : ℕ) (text : List ℕ) (some others : List StretchValue) → AreStretches copies text some → AreStretches copies text others → some ≡ others
+pub one_list : (copies : ℕ) (text : List ℕ) (some others : List StretchValue) → AreStretches copies text some → AreStretches copies text others → some ≡ others
 one_list copies text some others list other =
     let same : list.lines ≡ other.lines = lines_are_one text list.lines other.lines list.are_lines other.are_lines in
     listed_once copies other.lines some others (subst (λ lines. AreListed copies lines some) same list.listed) other.listed
@@ -55,7 +55,7 @@ none_is_bad copies text stretches number list bad =
     bad.bad front.0 front.1
 
 -- what the text of a list says, where it is known
-list_says : (P : List ℕ → Type 0) (list : List ℕ) → IsList P (Some list) → P list
+pub list_says : (P : List ℕ → Type 0) (list : List ℕ) → IsList P (Some list) → P list
 list_says P list is = subst P (sym is.whole.reported) is.says
 
 -- ---- the copies begin with what was read of them
@@ -153,14 +153,14 @@ reordered_none copies (s ∷ stretches) = (
   reordered_none copies stretches,
 )
 
-pass_is_of_devices : (stop : MendFault) → IsOfDevices (of_mend stop)
+pass_is_of_devices : (stop : MendFault) → IsNoFaultOfBytes (of_mend stop)
 pass_is_of_devices (stops.Read copy) = tt
 pass_is_of_devices stops.Out = tt
 pass_is_of_devices stops.Output = tt
 pass_is_of_devices stops.Memory = tt
 
 no_list_is_of_devices : (copies : ℕ) (list : List ℕ) (stretches : List StretchValue) (fault : CliFault) → AreStretches copies list stretches
-    → IsNoList copies (Some list) fault → IsOfDevices fault
+    → IsNoList copies (Some list) fault → IsNoFaultOfBytes fault
 no_list_is_of_devices copies list stretches (faults.Read path) listed none = tt
 no_list_is_of_devices copies list stretches (faults.List number) listed none =
     absurd (none_is_bad copies list stretches number listed (list_says (λ text. IsFirstBadLine copies text number) list none))
@@ -168,7 +168,7 @@ no_list_is_of_devices copies list stretches faults.Memory listed none = tt
 no_list_is_of_devices copies list stretches fault listed none = absurd none
 
 only_devices : (list : List ℕ) (copies : List (Option (List ℕ))) (stretches : List StretchValue) → AreStretches (length copies) list stretches
-    → (ob oa pb pa : Option (List ℕ)) (fault : CliFault) → MendStops (Some list) copies ob oa pb pa fault → IsOfDevices fault
+    → (ob oa pb pa : Option (List ℕ)) (fault : CliFault) → MendStops (Some list) copies ob oa pb pa fault → IsNoFaultOfBytes fault
 only_devices list copies stretches listed ob oa pb pa fault (of_list f none out printed) = no_list_is_of_devices (length copies) list stretches f listed none
 only_devices list copies stretches listed ob oa pb pa fault (of_pass stop passed) = pass_is_of_devices stop
 

@@ -1,22 +1,24 @@
 -- A file that is mended over devices, stated of the bytes of its list, its copies and its outputs.
-use Rattle.std.proofs.Common.{◌≡◌, ℕ, zero, suc, ◌<◌, List, [], ◌∷◌, ◌++◌, length, map, Option, Bool, Result, Ok, Err, IfOk, IfErr, sym, ap, ◌∙◌, subst, inl, inr, arith}
+use Rattle.std.proofs.Common.{◌≡◌, ◌⊎◌, ℕ, zero, suc, ◌<◌, List, [], ◌∷◌, ◌++◌, length, map, Option, Bool, Result, Ok, Err, IfOk, IfErr, sym, ap, ◌∙◌, subst, inl, inr, arith}
 use Rattle.std.specs.Prelude.{All}
 use Rattle.std.proofs.lemmas.List.Elements.{All-nil, All-cons}
 use Rattle.std.proofs.KnownBytes.{Keeps-refl}
 use Rattle.std.proofs.lemmas.List.{length-map, map-append}
 use mathlib.Core.List.{map-map}
 use Rattle.std.specs.List.{AllZip}
-use Rattle.std.specs.Io.KnownBytes.{Keeps}
+use Rattle.std.specs.Io.KnownBytes.{Appends, Keeps}
 use Rattle.ffv1_devices.specs.Exact.{StopsReading}
 use Rattle.ffv1_devices.specs.Logs.{ReadLog, WriteLog}
+use Rattle.ffv1_devices.specs.Streams.{tries_of, no_failures, writer_of}
+use Rattle.ffv1_devices.specs.declared.streams.ThroughWrite.{ThroughWrite}
 use Rattle.ffv1_mend.specs.Mended.{MendedValue}
 use Rattle.ffv1_stretches.specs.Copies.{CopyState, unread}
 use Rattle.ffv1_stretches.specs.Listed.{AreStretches, IsFirstBadLine}
-use Rattle.ffv1_stretches.specs.Passes.{AreRead, AreReadBut, MendsFront, StopsMending}
+use Rattle.ffv1_stretches.specs.Passes.{AreRead, AreReadBut, MendsFront, StopsMending, WritesIfTouched}
 use Rattle.ffv1_stretches.specs.Stretches.{StretchValue}
 use Rattle.ffv1_stretches.specs.declared.pass.MendFault.{MendFault}
 use Rattle.ffv1_stretches.specs.declared.pass.MendFault.TheVariants as stops
-use Rattle.ffv1_commands.specs.Devices.{InputBegins}
+use Rattle.ffv1_commands.specs.Devices.{InputBegins, IsWrittenIfTouched}
 use Rattle.ffv1_commands.specs.Fault.{NamesPath, of_mend}
 use Rattle.ffv1_commands.specs.InTurn.{log_of}
 use Rattle.ffv1_commands.specs.Lists.{ReadsList, IsList, IfOfList}
@@ -24,6 +26,7 @@ use Rattle.ffv1_commands.specs.MendText.{IsFaultOfList, MendsListed, ReportsMend
 use Rattle.ffv1_commands.specs.Paths.{IsMendPath}
 use Rattle.ffv1_commands.specs.declared.fault.CliFault.{CliFault}
 use Rattle.ffv1_commands.specs.declared.fault.CliFault.TheVariants as faults
+use Rattle.ffv1_commands.specs.declared.path.CommandPath.{CommandPath}
 use Rattle.ffv1_commands.specs.declared.path.CommandPath.TheVariants as paths
 use Rattle.ffv1_commands.proofs.InputLaws.{begins}
 use Rattle.ffv1_commands.proofs.ReadLists.{list_of_bytes}
@@ -108,6 +111,47 @@ pass_is_later (stops.Read copy) P = λ same. absurd (cc)
 pass_is_later stops.Out P = tt
 pass_is_later stops.Output P = tt
 pass_is_later stops.Memory P = tt
+
+-- ---- what is untouched before its first byte
+
+-- the log of a wrapper
+abbrev pub through_log : {W : Type 0} → (W → Option (List ℕ)) → ThroughWrite W → WriteLog
+through_log contents s = record { contents = contents s.writer.now; tries = tries_of s.failures; reference = s.writer.ghost_name }
+
+-- a fault of a pass is reported as one of the command
+pub or_touched : {F G : Type 0} (of : F → G) (stop fault : F) {P : Type 0} → (stop ≡ fault) ⊎ P → (of stop ≡ of fault) ⊎ P
+or_touched of stop fault (inl is) = inl (ap of is)
+or_touched of stop fault (inr touched) = inr touched
+
+-- what follows from what a fault of a list leaves
+pub of_list_so : {P Q : Type 0} (path : CommandPath) (r : Result Bool CliFault) → (P → Q) → IfErr r (λ fault. IfOfList path fault P)
+    → IfErr r (λ fault. IfOfList path fault Q)
+of_list_so path (Ok good) then kept = tt
+of_list_so path (Err (faults.Read named)) then kept = λ is. then (kept is)
+of_list_so path (Err (faults.Ranges number)) then kept = then kept
+of_list_so path (Err (faults.List number)) then kept = then kept
+of_list_so path (Err fault) then kept = tt
+
+-- a writer of which a wrapper was the sink, and what is left of it once the wrapper is gone
+module _ {W : Type 0} (contents : W → Option (List ℕ)) (old new : ThroughWrite W) (w left : W) (name : ℕ)
+    (log : through_log contents old ≡ record { contents = contents w; tries = no_failures; reference = name })
+    (is : writer_of old ≡ w) (leaves : name ≡ new.writer.ghost_name → left ≡ writer_of new) where
+  left_new : new.writer.ghost_name ≡ old.writer.ghost_name → left ≡ writer_of new
+  left_new same = leaves (sym (ap (λ (l : WriteLog). l.reference) log) ∙ sym same)
+
+  pub left_kept : new ≡ old → left ≡ w
+  left_kept same = left_new (ap (λ (s : ThroughWrite W). s.writer.ghost_name) same) ∙ ap writer_of same ∙ is
+
+  pub left_touched : (path : CommandPath) (r : Result Bool CliFault)
+      → IfErr r (λ fault. (fault ≡ faults.Write path) ⊎ WritesIfTouched (through_log contents) old new)
+      → IfErr r (IsWrittenIfTouched path (left ≡ w) (contents w) (contents left))
+  left_touched path (Ok good) touched = tt
+  left_touched path (Err fault) (inl failed) = inl failed
+  left_touched path (Err fault) (inr (inl same)) = inr (inl (left_kept same))
+  left_touched path (Err fault) (inr (inr (bytes, some, wrote))) =
+      let to : Appends (contents w) (contents (writer_of new)) bytes =
+      subst (λ (l : WriteLog). Appends l.contents (contents (writer_of new)) bytes) log wrote.bytes' in
+      inr (inr (bytes, some, subst (λ (l : W). Appends (contents w) (contents l) bytes) (sym (left_new wrote.same)) to))
 
 -- ---- over bytes
 

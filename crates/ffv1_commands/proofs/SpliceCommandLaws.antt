@@ -15,7 +15,7 @@ use Rattle.ffv1_splice.proofs.OriginalLaws.{original_is_spliced}
 use Rattle.ffv1_splice.proofs.NearCopies.{near_copies_splice}
 use Rattle.ffv1_splice.proofs.WovenLaws.{given_back_is_original}
 use Rattle.ffv1_splice.proofs.SplicePlaces.{places_within}
-use Rattle.ffv1_commands.specs.Commands.{IsOfDevices}
+use Rattle.ffv1_commands.specs.Commands.{IsNoFaultOfBytes}
 use Rattle.ffv1_splice.specs.Text.{front_line}
 use Rattle.ffv1_commands.specs.SpliceText.{standing_line, splice_text, SpliceStops}
 use Rattle.ffv1_commands.specs.SpliceLaws.{Made, SplicesTo, settled_line, whole_of, GiveOnly, GiveOnlyIfTrue, SameCopiesMakeOneSplice, SpliceGivesTheOriginal, SpliceGivesNearCopies, SpliceGivesWovenCopies, SpliceGivesNearWovenCopies}
@@ -109,7 +109,7 @@ module _ (original : List ℕ) (copies : List (List ℕ)) (spliced : SplicedValu
 
 -- copies of one length are refused by devices alone
 only_devices : (copies : List (List ℕ)) (size : ℕ) → ((i : ℕ) → i < length copies → length (get_or copies i []) ≡ size)
-    → (ob oa pb pa : Option (List ℕ)) (fault : CliFault) → SpliceStops (map Some copies) ob oa pb pa fault → IsOfDevices fault
+    → (ob oa pb pa : Option (List ℕ)) (fault : CliFault) → SpliceStops (map Some copies) ob oa pb pa fault → IsNoFaultOfBytes fault
 only_devices copies size one ob oa pb pa (faults.Read path) stops = tt
 only_devices copies size one ob oa pb pa (faults.Write path) stops = tt
 only_devices copies size one ob oa pb pa (faults.Splice path) (read, whole, (index, is, named)) =

@@ -2,11 +2,11 @@
 use Rattle.std.proofs.Common.{◌≡◌, ℕ, ◌<◌, Bool, List, [], ◌∷◌, ◌++◌, length, map, Option, Result, Ok, Err, IfOk, IfErr, inl, inr, refl, sym, ap, ◌∙◌, subst, arith}
 use Rattle.std.specs.Prelude.{◌↔◌, IsTrue}
 use Rattle.std.proofs.lemmas.List.{length-map, map-append}
-use Rattle.ffv1_devices.specs.Logs.{WriteLog, Writes}
+use Rattle.ffv1_devices.specs.Logs.{ReadLog, WriteLog, Writes}
 use Rattle.ffv1_splice.specs.Splice.{SplicedValue, IsSpliceOf, IsGivenBack}
 use Rattle.ffv1_splice.specs.Faults.{IsOfOtherLength}
 use Rattle.ffv1_commands.specs.Devices.{AreWholeInputs, FileStops, BothStop}
-use Rattle.ffv1_commands.specs.InTurn.{AreTaken, StopsAtCopy}
+use Rattle.ffv1_commands.specs.InTurn.{AreTaken, StopsAtCopy, IfCopyUnread}
 use Rattle.ffv1_commands.specs.Fault.{NamesPath}
 use Rattle.ffv1_commands.specs.Paths.{IsSplicePath}
 use Rattle.ffv1_commands.specs.SpliceText.{splice_text, IsLengthFault, SplicesCopies, SpliceStops, LaterCopiesKept, WritesSplice, SpliceRefuses, ReportsSplice}
@@ -54,6 +54,23 @@ module _ (copies : List (List ℕ)) (out out' output output' : WriteLog) (splice
   splice_stopped = both_says file text out out' output output' (SpliceRefuses copies out out' output output') (λ named stops.
       let first = subst (λ (t : List ℕ). BothStop (faults.Write named) t text out out' output output') whole stops in
       (spliced, is, subst (λ (t : List ℕ). BothStop (faults.Write named) spliced.payload t out out' output output') lines first))
+
+-- ---- once all copies were read
+
+module _ {C : Type 0} (remaining : C → Option (List ℕ)) (old new : List C) (copies : List (List ℕ)) (out out' output output' : WriteLog)
+    (taken : AreTaken (map remaining old) copies) where
+  -- the splice and its lines were written, or the command stopped
+  pub spliced_reported : (r : Result Bool CliFault) → IfOk r (WritesSplice copies out out' output output') → IfErr r (SpliceRefuses copies out out' output output')
+      → ReportsSplice remaining r old new out out' output output'
+  spliced_reported (Ok returned) wrote refuses = (copies, taken, wrote)
+  spliced_reported (Err f) wrote refuses = inr (copies, taken, refuses)
+
+-- no fault says that a copy was not read
+pub refuses_read : (Went : ReadLog → ReadLog → Type 0) (old new : List ReadLog) (copies : List (List ℕ)) (out out' output output' : WriteLog)
+    (r : Result Bool CliFault) → IfErr r (SpliceRefuses copies out out' output output') → IfErr r (IfCopyUnread Went old new)
+refuses_read Went old new copies out out' output output' (Ok returned) refuses = tt
+refuses_read Went old new copies out out' output output' (Err (faults.Read path)) refuses = absurd refuses
+refuses_read Went old new copies out out' output output' (Err fault) refuses = tt
 
 -- ---- the same of bytes
 

@@ -13,8 +13,8 @@ use Rattle.ffv1_holding.specs.TakeFaults.{IsTakeFault}
 use Rattle.ffv1_holding.specs.declared.fault.HoldFault.{HoldFault}
 use Rattle.ffv1_holding.specs.declared.fault.HoldFault.TheVariants as holds
 use Rattle.ffv1_commands.specs.Devices.{IsCopyFault, IfOfRecord, WriteStops, TakesWhole, CopyStops}
-use Rattle.ffv1_commands.specs.InTurn.{StopsAtCopy}
-use Rattle.ffv1_commands.specs.RecordInputs.{IsReelInput, TakesReel}
+use Rattle.ffv1_commands.specs.InTurn.{StopsAtCopy, IfCopyUnread}
+use Rattle.ffv1_commands.specs.RecordInputs.{IsReelInput, TakesReel, RecordStops}
 use Rattle.ffv1_commands.specs.Fault.{NamesPath, of_hold}
 use Rattle.ffv1_commands.specs.Paths.{IsTakePath}
 use Rattle.ffv1_commands.specs.Holdings.{HasFile, IsFileFault}
@@ -92,6 +92,12 @@ pub made_reported : {T C : Type 0} (reports : C → Option (List ℕ)) (width he
     → WritesMade r held text out out' output output' → ReportsTake r reports width height a b old new out out' output output'
 made_reported reports width height a b old new out out' output output' held text all (Ok x) made = (held, text, all, made)
 made_reported reports width height a b old new out out' output output' held text all (Err fault) breaks = inr (inr (held, text, all, breaks))
+
+-- no fault of the record says that a copy was not read
+pub record_read : (Went : ReadLog → ReadLog → Type 0) (old new : List ReadLog) (width height : ℕ) (a b : ReadLog) (fault : CliFault)
+    → RecordStops width height a b fault → IfCopyUnread Went old new fault
+record_read Went old new width height a b fault stops =
+    RecordStops-says (IfCopyUnread Went old new) width height a b fault tt tt (λ setup config took first. tt) stops
 
 -- ---- the same of bytes
 

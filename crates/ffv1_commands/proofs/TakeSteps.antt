@@ -40,6 +40,11 @@ takes_none reel h text empty none = record { copies = []; read = tt; held = empt
 pub takes_reel : (inputs : List (Option (List ℕ))) (reel : Reel) (h : Contents) (text : List ℕ) → TakesEach inputs reel h text → h.reel ≡ reel
 takes_reel inputs reel h text each = ap (λ (x : Contents). x.reel) each.held
 
+-- the same copy, read otherwise
+pub taken_by : (IsRead Other : List ℕ → Type 0) (number : ℕ) (old new : Contents) (before after : List ℕ) (one : TakesOne IsRead number old new before after)
+    → Other one.copy → TakesOne Other number old new before after
+taken_by IsRead Other number old new before after one read = record { copy = one.copy; read = read; held = one.held; line = one.line }
+
 pub takes_more : (inputs : List (Option (List ℕ))) (reel : Reel) (old new : Contents) (before after : List ℕ) (input : Option (List ℕ)) (number : ℕ)
     (log : ReadLog) → TakesEach inputs reel old before → number ≡ length inputs → TakesOne (TakesWhole (log_of input) log) (number + 1) old new before after
     → TakesEach (inputs ++ input ∷ []) reel new after

@@ -38,29 +38,30 @@ pub data IsMadeOf (config : List ℕ) (width height : ℕ) : List (List ℕ) →
       → MergesFiles (Some left) (Some right) (Some []) (Some file)
       → IsMadeOf config width height (lefts ++ rights) file
 
--- a fault that a device or Memory gave
-abbrev pub IsOfDevices : CliFault → Type 0
-IsOfDevices (faults.Read path) = Unit {0}
-IsOfDevices (faults.Write path) = Unit {0}
-IsOfDevices faults.Memory = Unit {0}
-IsOfDevices _ = ⊥
+-- the fault is of no input's bytes: an input was not read, an output was not written, or memory ran out
+abbrev pub IsNoFaultOfBytes : CliFault → Type 0
+IsNoFaultOfBytes (faults.Read path) = Unit {0}
+IsNoFaultOfBytes (faults.Write path) = Unit {0}
+IsNoFaultOfBytes faults.Memory = Unit {0}
+IsNoFaultOfBytes _ = ⊥
 
--- What is restored of a file is these bytes: where `restore` returns Ok, it wrote them and nothing else, and where it is refused, a device
--- failed or memory ran out.
+-- What is restored of a file is these bytes: where `restore` returns Ok, it wrote them and nothing else, and where it is refused, an input
+-- was not read, an output not written, or memory ran out.
 pub record RestoresOnly (file original : List ℕ) : Type 0 where
   pub written : (out_before out_after printed_before printed_after : Option (List ℕ))
       → RestoresFile (Some file) out_before out_after printed_before printed_after → Appends out_before out_after original
   pub refused : (out_before out_after printed_before printed_after : Option (List ℕ)) (fault : CliFault)
-      → RestoreStops (Some file) out_before out_after printed_before printed_after fault → IsOfDevices fault
+      → RestoreStops (Some file) out_before out_after printed_before printed_after fault → IsNoFaultOfBytes fault
 
 -- What is shown of a file is what the slices spell: where `picture` returns Ok, it wrote the samples of a frame, each of which is the one
--- that the greatest decoded tile covering it spells, by these slices of the tiles; where it is refused, a device failed or memory ran out.
+-- that the greatest decoded tile covering it spells, by these slices of the tiles; where it is refused, an input was not
+-- read, an output not written, or memory ran out.
 pub record ShowsOnly (setup : SetupValue) (file : List ℕ) (slices : List (List ℕ)) : Type 0 where
   pub written : (out_before out_after printed_before printed_after : Option (List ℕ)) (whole : Bool)
       → ShowsFile (Some file) out_before out_after printed_before printed_after whole
       → (frame : Frame) × ShowsSlices setup slices frame × Appends out_before out_after (raw_bytes frame)
   pub refused : (out_before out_after printed_before printed_after : Option (List ℕ)) (fault : CliFault)
-      → PictureStops (Some file) out_before out_after printed_before printed_after fault → IsOfDevices fault
+      → PictureStops (Some file) out_before out_after printed_before printed_after fault → IsNoFaultOfBytes fault
 
 -- ---- laws
 

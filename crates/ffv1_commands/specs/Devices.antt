@@ -2,7 +2,7 @@
 use Rattle.std.specs.Prelude.{ℕ, ◌≡◌, ◌+◌, ◌<◌, ◌≤◌, List, [], ◌∷◌, ◌++◌, length, Option, IfSome, ◌⊎◌}
 use Rattle.std.specs.Io.KnownBytes.{Appends, IsAtEnd, Keeps}
 use Rattle.ffv1_bits.specs.Limits.{payload_limit}
-use Rattle.ffv1_devices.specs.Logs.{ReadLog, WriteLog, Reads, BreaksOff, Writes, StopsWriting}
+use Rattle.ffv1_devices.specs.Logs.{ReadLog, WriteLog, GivesUp, Reads, BreaksOff, Writes, StopsWriting}
 pub use Rattle.ffv1_devices.specs.Writing.{WritesFront}
 use Rattle.ffv1_holding.specs.declared.fault.HoldFault.TheVariants as holds
 use Rattle.ffv1_commands.specs.declared.fault.CliFault.{CliFault}
@@ -20,10 +20,17 @@ pub record TakesWhole (old new : ReadLog) (bytes : List ℕ) : Type 0 where
 abbrev pub StopsWithin : ReadLog → ReadLog → Type 0
 StopsWithin old new = (bytes : List ℕ) × Reads old new bytes × (length bytes ≤ payload_limit)
 
+-- The source was given up.
+abbrev pub IsGivenUp : ReadLog → ReadLog → Type 0
+IsGivenUp old new = GivesUp old.tries new.tries
+
+-- It was, within the limit.
+abbrev pub GivesUpWithin : ReadLog → ReadLog → Type 0
+GivesUpWithin old new = (bytes : List ℕ) × BreaksOff old new bytes × (length bytes ≤ payload_limit)
+
 -- The source was given up within the limit, or passed it by one byte.
 abbrev pub IsUnread : ReadLog → ReadLog → Type 0
-IsUnread old new =
-    ((bytes : List ℕ) × BreaksOff old new bytes × (length bytes ≤ payload_limit)) ⊎ ((bytes : List ℕ) × Reads old new bytes × (length bytes ≡ payload_limit + 1))
+IsUnread old new = GivesUpWithin old new ⊎ ((bytes : List ℕ) × Reads old new bytes × (length bytes ≡ payload_limit + 1))
 
 -- how the file that is this path of the command was not read
 abbrev pub FileStops : CommandPath → CliFault → ReadLog → ReadLog → Type 0
@@ -33,7 +40,7 @@ FileStops path _ old new = ⊥
 
 -- how the copy that is this path of the command was not read: that it is too long is a fault of its own
 abbrev pub CopyStops : CommandPath → CliFault → ReadLog → ReadLog → Type 0
-CopyStops path (faults.Read named) old new = (named ≡ path) × ((bytes : List ℕ) × BreaksOff old new bytes × (length bytes ≤ payload_limit))
+CopyStops path (faults.Read named) old new = (named ≡ path) × GivesUpWithin old new
 CopyStops path (faults.Hold fault) old new =
     (fault ≡ holds.PayloadTooLong) × ((bytes : List ℕ) × Reads old new bytes × (length bytes ≡ payload_limit + 1))
 CopyStops path faults.Memory old new = StopsWithin old new
@@ -74,6 +81,11 @@ IsCopyFault path copy _ = ⊥
 abbrev pub UnlessWriting : CliFault → Type 0 → Type 0
 UnlessWriting (faults.Write path) P = Unit {0}
 UnlessWriting _ P = P
+
+-- Unless writing to this path failed, what is written there is as it was, or some bytes, one at least, were written.
+abbrev pub IsWrittenIfTouched : CommandPath → (Kept : Type 0) → (before after : Option (List ℕ)) → CliFault → Type 0
+IsWrittenIfTouched path Kept before after fault =
+    (fault ≡ faults.Write path) ⊎ Kept ⊎ ((bytes : List ℕ) × (0 < length bytes) × Appends before after bytes)
 
 -- What holds of a fault of the record, which is judged before any other input is read.
 abbrev pub IfOfRecord : CliFault → Type 0 → Type 0

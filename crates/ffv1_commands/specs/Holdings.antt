@@ -44,6 +44,10 @@ IsFileFault h _ = ⊥
 abbrev pub HoldingStops : CommandPath → CliFault → ReadLog → ReadLog → Type 0
 HoldingStops path fault old new = (f : HoldFileFault) × (fault ≡ of_hold_file path f) × ReadsFile (Err f) old new
 
+-- A source was given up as a holding file was read.
+abbrev pub IsUnheld : (old new : ReadLog) → Type 0
+IsUnheld old new = ReadsFile (Err files.Read) old new
+
 -- How the file of a holding was not written to OUT: it has none, which leaves OUT as it was, or a front of it was written.
 abbrev pub SavingBreaks : Contents → (old new : WriteLog) → CliFault → Type 0
 SavingBreaks h old new (faults.HoldFile fault) = IsFileFault h (faults.HoldFile fault) × (new ≡ old)

@@ -1,9 +1,10 @@
 -- Inputs that a command reads in turn, each by a source of its own.
-use Rattle.std.specs.Prelude.{ℕ, ◌≡◌, ◌+◌, ◌<◌, List, [], ◌∷◌, length, map, take, drop, slice_index_or, Option, None}
+use Rattle.std.specs.Prelude.{ℕ, ◌≡◌, ◌+◌, ◌<◌, zero, suc, List, [], ◌∷◌, length, map, take, drop, slice_index_or, Option, None}
 use Rattle.ffv1_devices.specs.Logs.{ReadLog}
 use Rattle.ffv1_devices.specs.Streams.{no_failures}
 use Rattle.ffv1_commands.specs.Devices.{TakesWhole}
 use Rattle.ffv1_commands.specs.declared.fault.CliFault.{CliFault}
+use Rattle.ffv1_commands.specs.declared.fault.CliFault.TheVariants as faults
 use Rattle.ffv1_commands.specs.declared.path.CommandPath.{CommandPath}
 use Rattle.ffv1_commands.specs.declared.path.CommandPath.TheVariants as paths
 
@@ -43,3 +44,16 @@ pub record StopsAtCopy {C : Type 0} (Stops : CommandPath → CliFault → ReadLo
   pub earlier : AreTaken (take index (map remaining old)) copies
   pub stopped : ReadsAlone (Stops (paths.Copy index) fault) (slice_index_or (map remaining old) index None)
   pub later : AreKeptFrom (index + 1) old new
+
+-- ---- over sources that the caller keeps
+
+-- The source at this place went so.
+abbrev pub WentAt : (ReadLog → ReadLog → Type 0) → ℕ → (old new : List ReadLog) → Type 0
+WentAt Went zero (old ∷ olds) (new ∷ news) = Went old new
+WentAt Went (suc place) (old ∷ olds) (new ∷ news) = WentAt Went place olds news
+WentAt Went place _ _ = ⊥
+
+-- What a fault rests on that says that a copy was not read: its source went so.
+abbrev pub IfCopyUnread : (ReadLog → ReadLog → Type 0) → (old new : List ReadLog) → CliFault → Type 0
+IfCopyUnread Went old new (faults.Read (paths.Copy place)) = WentAt Went place old new
+IfCopyUnread Went old new _ = Unit {0}

@@ -1,5 +1,5 @@
 -- What the command `join` makes and prints: the union of holding files, and a line for each file.
-use Rattle.std.specs.Prelude.{ℕ, ◌≡◌, ◌+◌, ◌-◌, ◌<◌, ◌++◌, ◌⊎◌, List, [], ◌∷◌, length, map, take, Option, slice_index_or, None, Result, Ok, Err, codes}
+use Rattle.std.specs.Prelude.{ℕ, ◌≡◌, suc, ◌+◌, ◌-◌, ◌<◌, ◌++◌, ◌⊎◌, List, [], ◌∷◌, length, map, take, Option, slice_index_or, None, Result, Ok, Err, codes}
 use Rattle.std.specs.Fmt.{decimal}
 use Rattle.std.specs.Io.KnownBytes.{Appends}
 use Rattle.ffv1_holding.specs.Sets as set
@@ -10,8 +10,8 @@ use Rattle.ffv1_hold.specs.HoldingText.{holding_text}
 use Rattle.ffv1_devices.specs.Logs.{ReadLog, WriteLog}
 use Rattle.ffv1_holding.specs.declared.fault.HoldFault.TheVariants as holds
 use Rattle.ffv1_commands.specs.Devices.{WriteStops, BothKept}
-use Rattle.ffv1_commands.specs.InTurn.{AreKeptFrom, ReadsAlone}
-use Rattle.ffv1_commands.specs.Holdings.{IsHoldingFile, HasFile, IsHoldingFault, IsFileFault, HoldingStops, IsMade, MadeBreaks}
+use Rattle.ffv1_commands.specs.InTurn.{AreKeptFrom, ReadsAlone, WentAt}
+use Rattle.ffv1_commands.specs.Holdings.{IsHoldingFile, HasFile, IsHoldingFault, IsFileFault, HoldingStops, IsUnheld, IsMade, MadeBreaks}
 use Rattle.ffv1_commands.specs.declared.fault.CliFault.{CliFault}
 use Rattle.ffv1_commands.specs.declared.fault.CliFault.TheVariants as faults
 use Rattle.ffv1_commands.specs.declared.path.CommandPath.{CommandPath}
@@ -155,3 +155,8 @@ ReportsJoin (Err fault) reports first_old first_new others_old others_new out_ol
     (StopsAtFile reports first_old first_new others_old others_new fault × BothKept out_old out_new output_old output_new)
     ⊎ ((whole : Contents) × (text : List ℕ) × JoinsAll (map reports others_old) first_old first_new whole text
     × MadeBreaks whole text out_old out_new output_old output_new fault)
+
+-- What a fault rests on that says that a file after the first was not read: its source was given up.
+abbrev pub IfLaterUnread : (old new : List ReadLog) → CliFault → Type 0
+IfLaterUnread old new (faults.Read (paths.Hold (suc place))) = WentAt IsUnheld place old new
+IfLaterUnread old new _ = Unit {0}

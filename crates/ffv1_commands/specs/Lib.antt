@@ -21,6 +21,7 @@ pub mod MendText
 pub mod Commands
 pub mod SpliceLaws
 pub mod MendLaws
+pub mod UnreadLaws
 pub mod Inner
 -- what the clauses cite of the crates below
 pub use Rattle.ffv1_slice.specs.Chain

@@ -10,7 +10,7 @@ use Rattle.ffv1_stretches.specs.Lines.{mend_text}
 use Rattle.ffv1_stretches.specs.Listed.{AreStretches}
 use Rattle.ffv1_stretches.specs.Passes.{bytes_of}
 use Rattle.ffv1_stretches.specs.Stretches.{StretchValue}
-use Rattle.ffv1_commands.specs.Commands.{IsOfDevices}
+use Rattle.ffv1_commands.specs.Commands.{IsNoFaultOfBytes}
 use Rattle.ffv1_commands.specs.MendText.{MendsFiles, MendStops}
 use Rattle.ffv1_commands.specs.SpliceLaws.{Made}
 use Rattle.ffv1_commands.specs.declared.fault.CliFault.{CliFault}
@@ -26,11 +26,11 @@ pub record IsMadeOfStretches (copies : List (List ℕ)) (stretches : List Stretc
   pub printed : made.printed ≡ mend_text 1 copies stretches mended
   pub returned : made.returned ≡ list_all (λ one. is_good one.state) mended
 
--- The command makes the original of the copies where it returns `true`, and is refused only by a device or because memory ran out.
+-- The command makes the original of the copies where it returns `true`, and is refused only because reading, writing or memory failed.
 pub record GiveOnlyIfGood (list : List ℕ) (copies : List (List ℕ)) (original : List ℕ) : Type 0 where
   pub made : (made : Made) → MendsTo list copies made → made.returned ≡ true → made.file ≡ original
   pub refused : (out_before out_after printed_before printed_after : Option (List ℕ)) (fault : CliFault)
-      → MendStops (Some list) (map Some copies) out_before out_after printed_before printed_after fault → IsOfDevices fault
+      → MendStops (Some list) (map Some copies) out_before out_after printed_before printed_after fault → IsNoFaultOfBytes fault
 
 -- ---- laws
 

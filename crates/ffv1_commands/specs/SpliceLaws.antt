@@ -8,7 +8,7 @@ use Rattle.ffv1_slice.specs.Walk.{links_of}
 use Rattle.ffv1_splice.specs.Whole.{IsWholeFrame}
 use Rattle.ffv1_splice.specs.Originals.{AreCopiesOf, AreConsistentWith, AreConsistentFromBelow, HaveEachLink, IsAmong, AreWeavable, AreNearCopies, IsIntactInSome}
 use Rattle.ffv1_splice.specs.declared.place.Standing.TheVariants.{Settled}
-use Rattle.ffv1_commands.specs.Commands.{IsOfDevices}
+use Rattle.ffv1_commands.specs.Commands.{IsNoFaultOfBytes}
 use Rattle.ffv1_commands.specs.SpliceText.{standing_line, SplicesCopies, SpliceStops}
 use Rattle.ffv1_commands.specs.declared.fault.CliFault.{CliFault}
 
@@ -30,17 +30,17 @@ settled_line link = standing_line (record { start = link.start; end = link.start
 abbrev pub whole_of : List ℕ → Made
 whole_of original = record { file = original; printed = flat_map settled_line (links_of original) ++ codes "end whole\n"; returned = true }
 
--- The command makes the original of the copies, and is refused only by a device or because memory ran out.
+-- The command makes the original of the copies, and is refused only because reading, writing or memory failed.
 pub record GiveOnly (copies : List (List ℕ)) (original : List ℕ) : Type 0 where
   pub made : (made : Made) → SplicesTo copies made → made ≡ whole_of original
   pub refused : (out_before out_after printed_before printed_after : Option (List ℕ)) (fault : CliFault)
-      → SpliceStops (map Some copies) out_before out_after printed_before printed_after fault → IsOfDevices fault
+      → SpliceStops (map Some copies) out_before out_after printed_before printed_after fault → IsNoFaultOfBytes fault
 
--- Where the command returns `true`, it made the original of the copies; and it is refused only by a device or because memory ran out.
+-- Where the command returns `true`, it made the original of the copies; and it is refused only because reading, writing or memory failed.
 pub record GiveOnlyIfTrue (copies : List (List ℕ)) (original : List ℕ) : Type 0 where
   pub made : (made : Made) → SplicesTo copies made → made.returned ≡ true → made.file ≡ original
   pub refused : (out_before out_after printed_before printed_after : Option (List ℕ)) (fault : CliFault)
-      → SpliceStops (map Some copies) out_before out_after printed_before printed_after fault → IsOfDevices fault
+      → SpliceStops (map Some copies) out_before out_after printed_before printed_after fault → IsNoFaultOfBytes fault
 
 -- ---- laws
 

@@ -2,11 +2,12 @@
 ghost use Rattle.std.specs.Prelude.{◌≡◌, ◌≢◌, ◌+◌, ◌<◌, ◌^◌, [], ◌∷◌, ◌++◌, length, map, Err, IfOk, IfErr, OnOk, string_bytes};
 ghost use Rattle.ffv1_holding.specs.Contents.{IsSameReel, joined};
 ghost use Rattle.ffv1_holding.specs.Sets.{size};
+ghost use Rattle.ffv1_hold.specs.FileFaults.{ReadsHolding};
 ghost use Rattle.ffv1_commands.specs.Fault.{NamesPath};
 ghost use Rattle.ffv1_commands.specs.Paths.{IsJoinPath};
 ghost use Rattle.ffv1_commands.specs.Devices.{UnlessWriting};
 ghost use Rattle.ffv1_commands.specs.InTurn.{ReadsAlone};
-ghost use Rattle.ffv1_commands.specs.JoinText.{file_line, JoinsAll, JoinsFiles, StopsAtFile, LaterFilesKept, JoinStops, ReportsJoin};
+ghost use Rattle.ffv1_commands.specs.JoinText.{file_line, FileBreaks, JoinsAll, JoinsFiles, StopsAtFile, LaterFilesKept, JoinStops, ReportsJoin, IfLaterUnread};
 ghost use Rattle.ffv1_commands.specs.Inner.JoinText.{JoinsFile};
 
 use crate::devices::buffered;
@@ -45,7 +46,7 @@ pub fn run_join<R: Read, O: Write, W: Write>(
     ensures names { IfErr result (NamesPath (IsJoinPath (length others.old + 1))) }
 {
     let mut first = buffered(alloc, first)?;
-    join_of(
+    join_readers(
         alloc,
         &mut first,
         others,
@@ -54,11 +55,29 @@ pub fn run_join<R: Read, O: Write, W: Write>(
     )
 }
 
-/// The command over a source, readers of the other files, and sinks. The logs say how it went: at `Read` of the first file its source
-/// was given up, and at `Write` the sink that is named; no other failures of them came but interruptions. Each other file is read by a
-/// source of its own, which begins without a failure: at `Read` of that file it was given up. It is gone once the call ends, so the caller
-/// can't see its tries.
-pub fn join_of<F: Source, R: Read, O: Sink, W: Sink>(
+/// The command over sources and sinks. The logs say how it went: at `Read` of a file its source was given up, and at `Write` the sink that is
+/// named; no other failures of the first file's source and of the sinks came but interruptions.
+pub fn join_of<F: Source, R: Source, O: Sink, W: Sink>(
+    alloc: Global,
+    first: &mut F,
+    others: &mut [R],
+    out: &mut O,
+    output: &mut W,
+) -> Result<(), CliFault>
+    requires { length others.old < 2 ^ 63 }
+    ensures reported { ReportsJoin result (λ file. (R.log file).remaining) (F.log first.old) (F.log first.new) others.old others.new
+        (O.log out.old) (O.log out.new) (W.log output.old) (W.log output.new) }
+    ensures unread { IfErr result (IfLaterUnread (map R.log others.old) (map R.log others.new)) }
+    ensures untouched { IfErr result (λ fault. UnlessWriting fault ((out.new ≡ out.old) × (output.new ≡ output.old))) }
+{
+    let mut lines = String::new(alloc);
+    let whole = join_sources(alloc, first, others, &mut lines)?;
+    write_made(out, &whole, output, lines.as_str())
+}
+
+/// The same over readers of the other files. Each is read by a source of its own, which begins without a failure, and is gone once the call
+/// ends: so the caller can't see its tries.
+fn join_readers<F: Source, R: Read, O: Sink, W: Sink>(
     alloc: Global,
     first: &mut F,
     others: &mut [R],
@@ -75,7 +94,42 @@ pub fn join_of<F: Source, R: Read, O: Sink, W: Sink>(
     write_made(out, &whole, output, lines.as_str())
 }
 
-/// Joins the holdings of files, and adds a line for each.
+/// Joins the holdings of files, which are sources, and adds a line for each.
+fn join_sources<F: Source, R: Source>(
+    alloc: Global,
+    first: &mut F,
+    others: &mut [R],
+    lines: &mut String,
+) -> Result<Holding, CliFault>
+    requires few { length others.old < 2 ^ 63 }
+    requires none { string_bytes lines.old ≡ [] }
+    ensures ok { IfOk result (λ whole. JoinsAll (map (λ file. (R.log file).remaining) others.old) (F.log first.old) (F.log first.new) whole (string_bytes lines.new)) }
+    ensures err { IfErr result (StopsAtFile (λ file. (R.log file).remaining) (F.log first.old) (F.log first.new) others.old others.new) }
+    ensures unread { IfErr result (IfLaterUnread (map R.log others.old) (map R.log others.new)) }
+{
+    let mut whole = first_holding(alloc, first, lines)?;
+    for place in 0..others.len() {
+        join_file_of(alloc, &mut whole, &mut others[place], place + 1, lines)?;
+    }
+    Ok(whole)
+}
+
+/// The holding of the first file, and its line.
+fn first_holding<F: Source>(
+    alloc: Global,
+    first: &mut F,
+    lines: &mut String,
+) -> Result<Holding, CliFault>
+    ensures ok { IfOk result (ReadsHolding (F.log first.old) (F.log first.new)) }
+    ensures line { IfOk result (λ whole. string_bytes lines.new ≡ string_bytes lines.old ++ file_line 1 (size whole.slices)) }
+    ensures err { IfErr result (λ fault. FileBreaks (CommandPath.Hold 0) fault (F.log first.old) (F.log first.new)) }
+{
+    let whole = read_holding(alloc, first, CommandPath::Hold(0))?;
+    push_file(lines, 1, whole.size())?;
+    Ok(whole)
+}
+
+/// The same of readers.
 fn join_files<F: Source, R: Read>(
     alloc: Global,
     first: &mut F,
@@ -87,8 +141,7 @@ fn join_files<F: Source, R: Read>(
     ensures ok { IfOk result (λ whole. JoinsAll (map R.remaining others.old) (F.log first.old) (F.log first.new) whole (string_bytes lines.new)) }
     ensures err { IfErr result (StopsAtFile R.remaining (F.log first.old) (F.log first.new) others.old others.new) }
 {
-    let mut whole = read_holding(alloc, first, CommandPath::Hold(0))?;
-    push_file(lines, 1, whole.size())?;
+    let mut whole = first_holding(alloc, first, lines)?;
     for index in 0..others.len() {
         if let Err(fault) = join_file(alloc, &mut whole, &mut others[index], index + 1, lines) {
             return Err(fault);

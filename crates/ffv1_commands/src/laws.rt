@@ -1,6 +1,7 @@
 //! The way from copies to a frame or a file by commands, whatever their order (own), as contracts of functions that do nothing.
 ghost use Rattle.ffv1_commands.specs.Commands.{MadeOfCopies, SameCopiesMakeOneFile, SameCopiesMakeOneHolding, SameCopiesMakeOneReport, CommandsRestoreTheOriginal, CommandsRestoreNearCopies};
 ghost use Rattle.ffv1_commands.specs.MendLaws.{ListedIsMade, AnyOrderMakesOneFile, TrueIsVouched, MendGivesTheOriginal};
+ghost use Rattle.ffv1_commands.specs.UnreadLaws.{UnreadIsGivenUp, LongCopyIsGivenUp};
 ghost use Rattle.ffv1_commands.specs.SpliceLaws.{SameCopiesMakeOneSplice, SpliceGivesTheOriginal, SpliceGivesNearCopies, SpliceGivesWovenCopies, SpliceGivesNearWovenCopies, TrueIsWhole};
 
 /// Whatever trees of `take`, `join` and `merge` lead from copies to a holding file, for one record and size: the file
@@ -16,7 +17,7 @@ pub fn same_copies_make_one_file()
 
 /// Whatever trees of `take`, `join` and `merge` lead from copies to a holding file, for one record and size: where
 /// every slice found in the copies is the original's for its tile, and each tile's is found in some copy, `restore`
-/// of the file writes the original byte for byte, or is refused by a device or because memory ran out, and `picture` of
+/// of the file writes the original byte for byte, or is refused because reading, writing or memory failed, and `picture` of
 /// it shows what the original's slices spell. So it is where all copies differ from the original only within 32 bits
 /// of each slice, its size field undamaged, and each of its slices is intact in one of them.
 pub fn commands_restore_the_original()
@@ -32,7 +33,7 @@ pub fn same_copies_make_one_splice()
 
 /// Where each slice with content that passes its parity and ends at an end of an original is the original's there, and
 /// each of the original's slices is found so in some copy, `splice` writes the original byte for byte, prints that each
-/// of its slices is settled, and returns `true`; or it is refused by a device or because memory ran out. So it is where all
+/// of its slices is settled, and returns `true`; or it is refused because reading, writing or memory failed. So it is where all
 /// copies differ from the original only within 32 bits of each slice, its size field undamaged, and each of its slices is
 /// intact in one of them.
 pub fn splice_gives_the_original()
@@ -43,7 +44,7 @@ pub fn splice_gives_the_original()
 /// Where some of the original's slices are intact in no copy, but a footer of some copy claims the start of each, and
 /// each is among the combinations that are tried there (so it is where each region in which the copies differ is intact
 /// in some copy; and where each byte is, and there are at most 4096 combinations at distance 0): where `splice` returns
-/// `true`, what it wrote is the original byte for byte; and it is refused only by a device or because memory ran out. Of
+/// `true`, what it wrote is the original byte for byte; and it is refused only because reading, writing or memory failed. Of
 /// near copies the starts need not be asked for.
 pub fn splice_weaves_the_original()
     ensures original { SpliceGivesWovenCopies }
@@ -77,11 +78,19 @@ pub fn mend_claims_what_is_vouched()
 {}
 
 /// Where the original of each stretch is known again, and `mend` returns `true`, what it wrote is the originals, one after the other; and
-/// it is refused only by a device or because memory ran out. An original is known again so: that of an element passes its CRC-32, no
+/// it is refused only because reading, writing or memory failed. An original is known again so: that of an element passes its CRC-32, no
 /// version that passes differs from it, and it is among the combinations that are tried of the improved versions; so it is of a record, of
 /// its versions as they are; that of a frame of FLAC passes, and no version that passes differs from it; no slice of a version of a frame of
 /// FFV1 that passes its parity differs from the original's, and the versions can be woven; and some version of bytes without a checksum has
 /// them.
 pub fn mend_gives_the_original()
     ensures { MendGivesTheOriginal }
+{}
+
+/// An input of at most 2^30 bytes that is read whole, as a record, a list or a copy for `splice`, is reported as unread only if its source was
+/// given up. So is a copy that `mend` reads by a list, if it is as long as the list asks: a shorter one ends within a stretch, and no
+/// device is at fault.
+pub fn unread_files_were_given_up()
+    ensures within_limit { UnreadIsGivenUp }
+    ensures long_enough { LongCopyIsGivenUp }
 {}

@@ -1,8 +1,10 @@
 //! The command `mend`: makes a file of its stretches in copies of it, in one pass over the copies (own).
-ghost use Rattle.std.specs.Prelude.{◌≡◌, All, IfOk, IfErr, length, map, replicate, vec_len};
+ghost use Rattle.std.specs.Prelude.{◌≡◌, ◌⊎◌, All, IfOk, IfErr, length, map, replicate, vec_len};
 ghost use Rattle.ffv1_stretches.specs.Copies.{state_of, unread};
 ghost use Rattle.ffv1_stretches.specs.Listed.{AreStretches};
+ghost use Rattle.ffv1_stretches.specs.Passes.{WritesIfTouched};
 ghost use Rattle.ffv1_stretches.specs.Stretches.{AreInOrder};
+ghost use Rattle.ffv1_commands.specs.Devices.{IsWrittenIfTouched};
 ghost use Rattle.ffv1_commands.specs.Fault.{NamesPath};
 ghost use Rattle.ffv1_commands.specs.InTurn.{log_of};
 ghost use Rattle.ffv1_commands.specs.Lists.{ReadsList, IfOfList};
@@ -29,7 +31,7 @@ use std::io::{Read, Write};
 /// stretch; `List` with the first line that is neither a stretch after those before it nor a part of the element before it. The list
 /// is judged whole before a copy is read, and a fault of it leaves `out` and output untouched. At a later fault what became of
 /// the stretches before it was written and printed: `Memory` if an allocation fails, and `Write` if `out` or the output
-/// fails, after a front of what was to be written to it.
+/// fails, after a front of what was to be written to it. Before its first byte `out` is not touched, and neither is the output.
 pub fn run_mend<R: Read, C: Read + Drop, O: Write, W: Write>(
     alloc: Global,
     list: &mut R,
@@ -42,6 +44,8 @@ pub fn run_mend<R: Read, C: Read + Drop, O: Write, W: Write>(
     ensures err { IfErr result (MendStops (R.remaining list.old) (map C.remaining copies.items)
         (O.contents out.old) (O.contents out.new) (W.contents output.old) (W.contents output.new)) }
     ensures untouched { IfErr result (λ fault. IfOfList CommandPath.List fault ((out.new ≡ out.old) × (output.new ≡ output.old))) }
+    ensures out_untouched { IfErr result (IsWrittenIfTouched CommandPath.Out (out.new ≡ out.old) (O.contents out.old) (O.contents out.new)) }
+    ensures output_untouched { IfErr result (IsWrittenIfTouched CommandPath.StandardOutput (output.new ≡ output.old) (W.contents output.old) (W.contents output.new)) }
     ensures names { IfErr result (NamesPath (IsMendPath (vec_len copies))) }
 {
     let mut readers = readers_of(alloc, copies)?;
@@ -69,6 +73,8 @@ pub fn mend_of<R: Source, S: Source, O: Sink, W: Sink>(
         (O.log out.old) (O.log out.new) (W.log output.old) (W.log output.new) }
     ensures untouched { IfErr result (λ fault. IfOfList CommandPath.List fault
         ((copies.new ≡ copies.old) × (out.new ≡ out.old) × (output.new ≡ output.old))) }
+    ensures out_untouched { IfErr result (λ fault. (fault ≡ CliFault.Write CommandPath.Out) ⊎ WritesIfTouched O.log out.old out.new) }
+    ensures output_untouched { IfErr result (λ fault. (fault ≡ CliFault.Write CommandPath.StandardOutput) ⊎ WritesIfTouched W.log output.old output.new) }
 {
     let stretches = listed_stretches(alloc, list, copies.len())?;
     Ok(mend_stretches(alloc, stretches.as_slice(), copies, out, output)?)

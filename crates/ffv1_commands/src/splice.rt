@@ -4,15 +4,15 @@ ghost use Rattle.std.specs.Prelude.{◌≡◌, ◌<◌, ◌++◌, length, map, I
 ghost use Rattle.ffv1_splice.specs.Splice.{IsSpliceOf};
 ghost use Rattle.ffv1_commands.specs.Fault.{NamesPath};
 ghost use Rattle.ffv1_commands.specs.Paths.{IsSplicePath};
-ghost use Rattle.ffv1_commands.specs.Devices.{UnlessWriting, FileStops};
+ghost use Rattle.ffv1_commands.specs.Devices.{UnlessWriting, IsUnread, FileStops};
 ghost use Rattle.ffv1_commands.specs.Inner.Devices.{ReadsNamed};
-ghost use Rattle.ffv1_commands.specs.InTurn.{ReadsAlone, AreTaken, StopsAtCopy};
-ghost use Rattle.ffv1_commands.specs.SpliceText.{standing_line, splice_text, IsLengthFault, SplicesCopies, SpliceStops, LaterCopiesKept, ReportsSplice};
+ghost use Rattle.ffv1_commands.specs.InTurn.{ReadsAlone, AreTaken, StopsAtCopy, IfCopyUnread};
+ghost use Rattle.ffv1_commands.specs.SpliceText.{standing_line, splice_text, IsLengthFault, SplicesCopies, SpliceStops, LaterCopiesKept, WritesSplice, SpliceRefuses, ReportsSplice};
 
 use crate::devices::{read_file, write_both};
 use crate::fault::CliFault;
 use crate::path::CommandPath;
-use ffv1_devices::{FromRead, Sink, ThroughWrite};
+use ffv1_devices::{FromRead, Sink, Source, ThroughWrite};
 use ffv1_splice::{Place, SpliceFault, Spliced, push_front, push_place, splice};
 use std::alloc::{AllocError, Global};
 use std::io::{Read, Write};
@@ -42,7 +42,7 @@ pub fn run_splice<C: Read, O: Write, W: Write>(
     ensures names { IfErr result (NamesPath (IsSplicePath (length copies.old))) }
     ensures later_kept { IfErr result (LaterCopiesKept copies.old copies.new) }
 {
-    splice_of(
+    splice_readers(
         alloc,
         copies,
         &mut ThroughWrite::new(out),
@@ -50,10 +50,26 @@ pub fn run_splice<C: Read, O: Write, W: Write>(
     )
 }
 
-/// The command over readers of copies, and sinks. The logs say how it went: at `Write` the sink that is named was given up, and no other
-/// failures of them came but interruptions. Each copy is read by a source of its own, which begins without a failure: at `Read` of a copy
-/// it was given up or passed the limit. It is gone once the call ends, so the caller can't see its tries.
-pub fn splice_of<C: Read, O: Sink, W: Sink>(
+/// The command over sources and sinks. The logs say how it went: at `Read` of a copy its source was given up or passed the limit, and at
+/// `Write` the sink that is named was given up, and no other failures of the sinks came but interruptions.
+pub fn splice_of<C: Source, O: Sink, W: Sink>(
+    alloc: Global,
+    copies: &mut [C],
+    out: &mut O,
+    output: &mut W,
+) -> Result<bool, CliFault>
+    requires { 0 < length copies.old }
+    ensures reported { ReportsSplice (λ copy. (C.log copy).remaining) result copies.old copies.new (O.log out.old) (O.log out.new) (W.log output.old) (W.log output.new) }
+    ensures unread { IfErr result (IfCopyUnread IsUnread (map C.log copies.old) (map C.log copies.new)) }
+    ensures untouched { IfErr result (λ fault. UnlessWriting fault ((out.new ≡ out.old) × (output.new ≡ output.old))) }
+{
+    let read = read_sources(alloc, copies)?;
+    write_splice(alloc, read, out, output)
+}
+
+/// The same over readers of copies. Each is read by a source of its own, which begins without a failure, and is gone once the call ends: so
+/// the caller can't see its tries.
+fn splice_readers<C: Read, O: Sink, W: Sink>(
     alloc: Global,
     copies: &mut [C],
     out: &mut O,
@@ -64,13 +80,43 @@ pub fn splice_of<C: Read, O: Sink, W: Sink>(
     ensures untouched { IfErr result (λ fault. UnlessWriting fault ((out.new ≡ out.old) × (output.new ≡ output.old))) }
 {
     let read = read_copies(alloc, copies)?;
+    write_splice(alloc, read, out, output)
+}
+
+/// Writes the splice of copies that were read, of which there is one at least, and then prints its lines. Returns whether all of the frame is
+/// given back.
+fn write_splice<O: Sink, W: Sink>(
+    alloc: Global,
+    read: Vec<Vec<u8>>,
+    out: &mut O,
+    output: &mut W,
+) -> Result<bool, CliFault>
+    requires { 0 < length read.items }
+    ensures ok { IfOk result (WritesSplice (map (λ copy. copy.items) read.items) (O.log out.old) (O.log out.new) (W.log output.old) (W.log output.new)) }
+    ensures err { IfErr result (SpliceRefuses (map (λ copy. copy.items) read.items) (O.log out.old) (O.log out.new) (W.log output.old) (W.log output.new)) }
+    ensures untouched { IfErr result (λ fault. UnlessWriting fault ((out.new ≡ out.old) × (output.new ≡ output.old))) }
+{
     let spliced = splice_of_read(alloc, read)?;
     let text = spliced_text(alloc, &spliced)?;
     write_both(out, spliced.payload(), output, text.as_str())?;
     Ok(spliced.is_given_back())
 }
 
-/// The bytes of all copies, which are read in turn, up to the first that can't be read.
+/// The bytes of all copies, which are sources that are read in turn, up to the first that can't be read.
+fn read_sources<C: Source>(alloc: Global, copies: &mut [C]) -> Result<Vec<Vec<u8>>, CliFault>
+    ensures ok { IfOk result (λ read. AreTaken (map (λ copy. (C.log copy).remaining) copies.old) (map (λ copy. copy.items) read.items)) }
+    ensures err { IfErr result (StopsAtCopy FileStops (λ copy. (C.log copy).remaining) copies.old copies.new) }
+    ensures unread { IfErr result (IfCopyUnread IsUnread (map C.log copies.old) (map C.log copies.new)) }
+{
+    let mut read = Vec::new(alloc);
+    for index in 0..copies.len() {
+        let copy = read_file(alloc, &mut copies[index], CommandPath::Copy(index))?;
+        read.push(copy)?;
+    }
+    Ok(read)
+}
+
+/// The bytes of all copies, whose readers are read in turn, up to the first that can't be read.
 fn read_copies<C: Read>(alloc: Global, copies: &mut [C]) -> Result<Vec<Vec<u8>>, CliFault>
     ensures ok { IfOk result (λ read. AreTaken (map C.remaining copies.old) (map (λ copy. copy.items) read.items)) }
     ensures err { IfErr result (StopsAtCopy FileStops C.remaining copies.old copies.new) }

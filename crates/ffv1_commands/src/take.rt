@@ -4,8 +4,9 @@ ghost use Rattle.std.specs.Prelude.{◌≡◌, ◌+◌, ◌<◌, ◌^◌, ◌++�
 ghost use Rattle.ffv1_holding.specs.Contents.{no_slices};
 ghost use Rattle.ffv1_commands.specs.Fault.{NamesPath};
 ghost use Rattle.ffv1_commands.specs.Paths.{IsTakePath};
-ghost use Rattle.ffv1_commands.specs.Devices.{IfOfRecord, CopyStops, UnlessWriting};
-ghost use Rattle.ffv1_commands.specs.InTurn.{ReadsAlone, StopsAtCopy};
+ghost use Rattle.ffv1_commands.specs.Devices.{IfOfRecord, GivesUpWithin, CopyStops, UnlessWriting};
+ghost use Rattle.ffv1_commands.specs.InTurn.{ReadsAlone, StopsAtCopy, IfCopyUnread};
+ghost use Rattle.ffv1_commands.specs.RecordInputs.{TakesReel, RecordStops};
 ghost use Rattle.ffv1_commands.specs.TakeText.{copy_line, TakesEach, TakesCopies, LaterKept, TakeStops, ReportsTake};
 ghost use Rattle.ffv1_commands.specs.Inner.TakeText.{TakesCopy};
 
@@ -49,7 +50,7 @@ pub fn run_take<R: Read, C: Read, O: Write, W: Write>(
     ensures later_kept { IfErr result (LaterKept C.remaining copies.old copies.new) }
     ensures names { IfErr result (NamesPath (IsTakePath (length copies.old))) }
 {
-    take_of(
+    take_readers(
         alloc,
         &mut FromRead::new(configuration),
         width,
@@ -60,11 +61,32 @@ pub fn run_take<R: Read, C: Read, O: Write, W: Write>(
     )
 }
 
-/// The command over a source, readers of copies, and sinks. The logs say how it went: at `Read` of the record its source was given up
-/// or passed the limit, and at `Write` the sink that is named was given up; no other failures of them came but interruptions. Each copy
-/// is read by a source of its own, which begins without a failure: at `Read` of a copy it was given up, and at `Hold` it passed the limit
-/// by one byte. It is gone once the call ends, so the caller can't see its tries.
-pub fn take_of<R: Source, C: Read, O: Sink, W: Sink>(
+/// The command over sources and sinks. The logs say how it went: at `Read` of the record its source was given up or passed the limit, at
+/// `Read` of a copy its source was given up, and at `Write` the sink that is named was given up; no other failures of the record's source
+/// and of the sinks came but interruptions.
+pub fn take_of<R: Source, C: Source, O: Sink, W: Sink>(
+    alloc: Global,
+    configuration: &mut R,
+    width: u32,
+    height: u32,
+    copies: &mut [C],
+    out: &mut O,
+    output: &mut W,
+) -> Result<(), CliFault>
+    requires { length copies.old < 2 ^ 63 }
+    ensures reported { ReportsTake result (λ copy. (C.log copy).remaining) width height (R.log configuration.old) (R.log configuration.new) copies.old copies.new
+        (O.log out.old) (O.log out.new) (W.log output.old) (W.log output.new) }
+    ensures unread { IfErr result (IfCopyUnread GivesUpWithin (map C.log copies.old) (map C.log copies.new)) }
+    ensures untouched { IfErr result (λ fault. UnlessWriting fault ((out.new ≡ out.old) × (output.new ≡ output.old))) }
+{
+    let mut holding = empty_holding(alloc, configuration, width, height)?;
+    let lines = take_sources(alloc, &mut holding, copies)?;
+    write_made(out, &holding, output, lines.as_str())
+}
+
+/// The same over readers of copies. Each is read by a source of its own, which begins without a failure, and is gone once the call ends: so
+/// the caller can't see its tries.
+fn take_readers<R: Source, C: Read, O: Sink, W: Sink>(
     alloc: Global,
     configuration: &mut R,
     width: u32,
@@ -78,15 +100,47 @@ pub fn take_of<R: Source, C: Read, O: Sink, W: Sink>(
         (O.log out.old) (O.log out.new) (W.log output.old) (W.log output.new) }
     ensures untouched { IfErr result (λ fault. UnlessWriting fault ((out.new ≡ out.old) × (output.new ≡ output.old))) }
 {
-    let mut holding = {
-        let config = read_file(alloc, configuration, CommandPath::Record)?;
-        Holding::new(alloc, config.as_slice(), width, height)?
-    };
+    let mut holding = empty_holding(alloc, configuration, width, height)?;
     let lines = take_copies(alloc, &mut holding, copies)?;
     write_made(out, &holding, output, lines.as_str())
 }
 
-/// Takes copies into an empty holding, and adds a line for each.
+/// An empty holding for a record, which is read whole, and frames of this size.
+fn empty_holding<R: Source>(
+    alloc: Global,
+    configuration: &mut R,
+    width: u32,
+    height: u32,
+) -> Result<Holding, CliFault>
+    ensures empty { IfOk result (λ holding. holding ≡ no_slices holding.reel) }
+    ensures reel { IfOk result (λ holding. TakesReel width height (R.log configuration.old) (R.log configuration.new) holding.reel) }
+    ensures err { IfErr result (RecordStops width height (R.log configuration.old) (R.log configuration.new)) }
+{
+    let config = read_file(alloc, configuration, CommandPath::Record)?;
+    Ok(Holding::new(alloc, config.as_slice(), width, height)?)
+}
+
+/// Takes copies, which are sources, into an empty holding, and adds a line for each.
+fn take_sources<C: Source>(
+    alloc: Global,
+    holding: &mut Holding,
+    copies: &mut [C],
+) -> Result<String, CliFault>
+    requires empty { holding.old ≡ no_slices holding.old.reel }
+    requires few { length copies.old < 2 ^ 63 }
+    ensures ok { IfOk result (λ lines. TakesEach (map (λ copy. (C.log copy).remaining) copies.old) holding.old.reel holding.new (string_bytes lines)) }
+    ensures reel { holding.new.reel ≡ holding.old.reel }
+    ensures err { IfErr result (StopsAtCopy CopyStops (λ copy. (C.log copy).remaining) copies.old copies.new) }
+    ensures unread { IfErr result (IfCopyUnread GivesUpWithin (map C.log copies.old) (map C.log copies.new)) }
+{
+    let mut lines = String::new(alloc);
+    for index in 0..copies.len() {
+        take_copy_of(alloc, holding, &mut copies[index], index, &mut lines)?;
+    }
+    Ok(lines)
+}
+
+/// The same of readers.
 fn take_copies<C: Read>(
     alloc: Global,
     holding: &mut Holding,

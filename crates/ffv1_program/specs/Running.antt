@@ -30,7 +30,8 @@ use Rattle.ffv1_words.specs.declared.words.Words.TheVariants.{Chain, Scan, Show,
 use Rattle.ffv1_words.specs.declared.words.Words.TheVariants.{Decode, Help, Version}
 use Rattle.ffv1_program.specs.Merging.{IsEither, FailsToOpen, IfNotBegun, StopsMerging}
 use Rattle.ffv1_program.specs.Splicing.{IsInput, StopsSplicing, StopsMendingFiles}
-use Rattle.ffv1_program.specs.Unread.{IfUnread, SomeSource, IsUnheld, IsUnscanned, IsUndecoded}
+use Rattle.ffv1_commands.specs.Holdings.{IsUnheld}
+use Rattle.ffv1_program.specs.Unread.{IfUnread, SomeSource, IsUnscanned, IsUndecoded}
 
 -- the word of the file that is made, which is empty where none is
 abbrev pub out_word : Words → List ℕ

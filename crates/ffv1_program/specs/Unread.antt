@@ -1,10 +1,8 @@
 -- What a fault that says that a file was not read rests on: a source of that file that was given up, or gave too many bytes. A
 -- file system has its own sources, and no other can be named.
-use Rattle.std.specs.Prelude.{ℕ, List, Err}
+use Rattle.std.specs.Prelude.{ℕ, List}
 use Rattle.ffv1_devices.specs.Logs.{ReadLog}
 use Rattle.ffv1_devices.specs.Exact.{StopsReading}
-use Rattle.ffv1_hold.specs.FileFaults.{ReadsFile}
-use Rattle.ffv1_hold.specs.declared.file_fault.HoldFileFault.TheVariants as files
 use Rattle.ffv1_commands.specs.Devices.{IsUnread}
 use Rattle.ffv1_commands.specs.declared.fault.CliFault.{CliFault}
 use Rattle.ffv1_commands.specs.declared.fault.CliFault.TheVariants as faults
@@ -20,10 +18,6 @@ IfUnread P _ = Unit {0}
 abbrev pub SomeSource : {Device : Type 0} → (is_at : List ℕ → Device → Type 0) → (log : Device → ReadLog) → (Went : ReadLog → ReadLog → Type 0)
     → List ℕ → Type 0
 SomeSource {Device} is_at log Went word = (old : Device) × (new : Device) × is_at word old × Went (log old) (log new)
-
--- A source was given up as a holding file was read.
-abbrev pub IsUnheld : (old new : ReadLog) → Type 0
-IsUnheld old new = ReadsFile (Err files.Read) old new
 
 -- A source was given up, or ended before all bytes came that were asked for.
 abbrev pub GivesShort : (old new : ReadLog) → Type 0

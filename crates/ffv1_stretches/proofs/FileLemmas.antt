@@ -360,6 +360,19 @@ ends_rise copies ends (s ∷ rest) order long =
     rise_through ends (ends_after ends s) (fold ends_after (ends_after ends s) rest) (rise_one s.size ends s.places order.1)
     (ends_rise copies (ends_after ends s) rest order.2 (length-moved_ends s.size ends s.places count ∙ long))
 
+-- where all stretches lie within files, so does each of them
+pub each_within : (copies : ℕ) (ends : List ℕ) (front : List StretchValue) (s : StretchValue) (later : List StretchValue) (files : List (List ℕ))
+    → length ends ≡ copies → AreInOrder copies ends (front ++ s ∷ later) → AreBelow (fold ends_after ends (front ++ s ∷ later)) files
+    → LiesWithin s.size s.places files
+each_within copies ends [] s later files long order below =
+    let count : length s.places ≡ length ends = order.0.count ∙ sym long in
+    let next : length (ends_after ends s) ≡ copies = length-moved_ends s.size ends s.places count ∙ long in
+    lies_within s.size ends s.places files count
+    (below_later (ends_after ends s) (fold ends_after (ends_after ends s) later) files (ends_rise copies (ends_after ends s) later order.2 next) below)
+each_within copies ends (t ∷ front) s later files long order below =
+    let count : length t.places ≡ length ends = order.0.count ∙ sym long in
+    each_within copies (ends_after ends t) front s later files (length-moved_ends t.size ends t.places count ∙ long) order.2 below
+
 -- What became of stretches is so with more of the copies read, and so are their lines.
 pub kept_all : (copies number : ℕ) (ends : List ℕ) (front : List StretchValue) (mended : List MendedValue) (files mores : List (List ℕ))
     → AreInOrder copies ends front → length ends ≡ copies → AreBelow (fold ends_after ends front) files → length mores ≡ length files

@@ -11,4 +11,5 @@ pub mod LineLemmas
 pub mod LineVectors
 pub mod FileLemmas
 pub mod Mending
+pub mod Touching
 pub mod FileLaws

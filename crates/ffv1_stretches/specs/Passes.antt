@@ -1,5 +1,5 @@
 -- What one pass over copies makes of stretches (own).
-use Rattle.std.specs.Prelude.{ℕ, ◌≡◌, ◌+◌, ◌<◌, ◌≤◌, Bool, List, [], ◌∷◌, ◌++◌, length, slice_index_or, zero, suc, Some, None, Result, Ok, Err}
+use Rattle.std.specs.Prelude.{ℕ, ◌≡◌, ◌+◌, ◌<◌, ◌≤◌, ◌⊎◌, Bool, List, [], ◌∷◌, ◌++◌, length, slice_index_or, zero, suc, Some, None, Result, Ok, Err}
 use Rattle.std.specs.List.{AllZip, flat_map, list_all}
 use Rattle.ffv1_devices.specs.Logs.{ReadLog, WriteLog, Reads, Writes, StopsWriting}
 use Rattle.ffv1_devices.specs.Exact.{StopsReading}
@@ -79,6 +79,10 @@ StopsMending stretches old new out_old out_new output_old output_new faults.Outp
     (front : List StretchValue) × (files : List (List ℕ)) × (mended : List MendedValue) × AreRead old new files
     × MendsFront stretches front files mended
     × Writes out_old out_new (bytes_of mended) × StopsWriting output_old output_new (mend_text 1 files front mended)
+
+-- A sink is as it was, or some bytes, one at least, were written to it.
+abbrev pub WritesIfTouched : {S : Type 0} → (log : S → WriteLog) → (old new : S) → Type 0
+WritesIfTouched log old new = (new ≡ old) ⊎ ((bytes : List ℕ) × (0 < length bytes) × Writes (log old) (log new) bytes)
 
 -- all stretches were mended, or the pass stopped
 abbrev pub MendsStretches : List StretchValue → Result Bool MendFault → (old new : List ReadLog) → (out_old out_new output_old output_new : WriteLog) → Type 0

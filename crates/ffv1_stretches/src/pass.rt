@@ -1,12 +1,12 @@
 //! One pass over the copies of a file (own).
-ghost use Rattle.std.specs.Prelude.{◌≡◌, All, length, map, replicate, IfErr};
+ghost use Rattle.std.specs.Prelude.{◌≡◌, ◌⊎◌, All, length, map, replicate, Err, IfOk, IfErr};
 ghost use Rattle.ffv1_devices.specs.Results.{WritesAll};
 ghost use Rattle.ffv1_mend.specs.Improved.{IsWithin};
 ghost use Rattle.ffv1_stretches.specs.Stretches.{IsAfter, FollowsStretch, AreInOrder};
 ghost use Rattle.ffv1_stretches.specs.Inner.CellSteps.{cell_now, HasVersion, IsAsLong};
 ghost use Rattle.ffv1_stretches.specs.Copies.{state_of};
 ghost use Rattle.ffv1_stretches.specs.Inner.PassSteps.{ReadsPlaced, ReadsEach, MendsOne};
-ghost use Rattle.ffv1_stretches.specs.Passes.{MendsStretches};
+ghost use Rattle.ffv1_stretches.specs.Passes.{MendsStretches, WritesIfTouched};
 
 use crate::cells::{cells_of, version_at, versions_of};
 use crate::copy::CopyReader;
@@ -85,7 +85,9 @@ fn mend_one<O: Sink, W: Sink>(
     requires from { HasVersion (map cell_now cells.now) stretch.now.from }
     requires long { All (IsAsLong stretch.now.size) (map cell_now cells.now) }
     requires parts { All (IsWithin stretch.now.size) stretch.now.parts }
-    ensures { MendsOne number (map cell_now cells.now) stretch.now result (O.log out.old) (O.log out.new) (W.log output.old) (W.log output.new) }
+    ensures mended { MendsOne number (map cell_now cells.now) stretch.now result (O.log out.old) (O.log out.new) (W.log output.old) (W.log output.new) }
+    ensures out_touched { (result ≡ Err MendFault.Out) ⊎ WritesIfTouched O.log out.old out.new }
+    ensures output_touched { (result ≡ Err MendFault.Output) ⊎ WritesIfTouched W.log output.old output.new }
 {
     let versions = versions_of(alloc, cells)?;
     let from = version_at(cells, stretch.from);
@@ -102,12 +104,24 @@ fn mend_one<O: Sink, W: Sink>(
     Ok(mended.is_good())
 }
 
+/// Writes bytes, and does not touch the sink where there are none.
+fn write_any<S: Sink>(sink: &mut S, bytes: &[u8]) -> Result<(), WriteFailed>
+    ensures wrote { WritesAll result (S.log sink.old) (S.log sink.new) bytes.now }
+    ensures touched { IfOk result (λ _. WritesIfTouched S.log sink.old sink.new) }
+{
+    if bytes.is_empty() {
+        return Ok(());
+    }
+    write_field(sink, bytes)
+}
+
 /// Writes bytes of what is made.
 fn write_out<O: Sink>(out: &mut O, bytes: &[u8]) -> Result<(), MendFault>
     ensures wrote { WritesAll result (O.log out.old) (O.log out.new) bytes.now }
+    ensures touched { IfOk result (λ _. WritesIfTouched O.log out.old out.new) }
     ensures fault { IfErr result (λ fault. fault ≡ MendFault.Out) }
 {
-    match write_field(out, bytes) {
+    match write_any(out, bytes) {
         Ok(()) => Ok(()),
         Err(WriteFailed) => Err(MendFault::Out),
     }
@@ -116,9 +130,10 @@ fn write_out<O: Sink>(out: &mut O, bytes: &[u8]) -> Result<(), MendFault>
 /// Prints lines.
 fn write_output<W: Sink>(output: &mut W, lines: &str) -> Result<(), MendFault>
     ensures wrote { WritesAll result (W.log output.old) (W.log output.new) lines.now }
+    ensures touched { IfOk result (λ _. WritesIfTouched W.log output.old output.new) }
     ensures fault { IfErr result (λ fault. fault ≡ MendFault.Output) }
 {
-    match write_field(output, lines.as_bytes()) {
+    match write_any(output, lines.as_bytes()) {
         Ok(()) => Ok(()),
         Err(WriteFailed) => Err(MendFault::Output),
     }
@@ -133,7 +148,7 @@ fn write_output<W: Sink>(output: &mut W, lines: &str) -> Result<(), MendFault>
 /// Each copy is read once, from its start on, and no further than to the end of its last stretch; a copy that has none is not read. One
 /// stretch of each copy is held, and room for it grows as its bytes come. Returns `Read` with the copy that failed or ended within a
 /// stretch, `Memory` if an allocation fails, `Out` and `Output` if these fail: what became of the stretches before was written and
-/// printed.
+/// printed. Before its first byte `out` is not touched, and neither is `output`.
 pub fn mend_stretches<S: Source, O: Sink, W: Sink>(
     alloc: Global,
     stretches: &[Stretch],
@@ -143,8 +158,10 @@ pub fn mend_stretches<S: Source, O: Sink, W: Sink>(
 ) -> Result<bool, MendFault>
     requires order { AreInOrder (length copies.old) (replicate (length copies.old) 0) stretches.now }
     requires unread { All (λ copy. (state_of S.log copy).end ≡ 0) copies.old }
-    ensures { MendsStretches stretches.now result (map (λ copy. S.log copy.source) copies.old) (map (λ copy. S.log copy.source) copies.new)
+    ensures mended { MendsStretches stretches.now result (map (λ copy. S.log copy.source) copies.old) (map (λ copy. S.log copy.source) copies.new)
         (O.log out.old) (O.log out.new) (W.log output.old) (W.log output.new) }
+    ensures out_untouched { IfErr result (λ fault. (fault ≡ MendFault.Out) ⊎ WritesIfTouched O.log out.old out.new) }
+    ensures output_untouched { IfErr result (λ fault. (fault ≡ MendFault.Output) ⊎ WritesIfTouched W.log output.old output.new) }
 {
     let mut good = true;
     for (index, stretch) in stretches.iter().enumerate() {

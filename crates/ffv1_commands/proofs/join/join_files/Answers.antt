@@ -1,6 +1,7 @@
 use Rattle.std.proofs.Common.{◌<◌, ◌+◌, ◌++◌, map, length, take, inl, inr, subst, sym, ap, ◌∙◌, refl, arith}
 use Rattle.std.proofs.lemmas.Result.{err_from_is_err_and}
 use Rattle.std.specs.String.{string_bytes}
+use Rattle.ffv1_holding.specs.Sets as set
 use Rattle.ffv1_commands.specs.InTurn.{ReadsAlone}
 use Rattle.ffv1_commands.specs.JoinText.{file_line, JoinBreaks}
 use Rattle.ffv1_commands.specs.declared.path.CommandPath.TheVariants as paths
@@ -11,8 +12,8 @@ use Rattle.ffv1_commands.proofs.join.join_files.Goals as goal
 
 pub loop-index-init : goal.loop-index-init
 loop-index-init g c =
-    let reported = c.in_ok-push_file.ensures ∙ ap (λ t. t ++ file_line 1 c.size.result) c.requires.none ∙ ap (file_line 1) c.size.ensures in
-    record { joined = all_first _ _ c.in_ok-whole.whole _ reported c.in_ok-whole.ensures.read; others = refl }
+    let reported = c.in_ok-whole.ensures.line ∙ ap (λ t. t ++ file_line 1 (set.size c.in_ok-whole.whole.slices)) c.requires.none in
+    record { joined = all_first _ _ c.in_ok-whole.whole _ reported c.in_ok-whole.ensures.ok; others = refl }
 
 pub loop-index-preserved : goal.loop-index-preserved
 loop-index-preserved g c =
@@ -32,12 +33,7 @@ loop-index-preserved g c =
 pub returns-in_err-whole : goal.returns-in_err-whole
 returns-in_err-whole g c =
     let p = err_from_is_err_and c.from_residual.result c.from_residual.ensures.1 in
-    rw (p.1, p.2) (record { ok = tt; err = inl (inl c.in_err-whole.ensures.read, refl) })
-
-pub returns-in_err-push_file : goal.returns-in_err-push_file
-returns-in_err-push_file g c =
-    let p = err_from_is_err_and c.from_residual-in_err-push_file.result c.from_residual-in_err-push_file.ensures.1 in
-    rw (p.1, p.2) (record { ok = tt; err = inl (inr (refl, (c.in_ok-whole.whole, c.in_ok-whole.ensures.read)), refl) })
+    rw (p.1, p.2) (record { ok = tt; err = inl (c.in_err-whole.ensures.err, refl) })
 
 pub returns-in-Err : goal.returns-in-Err
 returns-in-Err g c =
