@@ -1,5 +1,6 @@
 -- What a command returns for which its file is made after all was done.
-use Rattle.std.proofs.Common.{◌≡◌, ◌⊎◌, inl, inr, Bool, Result, Ok, Err, IfOk, IfErr, sym, subst}
+use Rattle.std.proofs.Common.{◌≡◌, ◌⊎◌, inl, inr, ℕ, List, Option, Bool, Result, Ok, Err, IfOk, IfErr, sym, subst}
+use Rattle.ffv1_commands.specs.Devices.{IsWrittenIfTouched}
 use Rattle.ffv1_commands.specs.declared.fault.CliFault.{CliFault}
 use Rattle.ffv1_commands.specs.declared.fault.CliFault.TheVariants as faults
 use Rattle.ffv1_commands.specs.declared.path.CommandPath.TheVariants as paths
@@ -31,3 +32,20 @@ made_kept done (Err fault) old then new P Unless (inl (is, kept)) unmade holds =
     subst (λ made. Unless fault ((made ≡ old) × P)) (sym kept) (subst (λ done. IfErr done (λ fault. Unless fault ((then ≡ old) × P))) is holds)
 made_kept done (Err fault) old then new P Unless (inr (is, all)) unmade holds =
     subst (λ fault. Unless fault ((new ≡ old) × P)) (sym is) (unmade _)
+
+-- what holds of a fault of what was done, and of one of writing the file
+pub made_says : (done result : Result Bool CliFault) (Kept : Type 0) (P : CliFault → Type 0) → IsAfter done result Kept → P (faults.Write paths.Out)
+    → IfErr done P → IfErr result P
+made_says done (Ok value) Kept P after unmade holds = tt
+made_says done (Err fault) Kept P (inl (is, kept)) unmade holds = subst (λ done. IfErr done P) is holds
+made_says done (Err fault) Kept P (inr (is, all)) unmade holds = subst P (sym is) unmade
+
+-- the file is as it was, or some bytes were written to it
+pub made_touched : {O : Type 0} (contents : O → Option (List ℕ)) (done result : Result Bool CliFault) (old then new : O) → IsAfter done result (new ≡ then)
+    → IfErr done (IsWrittenIfTouched paths.Out (then ≡ old) (contents old) (contents then))
+    → IfErr result (IsWrittenIfTouched paths.Out (new ≡ old) (contents old) (contents new))
+made_touched contents done (Ok value) old then new after touched = tt
+made_touched contents done (Err fault) old then new (inl (is, kept)) touched =
+    subst (λ made. IsWrittenIfTouched paths.Out (made ≡ old) (contents old) (contents made) fault) (sym kept)
+    (subst (λ done. IfErr done (IsWrittenIfTouched paths.Out (then ≡ old) (contents old) (contents then))) is touched)
+made_touched contents done (Err fault) old then new (inr (is, all)) touched = inl is

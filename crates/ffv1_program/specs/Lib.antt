@@ -1,3 +1,4 @@
+pub mod Openings
 pub mod Merging
 pub mod Splicing
 pub mod Running

@@ -10,10 +10,6 @@ use Rattle.ffv1_commands.specs.declared.path.CommandPath.TheVariants as paths
 abbrev pub IsEither : (out left right : List ℕ) → Type 0
 IsEither out left right = (out ≡ left) ⊎ (out ≡ right)
 
--- an opening of an input of this word failed
-abbrev pub FailsToOpen : {Input : Type 0} → (is_input_at : List ℕ → Input → Type 0) → (cannot_open : Input → Type 0) → List ℕ → Type 0
-FailsToOpen {Input} is_input_at cannot_open word = (input : Input) × is_input_at word input × cannot_open input
-
 -- One of both inputs was not opened: the fault is of the left one or of the right one, and `unopened` holds of the word of that one.
 abbrev pub IsUnopened : (unopened : List ℕ → Type 0) → (left_word right_word : List ℕ) → CliFault → Type 0
 IsUnopened unopened left_word right_word (faults.Read (paths.Hold zero)) = unopened left_word

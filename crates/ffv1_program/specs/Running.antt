@@ -5,7 +5,7 @@ use Rattle.std.specs.Io.KnownBytes.{Appends}
 use Rattle.ffv1_devices.specs.Logs.{ReadLog}
 use Rattle.ffv1_help.specs.Texts.{help_text, version_text}
 use Rattle.ffv1_help.specs.Writing.{WritesFront}
-use Rattle.ffv1_commands.specs.Devices.{UnlessWriting, IsUnread}
+use Rattle.ffv1_commands.specs.Devices.{UnlessWriting, IsWrittenIfTouched, IsUnread}
 use Rattle.ffv1_commands.specs.Fault.{NamesPath}
 use Rattle.ffv1_commands.specs.Lists.{IfOfList}
 use Rattle.ffv1_commands.specs.ChainText.{PrintsChain, ChainStops}
@@ -28,10 +28,10 @@ use Rattle.ffv1_words.specs.WordPaths.{IsPathOf}
 use Rattle.ffv1_words.specs.declared.words.Words.{Words}
 use Rattle.ffv1_words.specs.declared.words.Words.TheVariants.{Chain, Scan, Show, Take, Join, Merge, Report, Restore, Picture, Splice, Mend}
 use Rattle.ffv1_words.specs.declared.words.Words.TheVariants.{Decode, Help, Version}
-use Rattle.ffv1_program.specs.Merging.{IsEither, FailsToOpen, IfNotBegun, StopsMerging}
+use Rattle.ffv1_program.specs.Merging.{IsEither, IfNotBegun, StopsMerging}
 use Rattle.ffv1_program.specs.Splicing.{IsInput, StopsSplicing, StopsMendingFiles}
 use Rattle.ffv1_commands.specs.Holdings.{IsUnheld}
-use Rattle.ffv1_program.specs.Unread.{IfUnread, SomeSource, IsUnscanned, IsUndecoded}
+use Rattle.ffv1_program.specs.Unread.{IfUnread, SomeSource, IsUnscanned, IsUndecoded, IsUntaken, IsUnjoined, IsUnmerged, IsSpliceUnread, IsUnmended}
 
 -- the word of the file that is made, which is empty where none is
 abbrev pub out_word : Words → List ℕ
@@ -54,27 +54,33 @@ out_word Version = []
 abbrev pub bytes_of_all : (List ℕ → Option (List ℕ)) → List (Bor (List ℕ)) → List (Option (List ℕ))
 bytes_of_all bytes_at words = map (λ word. bytes_at word.now) words
 
+-- words themselves
+abbrev pub words_of : List (Bor (List ℕ)) → List (List ℕ)
+words_of words = map (λ word. word.now) words
+
 -- a text was not printed whole
 abbrev pub StopsPrinting : (text : List ℕ) (printed_before printed_after : Option (List ℕ)) → CliFault → Type 0
 StopsPrinting text printed_before printed_after fault =
     (fault ≡ faults.Write paths.StandardOutput) × WritesFront printed_before printed_after text
 
 -- The files that are read, by their words: their bytes, if they are known; what holds of one that was not opened; and of one of which a
--- source went so, or a source with a buffer.
+-- source went so, a source that was opened before that, or a source with a buffer.
 pub record FilesRead : Type 1 where
   pub bytes_at : List ℕ → Option (List ℕ)
   pub IsUnopened : List ℕ → Type 0
+  pub OpenedWent : (ReadLog → ReadLog → Type 0) → List ℕ → Type 0
   pub SourceWent : (ReadLog → ReadLog → Type 0) → List ℕ → Type 0
   pub BufferedWent : (ReadLog → ReadLog → Type 0) → List ℕ → Type 0
 
--- those of a file system, by its inputs, its sources and those with a buffer
-abbrev pub files_of : {Input Device Buffered : Type 0} → (bytes_at : List ℕ → Option (List ℕ)) → (is_input_at : List ℕ → Input → Type 0)
-    → (cannot_open : Input → Type 0) → (is_device_at : List ℕ → Device → Type 0) → (log : Device → ReadLog)
+-- those of a file system, by its sources, those with a buffer, and its openings
+abbrev pub files_of : {Device Buffered : Type 0} → (bytes_at : List ℕ → Option (List ℕ)) → (cannot_open_at : List ℕ → Type 0)
+    → (is_opened_at is_device_at : List ℕ → Device → Type 0) → (log : Device → ReadLog)
     → (is_buffered_at : List ℕ → Buffered → Type 0) → (buffered_log : Buffered → ReadLog) → FilesRead
-files_of bytes_at is_input_at cannot_open is_device_at log is_buffered_at buffered_log =
+files_of bytes_at cannot_open_at is_opened_at is_device_at log is_buffered_at buffered_log =
     record {
       bytes_at = bytes_at;
-      IsUnopened = FailsToOpen is_input_at cannot_open;
+      IsUnopened = cannot_open_at;
+      OpenedWent = SomeSource is_opened_at log;
       SourceWent = SomeSource is_device_at log;
       BufferedWent = SomeSource is_buffered_at buffered_log;
     }
@@ -154,7 +160,7 @@ promise_of files made printed (Take recording out copies) =
       Stops = TakeStops (files.bytes_at recording.record.now) recording.width recording.height (bytes_of_all files.bytes_at copies.items)
           made.before made.after printed.before printed.after;
       Keeps = λ fault. UnlessWriting fault (made.IsKept × printed.IsKept);
-      Unread = λ _. Unit {0};
+      Unread = IfUnread (IsUntaken files.SourceWent recording.record.now (words_of copies.items));
       Refuses = λ _. Unit {0};
       Leaves = λ _ _. Unit {0};
     }
@@ -165,7 +171,7 @@ promise_of files made printed (Join out first others) =
       Stops = JoinStops (files.bytes_at first.now ∷ bytes_of_all files.bytes_at others.items)
           made.before made.after printed.before printed.after;
       Keeps = λ fault. UnlessWriting fault (made.IsKept × printed.IsKept);
-      Unread = λ _. Unit {0};
+      Unread = IfUnread (IsUnjoined files.BufferedWent first.now (words_of others.items));
       Refuses = λ _. Unit {0};
       Leaves = λ _ _. Unit {0};
     }
@@ -175,7 +181,7 @@ promise_of files made printed (Merge out left right) =
       Stops = StopsMerging (IsEither out.now left.now right.now) files.IsUnopened left.now right.now (files.bytes_at left.now) (files.bytes_at right.now)
           made.before made.after;
       Keeps = λ fault. IfNotBegun fault made.IsKept;
-      Unread = λ _. Unit {0};
+      Unread = IfUnread (IsUnmerged files.IsUnopened files.OpenedWent left.now right.now);
       Refuses = λ result. IsEither out.now left.now right.now → IsErrOf result (faults.Write paths.Out) × made.IsKept;
       Leaves = λ Made Printed. Printed;
     }
@@ -211,7 +217,7 @@ promise_of files made printed (Splice out copies) =
       Does = λ returned. made.IsMade × SplicesCopies (bytes_of_all files.bytes_at copies.items) made.before made.after printed.before printed.after returned;
       Stops = StopsSplicing (bytes_of_all files.bytes_at copies.items) made.before made.after printed.before printed.after;
       Keeps = λ fault. UnlessWriting fault (made.IsKept × printed.IsKept);
-      Unread = λ _. Unit {0};
+      Unread = IfUnread (IsSpliceUnread files.SourceWent (words_of copies.items));
       Refuses = λ _. Unit {0};
       Leaves = λ _ _. Unit {0};
     }
@@ -221,8 +227,9 @@ promise_of files made printed (Mend list out copies) =
           made.before made.after printed.before printed.after returned;
       Stops = StopsMendingFiles (IsInput out.now list.now copies.items) (files.bytes_at list.now) (bytes_of_all files.bytes_at copies.items)
           made.before made.after printed.before printed.after;
-      Keeps = λ fault. IfOfList paths.List fault (made.IsKept × printed.IsKept);
-      Unread = λ _. Unit {0};
+      Keeps = λ fault. IfOfList paths.List fault (made.IsKept × printed.IsKept)
+          × IsWrittenIfTouched paths.Out made.IsKept made.before made.after fault;
+      Unread = IfUnread (IsUnmended files.SourceWent list.now (words_of copies.items));
       Refuses = λ result. IsInput out.now list.now copies.items → IsErrOf result (faults.Write paths.Out) × made.IsKept × printed.IsKept;
       Leaves = λ _ _. Unit {0};
     }

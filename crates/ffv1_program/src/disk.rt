@@ -1,6 +1,6 @@
 //! The files of a runtime (own), of which no contract can say the bytes.
 
-use crate::files::{FileSystem, MakeFile, ReadFile};
+use crate::files::{FileSystem, MakeFile};
 use ffv1_commands::CliFault;
 use ffv1_devices::FromRead;
 use ffv1_files::{InputFile, Opener, OutputFile, PathToOpen};
@@ -22,29 +22,12 @@ impl<'a, R: Files> Disk<'a, R> {
     }
 }
 
-impl<'a, R: Files> ReadFile for InputFile<'a, R> {
-    ghost use Rattle.std.specs.Prelude.{Err};
-    ghost use Rattle.std.specs.declared.io.Error.{Error};
-    ghost use Rattle.ffv1_files.specs.Files.{IsFileOpened};
-    ghost use Rattle.ffv1_files.specs.Once.{OpensOnce};
-
-    ghost is_opened = { λ file. IsFileOpened file };
-
-    // its opening came to some error, and left it as it was
-    ghost cannot_open = { λ file. (error : Error) × OpensOnce ⟦<PathToOpen<'a, R> as Opener>⟧.opens file.file (Err error) file.file };
-
-    fn open(&mut self) -> io::Result<()> {
-        InputFile::open(self)
-    }
-}
-
 impl<'a, R: Files> FileSystem<'a> for Disk<'a, R> {
-    ghost use Rattle.std.specs.Prelude.{◌≡◌, None};
+    ghost use Rattle.std.specs.Prelude.{None};
     ghost use Rattle.std.specs.Io.Buffered.{reader_inner};
     ghost use Rattle.ffv1_devices.specs.Streams.{reader_of};
     ghost use Rattle.ffv1_files.specs.Files.{IsUnopenedAt};
-
-    type Input = InputFile<'a, R>;
+    ghost use Rattle.ffv1_program.specs.Openings.{OpensAt, FailsToOpenAt};
 
     type Device = FromRead<InputFile<'a, R>>;
 
@@ -52,18 +35,22 @@ impl<'a, R: Files> FileSystem<'a> for Disk<'a, R> {
 
     ghost bytes_at = { λ _ _. None };
 
-    ghost is_input_at = { λ _ path input. IsUnopenedAt input path };
-
     ghost is_device_at = { λ _ path device. IsUnopenedAt (reader_of device) path };
 
     ghost is_buffered_at = { λ _ path device. IsUnopenedAt (reader_inner (reader_of device)) path };
 
-    fn input(&self, path: &'a str) -> InputFile<'a, R> {
-        InputFile::new(self.rt, path)
-    }
+    ghost is_opened_at = { λ _ path device. OpensAt ⟦<PathToOpen<'a, R> as Opener>⟧.opens path (reader_of device) };
+
+    ghost cannot_open_at = { λ _ path. FailsToOpenAt ⟦<PathToOpen<'a, R> as Opener>⟧.opens path };
 
     fn device(&self, path: &'a str) -> FromRead<InputFile<'a, R>> {
         FromRead::new(InputFile::new(self.rt, path))
+    }
+
+    fn opened(&self, path: &'a str) -> io::Result<FromRead<InputFile<'a, R>>> {
+        let mut file = InputFile::new(self.rt, path);
+        file.open()?;
+        Ok(FromRead::new(file))
     }
 
     fn buffered(

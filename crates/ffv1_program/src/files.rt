@@ -6,26 +6,10 @@ use ffv1_commands::{CliFault, CommandPath};
 use ffv1_devices::Source;
 use std::alloc::Global;
 use std::io;
-use std::io::{Read, Write};
+use std::io::Write;
 
-/// A file that is read, and opened at its first read.
-pub trait ReadFile: Read {
-    ghost is_opened: { Self → Type 0 };
-
-    // an opening of this file failed
-    ghost cannot_open: { Self → Type 0 };
-
-    /// Opens the file, if it was not opened yet: so that it is there to be read. Where that fails, the error is why.
-    fn open(&mut self) -> io::Result<()>
-        ensures bytes { Self.remaining self.new ≡ Self.remaining self.old }
-        ensures opened { IfOk result (λ _. is_opened self.new) }
-        ensures failed { IfErr result (λ _. cannot_open self.old) };
-}
-
-/// The files that are read, by their paths.
+/// The files that are read, by their paths. Each is opened at its first read, or before that.
 pub trait FileSystem<'a> {
-    type Input: ReadFile + Drop;
-
     /// A file that is read as a source, which counts how its tries went.
     type Device: Source + Drop;
 
@@ -35,26 +19,30 @@ pub trait FileSystem<'a> {
     // the bytes of the file of each path, if they are known
     ghost bytes_at: { Self → List ℕ → Option (List ℕ) };
 
-    // this is the input of that path, of which nothing is read yet
-    ghost is_input_at: { Self → List ℕ → Self.Input → Type 0 };
-
-    // so is this source, and this one with a buffer
+    // this is the source of the file of that path, which is not opened yet, and so is this one with a buffer
     ghost is_device_at: { Self → List ℕ → Self.Device → Type 0 };
 
     ghost is_buffered_at: { Self → List ℕ → Self.Buffered → Type 0 };
 
-    /// The file of this path, not opened yet.
-    fn input(&self, path: &'a str) -> Self::Input
-        ensures at { is_input_at self.now path.now result }
-        ensures bytes { Self.Input.remaining result ≡ bytes_at self.now path.now };
+    // the file of that path was opened, and this is its source, of which nothing is read yet
+    ghost is_opened_at: { Self → List ℕ → Self.Device → Type 0 };
+
+    // an opening of the file of that path failed
+    ghost cannot_open_at: { Self → List ℕ → Type 0 };
 
     /// The file of this path as a source, not opened yet.
     fn device(&self, path: &'a str) -> Self::Device
         ensures at { is_device_at self.now path.now result }
         ensures bytes { (Self.Device.log result).remaining ≡ bytes_at self.now path.now };
 
-    /// The same through a buffer of 8 KiB: short fields then take no call of the system each. Returns `Memory` if the buffer can't be
-    /// allocated.
+    /// The file of this path as a source, opened: so that it is there to be read. Where that fails, the error is why.
+    fn opened(&self, path: &'a str) -> io::Result<Self::Device>
+        ensures at { IfOk result (is_opened_at self.now path.now) }
+        ensures bytes { IfOk result (λ device. (Self.Device.log device).remaining ≡ bytes_at self.now path.now) }
+        ensures failed { IfErr result (λ _. cannot_open_at self.now path.now) };
+
+    /// The file of this path as a source through a buffer of 8 KiB, not opened yet: short fields then take no call of the system each.
+    /// Returns `Memory` if the buffer can't be allocated.
     fn buffered(&self, alloc: Global, path: &'a str) -> Result<Self::Buffered, CliFault>
         ensures at { IfOk result (is_buffered_at self.now path.now) }
         ensures bytes { IfOk result (λ device. (Self.Buffered.log device).remaining ≡ bytes_at self.now path.now) }

@@ -7,8 +7,8 @@ ghost use Rattle.ffv1_program.specs.Running.{KeepsPromise, files_of, made_by, pr
 ghost use Rattle.ffv1_program.specs.Inner.Calls.{all_done, nothing_written};
 
 use crate::files::{FileSystem, MakeFile, make_after};
-use crate::inputs::inputs_of;
-use ffv1_commands::{CliFault, chain_of, run_splice, scan_of, show_of};
+use crate::inputs::sources_of;
+use ffv1_commands::{CliFault, chain_of, scan_of, show_of, splice_of};
 use ffv1_devices::ThroughWrite;
 use ffv1_words::Recording;
 use std::alloc::Global;
@@ -24,7 +24,7 @@ pub(crate) fn chain_file<'a, F: FileSystem<'a>, W: Write>(
     output: &mut W,
 ) -> Result<(), CliFault>
     ensures { KeepsPromise
-        (files_of (F.bytes_at files.now) (F.is_input_at files.now) F.Input.cannot_open (F.is_device_at files.now) F.Device.log
+        (files_of (F.bytes_at files.now) (F.cannot_open_at files.now) (F.is_opened_at files.now) (F.is_device_at files.now) F.Device.log
         (F.is_buffered_at files.now) F.Buffered.log)
         nothing_written (printed_by W.contents output.old output.new)
         (Chain frame.entry) (all_done result) }
@@ -47,7 +47,7 @@ pub(crate) fn scan_files<'a, F: FileSystem<'a>, W: Write>(
     output: &mut W,
 ) -> Result<bool, CliFault>
     ensures { KeepsPromise
-        (files_of (F.bytes_at files.now) (F.is_input_at files.now) F.Input.cannot_open (F.is_device_at files.now) F.Device.log
+        (files_of (F.bytes_at files.now) (F.cannot_open_at files.now) (F.is_opened_at files.now) (F.is_device_at files.now) F.Device.log
         (F.is_buffered_at files.now) F.Buffered.log)
         nothing_written (printed_by W.contents output.old output.new)
         (Scan ranges.entry file.entry) result }
@@ -70,7 +70,7 @@ pub(crate) fn show_record<'a, F: FileSystem<'a>, W: Write>(
     output: &mut W,
 ) -> Result<(), CliFault>
     ensures { KeepsPromise
-        (files_of (F.bytes_at files.now) (F.is_input_at files.now) F.Input.cannot_open (F.is_device_at files.now) F.Device.log
+        (files_of (F.bytes_at files.now) (F.cannot_open_at files.now) (F.is_opened_at files.now) (F.is_device_at files.now) F.Device.log
         (F.is_buffered_at files.now) F.Buffered.log)
         nothing_written (printed_by W.contents output.old output.new)
         (Show recording.now) (all_done result) }
@@ -87,7 +87,7 @@ pub(crate) fn show_record<'a, F: FileSystem<'a>, W: Write>(
 /// Splices the copies of these paths into the file that is made. Where they have no bytes, nothing is written to it, and it is made after
 /// that.
 ///
-/// It stops where `run_splice` does; with `Words` where there is no copy; and with `Write` where the file can't be made. After a fault
+/// It stops where `splice_of` does; with `Words` where there is no copy; and with `Write` where the file can't be made. After a fault
 /// that is not `Write` nothing was written or printed.
 pub(crate) fn splice_files<'a, F: FileSystem<'a>, O: MakeFile, W: Write>(
     alloc: Global,
@@ -97,7 +97,7 @@ pub(crate) fn splice_files<'a, F: FileSystem<'a>, O: MakeFile, W: Write>(
     output: &mut W,
 ) -> Result<bool, CliFault>
     ensures { (out : Bor (List ℕ)) → KeepsPromise
-        (files_of (F.bytes_at files.now) (F.is_input_at files.now) F.Input.cannot_open (F.is_device_at files.now) F.Device.log
+        (files_of (F.bytes_at files.now) (F.cannot_open_at files.now) (F.is_opened_at files.now) (F.is_device_at files.now) F.Device.log
         (F.is_buffered_at files.now) F.Buffered.log)
         (made_by O.contents O.is_made made.old made.new) (printed_by W.contents output.old output.new)
         (Splice out copies.now) result }
@@ -105,7 +105,12 @@ pub(crate) fn splice_files<'a, F: FileSystem<'a>, O: MakeFile, W: Write>(
     if copies.is_empty() {
         return Err(CliFault::Words);
     }
-    let mut copies = inputs_of(alloc, files, copies.as_slice())?;
-    let all = run_splice(alloc, copies.as_mut_slice(), made, output);
+    let mut copies = sources_of(alloc, files, copies.as_slice())?;
+    let all = splice_of(
+        alloc,
+        copies.as_mut_slice(),
+        &mut ThroughWrite::new(made),
+        &mut ThroughWrite::new(output),
+    );
     make_after(all, made)
 }

@@ -6,9 +6,9 @@ ghost use Rattle.ffv1_words.specs.declared.words.Words.TheVariants.{Take, Join, 
 ghost use Rattle.ffv1_program.specs.Running.{KeepsPromise, files_of, made_by, printed_by};
 ghost use Rattle.ffv1_program.specs.Inner.Calls.{all_done, nothing_written};
 
-use crate::files::{FileSystem, MakeFile, ReadFile};
-use crate::inputs::inputs_of;
-use ffv1_commands::{CliFault, CommandPath, report_of, restore_of, run_join, run_merge, run_take};
+use crate::files::{FileSystem, MakeFile};
+use crate::inputs::{buffered_of, sources_of};
+use ffv1_commands::{CliFault, CommandPath, join_of, merge_of, report_of, restore_of, take_of};
 use ffv1_devices::ThroughWrite;
 use ffv1_words::Recording;
 use std::alloc::Global;
@@ -16,7 +16,7 @@ use std::io::Write;
 
 /// Takes the copies of these paths into the file that is made.
 ///
-/// It stops where `run_take` does, and with `Memory` if memory for the copies can't be allocated. After a fault that is not `Write` nothing
+/// It stops where `take_of` does, and with `Memory` if memory for the copies can't be allocated. After a fault that is not `Write` nothing
 /// was written or printed.
 pub(crate) fn take_files<'a, F: FileSystem<'a>, O: MakeFile, W: Write>(
     alloc: Global,
@@ -27,26 +27,26 @@ pub(crate) fn take_files<'a, F: FileSystem<'a>, O: MakeFile, W: Write>(
     output: &mut W,
 ) -> Result<(), CliFault>
     ensures { (out : Bor (List ℕ)) → KeepsPromise
-        (files_of (F.bytes_at files.now) (F.is_input_at files.now) F.Input.cannot_open (F.is_device_at files.now) F.Device.log
+        (files_of (F.bytes_at files.now) (F.cannot_open_at files.now) (F.is_opened_at files.now) (F.is_device_at files.now) F.Device.log
         (F.is_buffered_at files.now) F.Buffered.log)
         (made_by O.contents O.is_made made.old made.new) (printed_by W.contents output.old output.new)
         (Take recording.now out copies.now) (all_done result) }
 {
-    let mut copies = inputs_of(alloc, files, copies.as_slice())?;
-    run_take(
+    let mut copies = sources_of(alloc, files, copies.as_slice())?;
+    take_of(
         alloc,
-        &mut files.input(recording.record),
+        &mut files.device(recording.record),
         recording.width,
         recording.height,
         copies.as_mut_slice(),
-        made,
-        output,
+        &mut ThroughWrite::new(made),
+        &mut ThroughWrite::new(output),
     )
 }
 
 /// Joins the holding files of these paths into the file that is made.
 ///
-/// It stops where `run_join` does, and with `Memory` if memory for the files can't be allocated. After a fault that is not `Write` nothing
+/// It stops where `join_of` does, and with `Memory` if memory for the files can't be allocated. After a fault that is not `Write` nothing
 /// was written or printed.
 pub(crate) fn join_files<'a, F: FileSystem<'a>, O: MakeFile, W: Write>(
     alloc: Global,
@@ -57,25 +57,26 @@ pub(crate) fn join_files<'a, F: FileSystem<'a>, O: MakeFile, W: Write>(
     output: &mut W,
 ) -> Result<(), CliFault>
     ensures { (out : Bor (List ℕ)) → KeepsPromise
-        (files_of (F.bytes_at files.now) (F.is_input_at files.now) F.Input.cannot_open (F.is_device_at files.now) F.Device.log
+        (files_of (F.bytes_at files.now) (F.cannot_open_at files.now) (F.is_opened_at files.now) (F.is_device_at files.now) F.Device.log
         (F.is_buffered_at files.now) F.Buffered.log)
         (made_by O.contents O.is_made made.old made.new) (printed_by W.contents output.old output.new)
         (Join out first.entry others.now) (all_done result) }
 {
-    let mut others = inputs_of(alloc, files, others.as_slice())?;
-    run_join(
+    let mut others = buffered_of(alloc, files, others.as_slice())?;
+    let mut first = files.buffered(alloc, first)?;
+    join_of(
         alloc,
-        &mut files.input(first),
+        &mut first,
         others.as_mut_slice(),
-        made,
-        output,
+        &mut ThroughWrite::new(made),
+        &mut ThroughWrite::new(output),
     )
 }
 
 /// Joins the holding files of these two paths as streams into the file that is made, of which `out` is the word. Both are opened before
 /// anything is written, and none is where `out` is one of their words: it would be emptied before it is read.
 ///
-/// It stops where `run_merge` does; with `Write` where `out` is one of their words; and with `Read` of the first file that can't be
+/// It stops where `merge_of` does; with `Write` where `out` is one of their words; and with `Read` of the first file that can't be
 /// opened. Then the file that is made is not touched, and neither is it where the heads of both are of another record or size.
 pub(crate) fn merge_files<'a, F: FileSystem<'a>, O: MakeFile>(
     alloc: Global,
@@ -86,7 +87,7 @@ pub(crate) fn merge_files<'a, F: FileSystem<'a>, O: MakeFile>(
     made: &mut O,
 ) -> Result<(), CliFault>
     ensures { KeepsPromise
-        (files_of (F.bytes_at files.now) (F.is_input_at files.now) F.Input.cannot_open (F.is_device_at files.now) F.Device.log
+        (files_of (F.bytes_at files.now) (F.cannot_open_at files.now) (F.is_opened_at files.now) (F.is_device_at files.now) F.Device.log
         (F.is_buffered_at files.now) F.Buffered.log)
         (made_by O.contents O.is_made made.old made.new) nothing_written
         (Merge out.entry left.entry right.entry) (all_done result) }
@@ -94,15 +95,13 @@ pub(crate) fn merge_files<'a, F: FileSystem<'a>, O: MakeFile>(
     if out == left || out == right {
         return Err(CliFault::Write(CommandPath::Out));
     }
-    let mut left = files.input(left);
-    if left.open().is_err() {
+    let Ok(mut left) = files.opened(left) else {
         return Err(CliFault::Read(CommandPath::Hold(0)));
-    }
-    let mut right = files.input(right);
-    if right.open().is_err() {
+    };
+    let Ok(mut right) = files.opened(right) else {
         return Err(CliFault::Read(CommandPath::Hold(1)));
-    }
-    run_merge(alloc, &mut left, &mut right, made)
+    };
+    merge_of(alloc, &mut left, &mut right, &mut ThroughWrite::new(made))
 }
 
 /// Prints the report of the holding file of this path.
@@ -115,7 +114,7 @@ pub(crate) fn report_file<'a, F: FileSystem<'a>, W: Write>(
     output: &mut W,
 ) -> Result<(), CliFault>
     ensures { KeepsPromise
-        (files_of (F.bytes_at files.now) (F.is_input_at files.now) F.Input.cannot_open (F.is_device_at files.now) F.Device.log
+        (files_of (F.bytes_at files.now) (F.cannot_open_at files.now) (F.is_opened_at files.now) (F.is_device_at files.now) F.Device.log
         (F.is_buffered_at files.now) F.Buffered.log)
         nothing_written (printed_by W.contents output.old output.new)
         (Report file.entry) (all_done result) }
@@ -135,7 +134,7 @@ pub(crate) fn restore_file<'a, F: FileSystem<'a>, O: MakeFile, W: Write>(
     output: &mut W,
 ) -> Result<(), CliFault>
     ensures { (out : Bor (List ℕ)) → KeepsPromise
-        (files_of (F.bytes_at files.now) (F.is_input_at files.now) F.Input.cannot_open (F.is_device_at files.now) F.Device.log
+        (files_of (F.bytes_at files.now) (F.cannot_open_at files.now) (F.is_opened_at files.now) (F.is_device_at files.now) F.Device.log
         (F.is_buffered_at files.now) F.Buffered.log)
         (made_by O.contents O.is_made made.old made.new) (printed_by W.contents output.old output.new)
         (Restore file.entry out) (all_done result) }

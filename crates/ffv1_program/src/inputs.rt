@@ -1,24 +1,44 @@
-//! The inputs of several paths, in their order.
-ghost use Rattle.std.specs.Prelude.{◌≡◌, length, map, vec_len, IfOk};
+//! The sources of several paths, in their order.
+ghost use Rattle.std.specs.Prelude.{◌≡◌, length, map, vec_len, IfOk, IfErr};
 ghost use Rattle.std.specs.List.{AllZip};
 
 use crate::files::FileSystem;
+use ffv1_commands::CliFault;
 use std::alloc::{AllocError, Global};
 
 /// The files of paths, in their order, none of which is opened yet. It fails if an allocation fails.
-pub(crate) fn inputs_of<'a, F: FileSystem<'a>>(
+pub(crate) fn sources_of<'a, F: FileSystem<'a>>(
     alloc: Global,
     files: &F,
     paths: &[&'a str],
-) -> Result<Vec<F::Input>, AllocError>
-    ensures bytes { IfOk result (λ inputs. map (λ input. F.Input.remaining input) inputs.items
+) -> Result<Vec<F::Device>, AllocError>
+    ensures bytes { IfOk result (λ sources. map (λ source. (F.Device.log source).remaining) sources.items
         ≡ map (λ path. F.bytes_at files.now path.now) paths.now) }
-    ensures at { IfOk result (λ inputs. AllZip (λ path input. F.is_input_at files.now path.now input) paths.now inputs.items) }
-    ensures count { IfOk result (λ inputs. vec_len inputs ≡ length paths.now) }
+    ensures at { IfOk result (λ sources. AllZip (λ path source. F.is_device_at files.now path.now source) paths.now sources.items) }
+    ensures count { IfOk result (λ sources. vec_len sources ≡ length paths.now) }
 {
-    let mut inputs = Vec::with_capacity(alloc, paths.len())?;
+    let mut sources = Vec::with_capacity(alloc, paths.len())?;
     for path in paths {
-        inputs.push(files.input(path))?;
+        sources.push(files.device(path))?;
     }
-    Ok(inputs)
+    Ok(sources)
+}
+
+/// The same, each through a buffer of its own. Returns `Memory` if an allocation fails.
+pub(crate) fn buffered_of<'a, F: FileSystem<'a>>(
+    alloc: Global,
+    files: &F,
+    paths: &[&'a str],
+) -> Result<Vec<F::Buffered>, CliFault>
+    ensures bytes { IfOk result (λ sources. map (λ source. (F.Buffered.log source).remaining) sources.items
+        ≡ map (λ path. F.bytes_at files.now path.now) paths.now) }
+    ensures at { IfOk result (λ sources. AllZip (λ path source. F.is_buffered_at files.now path.now source) paths.now sources.items) }
+    ensures count { IfOk result (λ sources. vec_len sources ≡ length paths.now) }
+    ensures refused { IfErr result (λ fault. fault ≡ CliFault.Memory) }
+{
+    let mut sources = Vec::with_capacity(alloc, paths.len())?;
+    for path in paths {
+        sources.push(files.buffered(alloc, path)?)?;
+    }
+    Ok(sources)
 }

@@ -14,5 +14,5 @@ mod stretches;
 
 pub use command::{out_word, run};
 pub use disk::Disk;
-pub use files::{FileSystem, MakeFile, ReadFile};
+pub use files::{FileSystem, MakeFile};
 pub use reporting::{OUT_OF_MEMORY, command_line, early_line, end_status};

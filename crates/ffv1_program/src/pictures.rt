@@ -23,7 +23,7 @@ pub(crate) fn picture_file<'a, F: FileSystem<'a>, O: MakeFile, W: Write>(
     output: &mut W,
 ) -> Result<bool, CliFault>
     ensures { (out : Bor (List ℕ)) → KeepsPromise
-        (files_of (F.bytes_at files.now) (F.is_input_at files.now) F.Input.cannot_open (F.is_device_at files.now) F.Device.log
+        (files_of (F.bytes_at files.now) (F.cannot_open_at files.now) (F.is_opened_at files.now) (F.is_device_at files.now) F.Device.log
         (F.is_buffered_at files.now) F.Buffered.log)
         (made_by O.contents O.is_made made.old made.new) (printed_by W.contents output.old output.new)
         (Picture file.entry out) result }
@@ -49,7 +49,7 @@ pub(crate) fn decode_files<'a, F: FileSystem<'a>, O: MakeFile, W: Write>(
     output: &mut W,
 ) -> Result<(), CliFault>
     ensures { (out : Bor (List ℕ)) → KeepsPromise
-        (files_of (F.bytes_at files.now) (F.is_input_at files.now) F.Input.cannot_open (F.is_device_at files.now) F.Device.log
+        (files_of (F.bytes_at files.now) (F.cannot_open_at files.now) (F.is_opened_at files.now) (F.is_device_at files.now) F.Device.log
         (F.is_buffered_at files.now) F.Buffered.log)
         (made_by O.contents O.is_made made.old made.new) (printed_by W.contents output.old output.new)
         (Decode recording.now frame.entry out) (all_done result) }

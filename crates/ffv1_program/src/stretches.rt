@@ -1,13 +1,16 @@
 //! The command over the stretches of a file (own): `mend`.
-ghost use Rattle.std.specs.Prelude.{◌↔◌, map, IsTrue};
-ghost use Rattle.std.specs.List.{Contains};
+ghost use Rattle.std.specs.Prelude.{◌≡◌, ◌↔◌, All, map, IfOk, IsTrue};
+ghost use Rattle.std.specs.List.{AllZip, Contains};
+ghost use Rattle.ffv1_stretches.specs.Copies.{state_of};
 ghost use Rattle.ffv1_words.specs.declared.words.Words.TheVariants.{Mend};
 ghost use Rattle.ffv1_program.specs.Running.{KeepsPromise, files_of, made_by, printed_by};
+ghost use Rattle.ffv1_program.specs.Inner.Calls.{IsLogAt};
 
 use crate::files::{FileSystem, MakeFile, make_after};
-use crate::inputs::inputs_of;
-use ffv1_commands::{CliFault, CommandPath, run_mend};
-use std::alloc::Global;
+use ffv1_commands::{CliFault, CommandPath, mend_of};
+use ffv1_devices::ThroughWrite;
+use ffv1_stretches::CopyReader;
+use std::alloc::{AllocError, Global};
 use std::io::Write;
 
 /// Whether a word is one of these.
@@ -17,11 +20,31 @@ fn is_among(word: &str, words: &[&str]) -> bool
     words.contains(&word)
 }
 
+/// Readers of the copies of paths, in their order, none of which is opened yet. It fails if an allocation fails.
+fn readers_of<'a, F: FileSystem<'a>>(
+    alloc: Global,
+    files: &F,
+    paths: &[&'a str],
+) -> Result<Vec<CopyReader<F::Device>>, AllocError>
+    ensures bytes { IfOk result (λ readers. map (λ reader. (F.Device.log reader.source).remaining) readers.items
+        ≡ map (λ path. F.bytes_at files.now path.now) paths.now) }
+    ensures at { IfOk result (λ readers. AllZip (λ path reader. IsLogAt (F.is_device_at files.now) F.Device.log path.now (F.Device.log reader.source))
+        paths.now readers.items) }
+    ensures unread { IfOk result (λ readers. All (λ reader. (state_of F.Device.log reader).end ≡ 0) readers.items) }
+{
+    let mut readers = Vec::with_capacity(alloc, paths.len())?;
+    for path in paths {
+        readers.push(CopyReader::new(alloc, files.device(path)))?;
+    }
+    Ok(readers)
+}
+
 /// Makes a file of its stretches in the copies of these paths, of which `out` is the word. No file is opened where `out` is the word of the
 /// list or of a copy, which would be overwritten. Where the list lists no stretch, nothing is written to the file, and it is made after that.
 ///
-/// It stops where `run_mend` does; with `Write` where `out` is the word of an input, or the file can't be made; and with `Memory` if
-/// memory for the copies can't be allocated. After a fault of the list, or where `out` is an input, nothing was written or printed.
+/// It stops where `mend_of` does; with `Write` where `out` is the word of an input, or the file can't be made; and with `Memory` if
+/// memory for the copies can't be allocated. After a fault of the list, or where `out` is an input, nothing was written or printed; and
+/// after no fault is the file touched before its first byte.
 pub(crate) fn mend_files<'a, F: FileSystem<'a>, O: MakeFile, W: Write>(
     alloc: Global,
     files: &F,
@@ -32,7 +55,7 @@ pub(crate) fn mend_files<'a, F: FileSystem<'a>, O: MakeFile, W: Write>(
     output: &mut W,
 ) -> Result<bool, CliFault>
     ensures { KeepsPromise
-        (files_of (F.bytes_at files.now) (F.is_input_at files.now) F.Input.cannot_open (F.is_device_at files.now) F.Device.log
+        (files_of (F.bytes_at files.now) (F.cannot_open_at files.now) (F.is_opened_at files.now) (F.is_device_at files.now) F.Device.log
         (F.is_buffered_at files.now) F.Buffered.log)
         (made_by O.contents O.is_made made.old made.new) (printed_by W.contents output.old output.new)
         (Mend list.entry out.entry copies.now) result }
@@ -40,7 +63,13 @@ pub(crate) fn mend_files<'a, F: FileSystem<'a>, O: MakeFile, W: Write>(
     if out == list || is_among(out, copies.as_slice()) {
         return Err(CliFault::Write(CommandPath::Out));
     }
-    let copies = inputs_of(alloc, files, copies.as_slice())?;
-    let good = run_mend(alloc, &mut files.input(list), copies, made, output);
+    let mut copies = readers_of(alloc, files, copies.as_slice())?;
+    let good = mend_of(
+        alloc,
+        &mut files.device(list),
+        copies.as_mut_slice(),
+        &mut ThroughWrite::new(made),
+        &mut ThroughWrite::new(output),
+    );
     make_after(good, made)
 }

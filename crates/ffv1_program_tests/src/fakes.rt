@@ -1,9 +1,10 @@
 //! Files that note in which order they are opened and made. The path of each is a digit: that of 0 is not there, and can't be made.
-ghost use Rattle.std.specs.Prelude.{◌≡◌, ◌⊎◌, IfErr, codes};
+ghost use Rattle.std.specs.Prelude.{◌≡◌, ◌⊎◌, IfOk, IfErr, true, codes, if◌then◌else◌};
+ghost use Rattle.std.specs.Str.{bytes_eq};
 
 use ffv1_commands::CliFault;
 use ffv1_devices::FromRead;
-use ffv1_program::{FileSystem, MakeFile, ReadFile};
+use ffv1_program::{FileSystem, MakeFile};
 use std::alloc::Global;
 use std::cell::Cell;
 use std::io;
@@ -73,15 +74,14 @@ impl Read for FakeInput<'_> {
     }
 }
 
-impl ReadFile for FakeInput<'_> {
-    ghost use Rattle.std.specs.Prelude.{◌≡◌, ◌⊎◌, true, false, codes};
-
-    ghost is_opened = { λ file. file.is_open ≡ true };
-
-    // it is not open, and its path is that of no file
-    ghost cannot_open = { λ file. (file.is_open ≡ false) × ((file.path.now ≡ codes "0") ⊎ (file.path.now ≡ codes "")) };
-
-    fn open(&mut self) -> io::Result<()> {
+impl FakeInput<'_> {
+    /// Opens the file, if it is not open yet.
+    fn open(&mut self) -> io::Result<()>
+        ensures left { self.new.left ≡ self.old.left }
+        ensures path { self.new.path ≡ self.old.path }
+        ensures opened { IfOk result (λ _. self.new.is_open ≡ true) }
+        ensures failed { IfErr result (λ _. (self.old.path.now ≡ codes "0") ⊎ (self.old.path.now ≡ codes "")) }
+    {
         if !self.is_open {
             self.order.add(self.path)?;
             self.is_open = true;
@@ -90,27 +90,12 @@ impl ReadFile for FakeInput<'_> {
     }
 }
 
-impl<'a> FileSystem<'a> for Fakes<'a> {
-    ghost use Rattle.std.specs.Prelude.{◌≡◌, Some, codes, if◌then◌else◌};
-    ghost use Rattle.std.specs.Str.{bytes_eq};
-    ghost use Rattle.std.specs.Io.Buffered.{reader_inner};
-    ghost use Rattle.ffv1_devices.specs.Streams.{reader_of};
-
-    type Input = FakeInput<'a>;
-
-    type Device = FromRead<FakeInput<'a>>;
-
-    type Buffered = FromRead<BufReader<FakeInput<'a>>>;
-
-    ghost bytes_at = { λ files path. Some (if bytes_eq path (codes "1") then files.first.now else files.others.now) };
-
-    ghost is_input_at = { λ _ path input. input.path.now ≡ path };
-
-    ghost is_device_at = { λ _ path device. (reader_of device).path.now ≡ path };
-
-    ghost is_buffered_at = { λ _ path device. (reader_inner (reader_of device)).path.now ≡ path };
-
-    fn input(&self, path: &'a str) -> FakeInput<'a> {
+impl<'a> Fakes<'a> {
+    /// The file of this path, not opened yet.
+    fn input(&self, path: &'a str) -> FakeInput<'a>
+        ensures path { result.path.now ≡ path.now }
+        ensures left { result.left.now ≡ (if bytes_eq path.now (codes "1") then self.now.first.now else self.now.others.now) }
+    {
         FakeInput {
             order: self.order,
             path,
@@ -118,9 +103,36 @@ impl<'a> FileSystem<'a> for Fakes<'a> {
             is_open: false,
         }
     }
+}
+
+impl<'a> FileSystem<'a> for Fakes<'a> {
+    ghost use Rattle.std.specs.Prelude.{◌≡◌, ◌⊎◌, Some, true, codes, if◌then◌else◌};
+    ghost use Rattle.std.specs.Str.{bytes_eq};
+    ghost use Rattle.std.specs.Io.Buffered.{reader_inner};
+    ghost use Rattle.ffv1_devices.specs.Streams.{reader_of};
+
+    type Device = FromRead<FakeInput<'a>>;
+
+    type Buffered = FromRead<BufReader<FakeInput<'a>>>;
+
+    ghost bytes_at = { λ files path. Some (if bytes_eq path (codes "1") then files.first.now else files.others.now) };
+
+    ghost is_device_at = { λ _ path device. (reader_of device).path.now ≡ path };
+
+    ghost is_buffered_at = { λ _ path device. (reader_inner (reader_of device)).path.now ≡ path };
+
+    ghost is_opened_at = { λ _ path device. ((reader_of device).path.now ≡ path) × ((reader_of device).is_open ≡ true) };
+
+    ghost cannot_open_at = { λ _ path. (path ≡ codes "0") ⊎ (path ≡ codes "") };
 
     fn device(&self, path: &'a str) -> FromRead<FakeInput<'a>> {
         FromRead::new(self.input(path))
+    }
+
+    fn opened(&self, path: &'a str) -> io::Result<FromRead<FakeInput<'a>>> {
+        let mut input = self.input(path);
+        input.open()?;
+        Ok(FromRead::new(input))
     }
 
     fn buffered(

@@ -1,9 +1,14 @@
-use Rattle.std.proofs.Common.{◌∙◌, ap, map, refl, rules, inl, inr}
+use Rattle.std.proofs.Common.{◌∙◌, ap, map, refl, IfErr, rules, inl, inr}
+use Rattle.ffv1_commands.specs.SpliceText.{SpliceStops}
+use Rattle.ffv1_program.specs.Running.{bytes_of_all}
+use Rattle.ffv1_program.proofs.Runs.{of_left}
 use Rattle.ffv1_commands.specs.Devices.{UnlessWriting}
 use Rattle.ffv1_commands.specs.declared.fault.CliFault.TheVariants as faults
-use Rattle.ffv1_program.proofs.Makes.{made_ok, made_err, made_kept}
+use Rattle.ffv1_commands.proofs.SpliceCommandSteps.{splice_of_bytes}
+use Rattle.ffv1_commands.proofs.Wrapped.{both_through}
+use Rattle.ffv1_program.proofs.Makes.{made_ok, made_err, made_kept, made_says}
 use Rattle.ffv1_program.proofs.Equals.{is_fault}
-use Rattle.ffv1_program.proofs.Runs.{no_more_said}
+use Rattle.ffv1_program.proofs.Unread.{splice_unread}
 use Rattle.ffv1_program.proofs.frames.splice_files.Goals as goal
 
 -- memory for the copies was refused, and nothing was written
@@ -14,16 +19,24 @@ returns-in_err-copies g c out =
 
 pub returns : goal.returns
 returns g c out =
-    let copies = ap (map g.F.Input.Read.remaining) c.as_mut_slice.ensures.value ∙ c.in_ok-copies.ensures.bytes in
+    let all = c.splice_of-all.result in
+    let bytes = splice_of_bytes _ _ _ _ _ _ _ all c.splice_of-all.ensures.reported in
+    let kept = both_through all _ _ _ _ _ _ c.new.ensures.writer c.new-2.ensures.writer c.splice_of-all.ensures.untouched in
+    let copies = ap (map (λ source. (g.F.Device.Source.log source).remaining)) c.as_mut_slice.ensures.value ∙ c.in_ok-copies.ensures.bytes in
+    let at = rw (c.as_slice.ensures.value, ← c.as_mut_slice.ensures.value) at c.in_ok-copies.ensures.at in
     record {
-      does = made_ok c.run_splice-all.result c.make_after.result _ _ c.make_after.ensures.ok
-          (rw (copies, ← c.make_after.ensures.bytes, c.as_slice.ensures.value) at c.run_splice-all.ensures.ok);
-      stops = made_err c.run_splice-all.result c.make_after.result _ _ _ _ c.make_after.ensures.err
-          (rw (copies, ← c.make_after.ensures.bytes, c.as_slice.ensures.value) at c.run_splice-all.ensures.ok)
-          (rw (copies, ← c.make_after.ensures.bytes, c.as_slice.ensures.value) at c.run_splice-all.ensures.err);
-      keeps = made_kept c.run_splice-all.result c.make_after.result c.args.made.now c.run_splice-all.new.out c.make_after.new.made _ UnlessWriting
-          c.make_after.ensures.err (λ _. tt) c.run_splice-all.ensures.untouched;
-      unread = no_more_said _;
+      does = made_ok all c.make_after.result _ _ c.make_after.ensures.ok
+          (rw c.make_after.ensures.bytes (search (rules, rw (copies, c.as_slice.ensures.value) at bytes.ok)));
+      stops = made_err all c.make_after.result _ _ _ _ c.make_after.ensures.err
+          (rw c.make_after.ensures.bytes (search (rules, rw (copies, c.as_slice.ensures.value) at bytes.ok)))
+          (rw c.make_after.ensures.bytes (of_left (λ o w. IfErr all (SpliceStops (bytes_of_all (g.F.FileSystem.bytes_at c.args.files.now) c.args.copies.now.items)
+          (g.O.Write.contents c.args.made.now) (g.O.Write.contents o) (g.W.Write.contents c.args.output.now) (g.W.Write.contents w)))
+          _ c.splice_of-all.new.out.writer.now _ c.splice_of-all.new.output.writer.now (search rules) (search rules)
+          (rw (copies, c.as_slice.ensures.value, c.new.ensures.writer, c.new-2.ensures.writer) at bytes.err)));
+      keeps = made_kept all c.make_after.result c.args.made.now _ c.make_after.new.made _ UnlessWriting c.make_after.ensures.err (λ _. tt) (search (rules, kept));
+      unread = made_says all c.make_after.result _ _ c.make_after.ensures.err tt
+          (splice_unread (g.F.FileSystem.is_device_at c.args.files.now) g.F.Device.Source.log c.args.copies.now.items _ _ at _ _ _ _ _ all
+          c.splice_of-all.ensures.reported c.splice_of-all.ensures.unread);
       refuses = tt;
-      names = search rules;
+      names = made_says all c.make_after.result _ _ c.make_after.ensures.err tt (search (rules, bytes.names));
     }

@@ -1,16 +1,29 @@
-use Rattle.std.proofs.Common.{◌∙◌, ap, map, rules}
-use Rattle.ffv1_program.proofs.Runs.{all_ok, all_err, no_more_said}
+use Rattle.std.proofs.Common.{◌∙◌, ap, map, IfErr, rules}
+use Rattle.ffv1_commands.specs.TakeText.{TakeStops}
+use Rattle.ffv1_program.specs.Running.{bytes_of_all}
+use Rattle.ffv1_commands.proofs.TakeReported.{take_of_bytes}
+use Rattle.ffv1_commands.proofs.Wrapped.{both_through}
+use Rattle.ffv1_program.proofs.Runs.{all_ok, all_err, of_left}
+use Rattle.ffv1_program.proofs.Unread.{take_unread}
 use Rattle.ffv1_program.proofs.holdings.take_files.Goals as goal
 
 pub returns : goal.returns
 returns g c out =
-    let r = c.run_take.result in
-    let copies = ap (map g.F.Input.Read.remaining) c.as_mut_slice.ensures.value ∙ c.in_ok-copies.ensures.bytes in
+    let r = c.take_of.result in
+    let bytes = take_of_bytes _ _ _ _ _ _ _ _ _ _ _ r c.take_of.ensures.reported in
+    let kept = both_through r _ _ _ _ _ _ c.new.ensures.writer c.new-2.ensures.writer c.take_of.ensures.untouched in
+    let copies = ap (map (λ source. (g.F.Device.Source.log source).remaining)) c.as_mut_slice.ensures.value ∙ c.in_ok-copies.ensures.bytes in
+    let at = rw (c.as_slice.ensures.value, ← c.as_mut_slice.ensures.value) at c.in_ok-copies.ensures.at in
     record {
-      does = all_ok r _ (rw (c.input.ensures.bytes, copies, c.as_slice.ensures.value) at c.run_take.ensures.ok);
-      stops = all_err r _ (rw (c.input.ensures.bytes, copies, c.as_slice.ensures.value) at c.run_take.ensures.err);
-      keeps = all_err r _ (search rules);
-      unread = no_more_said _;
+      does = all_ok r _ (search (rules, rw (c.device.ensures.bytes, copies, c.as_slice.ensures.value) at bytes.ok));
+      stops = all_err r _ (of_left (λ o w. IfErr r (TakeStops (g.F.FileSystem.bytes_at c.args.files.now c.args.recording.now.record.now) c.args.recording.now.width
+          c.args.recording.now.height (bytes_of_all (g.F.FileSystem.bytes_at c.args.files.now) c.args.copies.now.items) (g.O.Write.contents c.args.made.now)
+          (g.O.Write.contents o) (g.W.Write.contents c.args.output.now) (g.W.Write.contents w))) _ c.take_of.new.out.writer.now _ c.take_of.new.output.writer.now
+          (search rules) (search rules)
+          (rw (c.device.ensures.bytes, copies, c.as_slice.ensures.value, c.new.ensures.writer, c.new-2.ensures.writer) at bytes.err));
+      keeps = all_err r _ (search (rules, kept));
+      unread = all_err r _ (take_unread (g.F.FileSystem.is_device_at c.args.files.now) g.F.Device.Source.log c.args.copies.now.items _ _ at _ c.device.result
+          c.take_of.new.configuration c.device.ensures.at _ _ _ _ _ _ _ r c.take_of.ensures.reported c.take_of.ensures.unread);
       refuses = tt;
-      names = all_err r _ (search rules);
+      names = all_err r _ (search (rules, bytes.names));
     }

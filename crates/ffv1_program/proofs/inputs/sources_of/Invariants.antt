@@ -1,0 +1,13 @@
+use Rattle.std.proofs.Common.{◌≡◌, map, take, vec_len}
+use Rattle.std.specs.List.{AllZip}
+use Rattle.ffv1_program.proofs.inputs.sources_of.Given as goal
+
+-- A source for each path so far.
+abbrev pub invariant-loop-path : goal.invariant-loop-path
+invariant-loop-path g l =
+    record {
+      bytes : map (λ source. (g.F.Device.Source.log source).remaining) l.sources.items
+          ≡ map (λ path. g.F.FileSystem.bytes_at l.files path.now) (take l.path-index l.paths);
+      at : AllZip (λ path source. g.F.FileSystem.is_device_at l.files path.now source) (take l.path-index l.paths) l.sources.items;
+      count : vec_len l.sources ≡ l.path-index;
+    }
