@@ -199,7 +199,7 @@ def damage_size(numbers, frame, ends):
     return written(frame, numbers.choice(ends) - 8 + numbers.randrange(3), numbers.randbytes(1))
 
 
-def rotten(numbers, frame):
+def damaged(numbers, frame):
     """A copy of a frame with one to four places of damage, of its length."""
     ends, copy = [start + len(piece) for start, piece in readings.links(frame)[0]], frame
     for _ in range(numbers.randint(1, 4)):
@@ -207,9 +207,9 @@ def rotten(numbers, frame):
     return copy
 
 
-def rotten_copies(numbers, frame):
+def randomly_damaged_copies(numbers, frame):
     """Two to four such copies of a frame."""
-    return [rotten(numbers, frame) for _ in range(numbers.randint(2, 4))]
+    return [damaged(numbers, frame) for _ in range(numbers.randint(2, 4))]
 
 
 # ---- damage as disks, tapes and memory do it

@@ -174,7 +174,7 @@ def rot_frames(numbers, content, frames):
     share = numbers.choice([0.2, 0.5, 1])
     for place, payload in frames:
         if numbers.random() < share:
-            content[place : place + len(payload)] = makings.rotten(numbers, payload)
+            content[place : place + len(payload)] = makings.damaged(numbers, payload)
 
 
 def break_head(numbers, content, frames):
@@ -229,13 +229,13 @@ def other_file(numbers, folder, reel, name):
     content = bytearray(reel.content if before else recorded)
     rot_frames(numbers, content, reel.frames if before else packets(path))
     if before:
-        rotten = folder / f"rotten{reel.suffix}"
-        rotten.write_bytes(content)
-        write_again(numbers, path, rotten, silent)
-        rotten.unlink()
+        damaged = folder / f"damaged{reel.suffix}"
+        damaged.write_bytes(content)
+        write_again(numbers, path, damaged, silent)
+        damaged.unlink()
     else:
         path.write_bytes(content)
-    return Damaged(path, path.read_bytes(), False, f"{about}, rotten {'before' if before else 'after'} that", recorded, not silent)
+    return Damaged(path, path.read_bytes(), False, f"{about}, damaged {'before' if before else 'after'} that", recorded, not silent)
 
 
 def write_again(numbers, path, source, silent):
@@ -281,7 +281,7 @@ def blocks(bad, size):
 
 
 def copy_of(numbers, folder, reel, name, is_first):
-    """A copy of a recording: rotten, cut, padded, with bytes lost in its middle, with sectors that could not be read, written again, or
+    """A copy of a recording: damaged, cut, padded, with bytes lost in its middle, with sectors that could not be read, written again, or
     undamaged."""
     kind = numbers.random()
     if kind < 0.2 and not is_first:

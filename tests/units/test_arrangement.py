@@ -113,10 +113,10 @@ class ArrangeTest(unittest.TestCase):
         self.assertEqual((self.arrange(spoilt_, REWRAPPED).basis, self.arrange(REWRAPPED, spoilt_).basis), ([1], [0]))
 
     def test_a_file_with_frames_that_were_damaged_before_it_was_written_is_not_the_basis(self):
-        rotten = matroska([*FRAMES[:2], (0.08, made.damaged(FRAMES[2][1], 20)), *FRAMES[3:]], seed=90)
-        for contents in ([rotten, MOVED], [MOVED, rotten]):
+        damaged_before = matroska([*FRAMES[:2], (0.08, made.damaged(FRAMES[2][1], 20)), *FRAMES[3:]], seed=90)
+        for contents in ([damaged_before, MOVED], [MOVED, damaged_before]):
             self.assertEqual(self.arrange(*contents).basis, [contents.index(MOVED)])
-        self.assertEqual(self.arrange(rotten, made.damaged(MOVED, MOVED.index(FRAMES[2][1]) + 30)).rotten, {2})
+        self.assertEqual(self.arrange(damaged_before, made.damaged(MOVED, MOVED.index(FRAMES[2][1]) + 30)).damaged_before, {2})
 
     def test_attachments_count_where_as_much_is_verified(self):
         more = made.ebml_header() + made.element(made.SEGMENT, CONTENT, made.element(0x1941A469, made.element(0x61A7, b"file")))

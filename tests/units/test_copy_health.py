@@ -42,9 +42,9 @@ class HealthTest(unittest.TestCase):
     def test_frames_that_were_damaged_before_the_file_was_written(self):
         content = matroska([*FRAMES[:2], (0.08, made.damaged(FRAMES[2][1], 20)), *FRAMES[3:]])
         found, layout = self.health(content)
-        self.assertEqual(copy_health.rotten(layout, [found]), {2})
+        self.assertEqual(copy_health.damaged_before(layout, [found]), {2})
         damaged = self.health(made.damaged(REEL, REEL.index(FRAMES[2][1]) + 20))[0]
-        self.assertEqual((copy_health.rotten(layout, [damaged]), copy_health.rotten(layout, [damaged, found])), (set(), {2}))
+        self.assertEqual((copy_health.damaged_before(layout, [damaged]), copy_health.damaged_before(layout, [damaged, found])), (set(), {2}))
 
     def test_a_copy_that_is_cut_short(self):
         with made.opened(REEL, REEL[:-10]) as copies:

@@ -43,7 +43,7 @@ class ReadTest(unittest.TestCase):
         self.assertEqual((avi.duration, avi.counts, avi.ends), (2.5, {}, {0: 2.5}))
         self.assertIsNone(self.read("nut").claims.duration)
 
-    def test_who_watches_the_copy_is_told_how_far_it_is(self):
+    def test_who_watches_the_copy_learns_how_far_it_is(self):
         seen = []
         lines = [f"packet|stream_index=0|pos={10 * number}|size=5\n" for number in range(130)]
         self.assertEqual(list(watched(Copy("a", 0, 1300, watch=seen.append), iter(lines))), lines)

@@ -53,11 +53,11 @@ class DigestTest(unittest.TestCase):
             self.assertIn("/films/out.mkv is the original", found.text)
 
     def test_how_far_the_work_is_is_reported(self):
-        told = []
+        reported = []
         path = self.folder / "long"
         path.write_bytes(bytes(kept_digests.PIECE + 7))
-        kept_digests.digest(str(path), "md5", lambda *each: told.append(each))
-        self.assertEqual(told, [(kept_digests.PIECE, kept_digests.PIECE + 7), (kept_digests.PIECE + 7, kept_digests.PIECE + 7)])
+        kept_digests.digest(str(path), "md5", lambda *each: reported.append(each))
+        self.assertEqual(reported, [(kept_digests.PIECE, kept_digests.PIECE + 7), (kept_digests.PIECE + 7, kept_digests.PIECE + 7)])
 
     def test_another_file(self):
         found = self.compare(f"{OTHER}  out.mkv")

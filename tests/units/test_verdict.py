@@ -270,9 +270,9 @@ class VerdictTest(unittest.TestCase):
     def test_a_file_whose_parts_are_not_walked(self):
         layout = recording()
         alone = [dataclasses.replace(stretch, places=stretch.places[:1]) for stretch in layout.stretches]
-        for flaws, is_told in (([], False), ([Found(Flaw.NOT_WALKED, 0, layout.size)], True)):
+        for flaws, is_said in (([], False), ([Found(Flaw.NOT_WALKED, 0, layout.size)], True)):
             found = judge(Evidence(layout, alone, [], layout, is_check=True, flaws=flaws))
-            self.assertEqual((found.status, "whether its parts hang together is not checked" in found.sentence("a")), (0, is_told))
+            self.assertEqual((found.status, "whether its parts hang together is not checked" in found.sentence("a")), (0, is_said))
 
     def test_a_file_that_is_checked_without_a_checksum(self):
         layout = plain()
@@ -296,7 +296,7 @@ class VerdictTest(unittest.TestCase):
         self.assertEqual([reason.why for reason in found.reasons], [Why.BARE, Why.BROKEN, Why.AFTER_END, Why.BROKEN])
 
     def test_frames_that_were_damaged_before_the_file_was_written(self):
-        found = verdict(recording(), rotten={2, 3})
+        found = verdict(recording(), damaged_before={2, 3})
         self.assertEqual([(reason.why, reason.frames) for reason in found.reasons], [(Why.ROTTEN, (2, 3))])
         self.assertEqual((found.counts.lost, found.results.frames[2].damaged), (2, (0, 1)))
 

@@ -22,7 +22,7 @@ from . import own_checks, structure
 FARTHEST, MOST_MISSES = 64, 16
 # How far away a frame is looked for by its footers where bytes were lost before it, and how often.
 AROUND, MOST_SEARCHES, HEADER = 1 << 15, 8, 1 << 12
-# Who watches a copy is told how far ffprobe is once in so many lines.
+# Who watches a copy learns how far ffprobe is once in so many lines.
 LINES_BETWEEN = 64
 ENTRIES = ("packet=stream_index,pts_time,dts_time,duration_time,size,pos,flags{more}:"
            "stream=index,codec_type,codec_name,width,height,avg_frame_rate,nb_frames,duration,start_time:format=format_name,duration")
@@ -156,7 +156,7 @@ def ask(copy: Copy) -> Container:
 
 @contextlib.contextmanager
 def address(copy: Copy) -> Iterator[str]:
-    """How FFmpeg is told of a copy: up to where there are more parts than are walked, as it would walk them all; and where no part leads to
+    """How FFmpeg gets a copy: up to where there are more parts than are walked, as it would walk them all; and where no part leads to
     its tables, of a file without media in which these lie where they are expected."""
     made = structure.read(copy)
     if made.table is None:
@@ -179,7 +179,7 @@ def ask_for(copy: Copy, more: Sequence[str], entries: str) -> Container:
 
 
 def watched(copy: Copy, lines: Iterable[str]) -> Iterator[str]:
-    """The lines that ffprobe prints. Whoever watches the copy is told how far it is."""
+    """The lines that ffprobe prints. Whoever watches the copy learns how far it is."""
     for number, line in enumerate(lines):
         if number % LINES_BETWEEN == 0:
             copy.watch(whole(fields(line)[1].get("pos")) or 0)

@@ -9,7 +9,7 @@ from collections.abc import Iterator, Sequence
 
 from ..containers import ebml, ffmpeg_files, matroska, structure
 from ..containers.frame_times import lasts
-from ..judging.copy_health import CopyHealth, health, lack_parities, rotten
+from ..judging.copy_health import CopyHealth, damaged_before, health, lack_parities
 from ..judging.frame_checks import Judge
 from ..model import Copy, Fault, Layout
 from .alignment import Alignment, align
@@ -49,7 +49,7 @@ class Arrangement:
     layout: Layout  # of OUT's file
     matched: list[Matched] = dataclasses.field(default_factory=list)  # other files
     left: list[Left] = dataclasses.field(default_factory=list)
-    rotten: set[int] = dataclasses.field(default_factory=set)  # the frames that were damaged before OUT's file was written
+    damaged_before: set[int] = dataclasses.field(default_factory=set)  # the frames that were damaged before OUT's file was written
 
     def notes(self, copies: Sequence[Copy]) -> list[str]:
         """Whose file OUT is, where there are others, and which copies have bytes after its end."""
@@ -151,8 +151,8 @@ class File:
         """Whether it has FFV1 frames, or a track of them in another form, of which the container's checksums are judged."""
         return bool(self.layout.frames) or any(track.is_encoded for track in self.layout.tracks)
 
-    def rotten(self) -> set[int]:
-        return set() if lack_parities(self.layout, self.recording.copies) else rotten(self.layout, list(self.healths.values()))
+    def damaged_before(self) -> set[int]:
+        return set() if lack_parities(self.layout, self.recording.copies) else damaged_before(self.layout, list(self.healths.values()))
 
     def has_some(self) -> bool:
         """Whether some frame of it passes, or an element with one."""
@@ -169,13 +169,13 @@ class File:
     def rank(self, judge: Judge) -> tuple[int, int, int, bool, int]:
         """What speaks for a file: that it has no frame that was damaged before it was written, and that another file has; how many of its
         bytes pass a check in some copy of any file; how many kinds of content it has; an undamaged copy; and that it came first."""
-        given, rotten_ = self.given(judge), self.rotten()
-        intact = given.union(*(each.intact for each in self.healths.values())) - rotten_
+        given, old_damage = self.given(judge), self.damaged_before()
+        intact = given.union(*(each.intact for each in self.healths.values())) - old_damage
         passing = set().union(*(each.passing for each in self.healths.values()))
         inside = {frame.place for at in passing for frame in self.layout.stretches[at].parts}
         verified = sum(self.layout.stretches[at].size for at in passing)
         verified += sum(self.layout.frames[at].size for at in intact if self.layout.frames[at].place not in inside)
-        return (-len(rotten_ & given), verified, sum(self.layout.contents().values()),
+        return (-len(old_damage & given), verified, sum(self.layout.contents().values()),
                 any(each.is_undamaged for each in self.healths.values()), -self.numbers[0])
 
     def why_left(self) -> Leaving:
@@ -193,7 +193,7 @@ def arrange(copies: Sequence[Copy], judge: Judge) -> Arrangement:
     if len(files) == 1:
         return Arrangement(files[0].numbers, files[0].layout, left=left)
     basis = choose(files, copies, judge)
-    made = Arrangement(basis.numbers, basis.layout, left=left, rotten=basis.rotten())
+    made = Arrangement(basis.numbers, basis.layout, left=left, damaged_before=basis.damaged_before())
     pairings = {id(file): each for file, each in basis.pairings}
     for file in (file for file in files if file is not basis):
         pairing = pairings.get(id(file))
@@ -208,7 +208,7 @@ def arrange(copies: Sequence[Copy], judge: Judge) -> Arrangement:
 
 
 def why_no_video(copies: Sequence[Copy]) -> Iterator[str]:
-    """Why no video was found: what of each file can be told."""
+    """Why no video was found: what of each file can be said."""
     names, structures = [copy.path for copy in copies if copy.size], [(copy, structure.read(copy).flaws) for copy in copies]
     yield from [f"no FFV1 video was found in {', '.join(names)}"] if names else []
     yield from (f"{copy.path} has lost what says where its frames lie" for copy, flaws in structures

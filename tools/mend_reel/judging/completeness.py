@@ -38,7 +38,7 @@ class Evidence:
     compared: Compared | None = None  # what a kept digest says
     is_check: bool = False  # one file is checked, and no OUT is made
     flaws: Sequence[Found] = ()  # where the parts of OUT, or of that file, do not hang together
-    rotten: Set[int] = frozenset()  # the numbers of frames that fail their parities in elements that pass
+    damaged_before: Set[int] = frozenset()  # the numbers of frames that fail their parities in elements that pass
 
 
 def find_lacks(evidence: Evidence, results: Results) -> Iterator[Reason]:

@@ -33,7 +33,7 @@ def health(copy: Copy, number: int, layout: Layout, judge: Judge) -> CopyHealth:
     return CopyHealth(intact, passing, is_undamaged)
 
 
-def rotten(layout: Layout, healths: Sequence[CopyHealth]) -> set[int]:
+def damaged_before(layout: Layout, healths: Sequence[CopyHealth]) -> set[int]:
     """The numbers of the frames that fail in elements that pass: they were damaged before the file was written."""
     numbers = {frame.place: at for at, frame in enumerate(layout.frames)}
     return {numbers[frame.place] for each in healths for at in each.passing for frame in layout.stretches[at].parts} - {

@@ -86,11 +86,11 @@ def is_guessed(slices: Sequence[SliceReport]) -> bool:
 
 class Results:
     """What became of the frames of a recording. `copy_of_mark` has the copy that each mark of an outcome is of; `decoded` the places of
-    frames with guessed slices that decode, and `rotten` the numbers of frames that fail their parities in elements that pass."""
+    frames with guessed slices that decode, and `damaged_before` the numbers of frames that fail their parities in elements that pass."""
 
     def __init__(self, layout: Layout, stretches: Sequence[Stretch], outcomes: Iterable[Outcome], copy_of_mark: Sequence[int],
-                 decoded: Set[int] = frozenset(), rotten: Set[int] = frozenset()) -> None:
-        self.layout, self.stretches, self.copy_of_mark, self.decoded, self.rotten = layout, stretches, copy_of_mark, decoded, rotten
+                 decoded: Set[int] = frozenset(), damaged_before: Set[int] = frozenset()) -> None:
+        self.layout, self.stretches, self.copy_of_mark, self.decoded, self.damaged_before = layout, stretches, copy_of_mark, decoded, damaged_before
         self.places = [frame.place for frame in layout.frames]
         self.outcomes = {outcome.number: outcome for outcome in outcomes}
         self.orders, counts = [], collections.Counter[int]()
@@ -102,7 +102,7 @@ class Results:
         self.frames: dict[int, FrameResult] = {}
         for number in self.outcomes:
             self.add(number)
-        self.add_rotten()
+        self.add_damaged_before()
 
     def copies_with(self, marks: str, mark: str) -> set[int]:
         """The copies that have a mark. Several marks may be of one copy."""
@@ -154,10 +154,10 @@ class Results:
             return zeros | ones
         return set().union(*(self.copies_with(place.marks, "0") for place in slices), () if is_given(slices) else zeros)
 
-    def add_rotten(self) -> None:
+    def add_damaged_before(self) -> None:
         """Adds the frames that were damaged before the file was written: all copies of it have them so."""
         starts = [stretch.start for stretch in self.stretches]
-        for at in self.rotten:
+        for at in self.damaged_before:
             number = bisect.bisect_right(starts, self.places[at]) - 1
             damaged = {self.copy_of_mark[mark] for mark in self.stretches[number].having()}
             self.frames[at] = FrameResult(at, self.orders[at], self.layout.frames[at], number, FrameState.LOST, tuple(sorted(damaged)))

@@ -69,11 +69,11 @@ class Verdict:
 def judge(evidence: Evidence) -> Verdict:
     """The verdict on OUT."""
     copy_of_mark = evidence.copy_of_mark or range(max((len(stretch.places) for stretch in evidence.stretches), default=0))
-    results = Results(evidence.layout, evidence.stretches, evidence.outcomes, copy_of_mark, evidence.decoded, evidence.rotten)
+    results = Results(evidence.layout, evidence.stretches, evidence.outcomes, copy_of_mark, evidence.decoded, evidence.damaged_before)
     # Bytes that no copy divides, and those that none has.
     found = [Reason(Why.ABSENT if place >= evidence.layout.size else Why.UNDIVIDED, bytes=(place, place + size))
              for place, size in evidence.layout.gaps]
-    found += [*of_stretches(results), *(of_frame(Why.ROTTEN, results.frames[at]) for at in evidence.rotten),
+    found += [*of_stretches(results), *(of_frame(Why.ROTTEN, results.frames[at]) for at in evidence.damaged_before),
               *(of_unchecked(results) if evidence.is_check else of_one_copy(results))]
     found = sorted([*found, *of_flaws(evidence, found)], key=lambda reason: reason.bytes or (0, 0))
     # What other files have, and OUT lacks or has less of. Whoever writes a file writes tags.
@@ -130,8 +130,8 @@ def of_the_rest(results: Results) -> list[str]:
     lost = {result.stretch for result in results.frames.values() if result.state is FrameState.LOST}
     around = [results.stretches[number] for number in lost if not results.is_vouched(number)]
     size = sum(stretch.size - sum(frame.size for frame in stretch.parts) for stretch in around if stretch.kind is Kind.ELEMENT)
-    told = f"beside frames that are not restored {size} bytes of sound and headers can't be verified, as one checksum is over all"
-    return [told] if size else []
+    words = f"beside frames that are not restored {size} bytes of sound and headers can't be verified, as one checksum is over all"
+    return [words] if size else []
 
 
 def of_flaws(evidence: Evidence, found: Iterable[Reason]) -> Iterator[Reason]:
@@ -148,7 +148,7 @@ def of_stretches(results: Results) -> Iterator[Reason]:
     for number, stretch in enumerate(results.stretches):
         state = results.states[number]
         if state is not State.ALONE and not results.is_vouched(number):
-            lost = [result for result in results.within(number) if result.state is FrameState.LOST and result.number not in results.rotten]
+            lost = [result for result in results.within(number) if result.state is FrameState.LOST and result.number not in results.damaged_before]
             yield from of_stretch(stretch, state, lost, results.source(stretch))
 
 

@@ -160,15 +160,15 @@ class Session:
         named = {each for each, suffixes in SUFFIXES.items() if suffix in suffixes}
         self.notes += [*arrangement.notes(copies), *comparison.notes]
         self.notes += [f"OUT is a file of {form}, though its name ends with {suffix}"] if named and form and form not in named else []
-        compared, rotten, path = None, arrangement.rotten, made.part or self.options.copies[0]
+        compared, damaged_before, path = None, arrangement.damaged_before, made.part or self.options.copies[0]
         if self.options.digest is not None:
             self.progress.begin("comparing with the digest")
             compared = kept_digests.compare(self.options.digest, path, self.options.out or path, self.options.copies, self.progress.at)
         if self.options.out is None:
-            rotten = copy_health.rotten(layout, [copy_health.health(copies[0], 0, layout, self.judge)])
+            damaged_before = copy_health.damaged_before(layout, [copy_health.health(copies[0], 0, layout, self.judge)])
         verdict = judge(Evidence(
             layout, made.stretches, made.outcomes, made.out, claims, arrangement.matched, arrangement.left, inputs.numbers, others,
-            bool(comparison.notes), made.decoded, compared, self.options.out is None, made.flaws, rotten))
+            bool(comparison.notes), made.decoded, compared, self.options.out is None, made.flaws, damaged_before))
         self.keep_frames(layout, inputs, made, verdict)
         summary = self.summary(copies, arrangement, layout, verdict, made.part)
         if self.outputs.out is not None:

@@ -50,9 +50,9 @@ def write(file: TextIO, summaries: Sequence[Summary]) -> None:
 def verdict(summary: Summary) -> str:
     """What is to be known first: the verdict, and what a kept digest says."""
     judged, compared = summary.verdict, summary.verdict.compared
-    told = [(judged.status == 0, summary.sentence()), *([(compared.is_original, compared.text)] if compared else [])]
+    sentences = [(judged.status == 0, summary.sentence()), *([(compared.is_original, compared.text)] if compared else [])]
     return "".join(f'<p class="verdict {"good" if is_good else "bad"}">{text(sentence)}</p>'
-                   for at, (is_good, sentence) in enumerate(told) if not at or sentence != told[0][1])
+                   for at, (is_good, sentence) in enumerate(sentences) if not at or sentence != sentences[0][1])
 
 
 def doubts(summary: Summary) -> str:

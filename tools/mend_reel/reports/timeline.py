@@ -158,8 +158,8 @@ class Timeline:
         parts.append(f'<rect x="{LEFT}" y="{top}" width="{WIDTH}" height="{height}" fill="none" stroke="#888" stroke-width=".6"/>')
         results = self.results.frames.values()
         count = sum(result.state is FrameState.LOST if copy is None else copy in result.damaged for result in results)
-        told = f"{count} {'not restored' if copy is None else 'damaged'}"
-        return "".join(parts) + (f'<text x="{LEFT + WIDTH + 8}" y="{top + 13}">{told}</text>' if is_first else "")
+        label = f"{count} {'not restored' if copy is None else 'damaged'}"
+        return "".join(parts) + (f'<text x="{LEFT + WIDTH + 8}" y="{top + 13}">{label}</text>' if is_first else "")
 
     def time_at(self, column: int) -> str:
         """The time at which a column begins, by the first frame from there on, or the last one."""
