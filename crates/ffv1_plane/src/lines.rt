@@ -153,7 +153,8 @@ impl Lines {
         ensures x { self.new.x ≡ self.old.x + count }
         ensures count { length self.new.samples ≡ length self.old.samples + count }
         ensures small { (s : ℕ) → slice_index self.new.samples s < 2 ^ self.old.depth }
-        ensures skipped { (coding : Coding) → IsCodedDepth coding.depth → AreSkipped self.old.width coding self.old.samples self.new.samples count }
+        ensures skipped { (coding : Coding) → IsCodedDepth coding.depth
+            → AreSkipped self.old.width coding self.old.samples self.new.samples count }
     {
         for done in 0..count {
             let near = self.neighbours(self.left());
@@ -178,7 +179,8 @@ impl Lines {
         ensures x { self.new.x ≡ self.old.x + count }
         ensures count { length self.new.samples ≡ length self.old.samples + count }
         ensures small { (s : ℕ) → slice_index self.new.samples s < 2 ^ self.old.depth }
-        ensures skipped { (coding : Coding) → IsCodedDepth coding.depth → AreSkipped self.old.width coding self.old.samples self.new.samples count }
+        ensures skipped { (coding : Coding) → IsCodedDepth coding.depth
+            → AreSkipped self.old.width coding self.old.samples self.new.samples count }
     {
         let from = self.x + 2;
         let end = from + count;

@@ -139,30 +139,9 @@ impl PlaneReader<'_, '_, '_> {
         }
     }
 
-    /// Reads a row, from its first sample.
-    fn read_row(&mut self) -> Result<(), PlaneFault>
-        requires states { HasStates self.old }
-        requires start { self.old.lines.x ≡ 0 }
-        requires whole { length self.old.lines.samples % self.old.lines.width ≡ 0 }
-        ensures same { IsSamePlane self.old self.new }
-        ensures read { OnOk result ((earlier : ℕ → List ℤ) (whole : List Bool) → HasRead earlier whole self.old → HasRead earlier whole self.new) }
-        ensures full { OnOk result (self.new.lines.x ≡ self.new.lines.width) }
-        ensures count { OnOk result (length self.new.lines.samples ≡ length self.old.lines.samples + self.old.lines.width) }
-        ensures small { OnOk result ((s : ℕ) → slice_index self.new.lines.samples s < 2 ^ self.old.lines.depth) }
-        ensures err { IfErr result (IsHaltedAt self.old) }
-    {
-        let depth = self.lines.depth();
-        // The codes of bytes are read faster where their depth is a constant.
-        if depth == BYTE_DEPTH {
-            self.read_row_at(BYTE_DEPTH)
-        } else {
-            self.read_row_at(depth)
-        }
-    }
-
-    /// Reads a row at a coded depth, that of the plane.
+    /// Reads a row, from its first sample, at the coded depth of the plane.
     #[inline(always)]
-    fn read_row_at(&mut self, depth: u32) -> Result<(), PlaneFault>
+    fn read_row(&mut self, depth: u32) -> Result<(), PlaneFault>
         requires states { HasStates self.old }
         requires depth { depth ≡ self.old.lines.depth }
         requires start { self.old.lines.x ≡ 0 }
@@ -201,9 +180,41 @@ pub(crate) fn decode_plane(
     requires contexts { length states.items ≡ set_contexts tables.now.setup tables.now.set }
     ensures len { IfOk result (λ read. length read.1.items ≡ length states.items) }
     ensures size { IfOk result (λ read. IsPlaneOfSize depth width height read.0.items) }
-    ensures read { IfOk result (λ read. IsPlaneRead width height (coding_at depth (set_entry tables.now.setup tables.now.set)) states.items bits.old.left read.0.items
-        read.1.items bits.new.left) }
-    ensures err { IfErr result (IsDecodingHalted width height (coding_at depth (set_entry tables.now.setup tables.now.set)) states.items bits.old.left) }
+    ensures read { IfOk result (λ read. IsPlaneRead width height (coding_at depth (set_entry tables.now.setup tables.now.set))
+        states.items bits.old.left read.0.items read.1.items bits.new.left) }
+    ensures err { IfErr result (IsDecodingHalted width height (coding_at depth (set_entry tables.now.setup tables.now.set))
+        states.items bits.old.left) }
+{
+    // The codes of bytes are read faster where their depth is a constant.
+    if depth == BYTE_DEPTH {
+        read_plane(alloc, BYTE_DEPTH, width, height, tables, states, bits)
+    } else {
+        read_plane(alloc, depth, width, height, tables, states, bits)
+    }
+}
+
+/// Reads a plane as `decode_plane` does, by a body of its own for each constant depth.
+#[inline(always)]
+fn read_plane(
+    alloc: Global,
+    depth: u32,
+    width: usize,
+    height: usize,
+    tables: &Tables,
+    states: Vec<VlcState>,
+    bits: &mut Bits,
+) -> Result<(Vec<u32>, Vec<VlcState>), PlaneFault>
+    requires depth { IsCodedDepth depth }
+    requires some { 1 ≤ width }
+    requires width { width ≤ greatest_side }
+    requires height { height ≤ greatest_side }
+    requires contexts { length states.items ≡ set_contexts tables.now.setup tables.now.set }
+    ensures len { IfOk result (λ read. length read.1.items ≡ length states.items) }
+    ensures size { IfOk result (λ read. IsPlaneOfSize depth width height read.0.items) }
+    ensures read { IfOk result (λ read. IsPlaneRead width height (coding_at depth (set_entry tables.now.setup tables.now.set))
+        states.items bits.old.left read.0.items read.1.items bits.new.left) }
+    ensures err { IfErr result (IsDecodingHalted width height (coding_at depth (set_entry tables.now.setup tables.now.set))
+        states.items bits.old.left) }
 {
     let Ok(lines) = Lines::new(alloc, depth, width, height) else {
         return Err(PlaneFault::Memory);
@@ -216,7 +227,7 @@ pub(crate) fn decode_plane(
         bits: bits.fork(),
     };
     for _ in 0..height {
-        reader.read_row()?;
+        reader.read_row(depth)?;
         let Ok(()) = reader.lines.end_row() else {
             return Err(PlaneFault::Memory);
         };

@@ -3,7 +3,8 @@
 //! A state counts 1 to 128 values, and its drift lies between -count and 0. Where differences have n bits, 8 to 17, its
 //! error sum is at most 2^(n-1) for each value counted, so that its parameter is at most n - 1.
 ghost use Rattle.std.specs.Prelude.{◌≡◌, ℕ, ◌-◌, ◌^◌, pos, ◌≤◌, ◌<◌};
-ghost use Rattle.ffv1_rice.specs.States.{IsCodedDepth, greatest_depth, IsDifference, half, fold, start_state, IsParameter, with_value, counted, corrected, updated, IsState, coded_value, flipped, sign_number, StatesStay};
+ghost use Rattle.ffv1_rice.specs.States.{IsCodedDepth, greatest_depth, IsDifference, half, fold, start_state, IsParameter};
+ghost use Rattle.ffv1_rice.specs.States.{with_value, counted, corrected, updated, IsState, coded_value, flipped, sign_number, StatesStay};
 ghost use Rattle.ffv1_rice.specs.Inner.States.{IsUncounted, IsUncorrected};
 
 use std::marker::Model;

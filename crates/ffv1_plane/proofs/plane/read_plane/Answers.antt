@@ -7,13 +7,14 @@ use Rattle.ffv1_range.specs.Setup.{set_entry, set_contexts}
 use Rattle.ffv1_plane.proofs.Reading.{whole_plane, no_samples}
 use Rattle.ffv1_plane.proofs.Wholes.{plane_halted}
 use Rattle.ffv1_plane.proofs.Readers.{same_read, same_halted}
-use Rattle.ffv1_plane.proofs.plane.decode_plane.Goals as goal
+use Rattle.ffv1_plane.proofs.plane.read_plane.Goals as goal
 
 pub new-requires : goal.new-requires
 new-requires c = record { depth = c.requires.depth; some = c.requires.some; width = c.requires.width; height = c.requires.height }
 
 pub read_row-requires : goal.read_row-requires
 read_row-requires c = record {
+  depth = sym c.loop.invariant.depth;
   states = c.loop.invariant.states ∙ c.requires.contexts ∙ ap (λ t. set_contexts t.setup t.set) (sym c.loop.invariant.tables);
   start = c.loop.invariant.start;
   whole = ap (λ n. n % c.loop.reader.lines.width) c.loop.invariant.size ∙ ap (λ w. (c.loop.counter * c.args.width) % w) c.loop.invariant.width

@@ -1,7 +1,7 @@
 use Rattle.std.proofs.Common.{ℕ, ℤ, List, Bool, ◌≡◌, ◌+◌, ◌-◌, length}
 use Rattle.ffv1_plane.specs.Inner.Rows.{IsLeftOfNext}
 use Rattle.ffv1_plane.specs.Inner.Readers.{IsSamePlane, HasRead}
-use Rattle.ffv1_plane.proofs.plane.PlaneReader.read_row_at.Given as goal
+use Rattle.ffv1_plane.proofs.plane.PlaneReader.read_row.Given as goal
 
 abbrev pub invariant-loop-self : goal.invariant-loop-self
 invariant-loop-self l = record {

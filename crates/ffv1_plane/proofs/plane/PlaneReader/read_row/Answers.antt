@@ -3,7 +3,7 @@ use Rattle.std.proofs.lemmas.Result.{err_from_is_err_and}
 use Rattle.ffv1_range.specs.Setup.{set_contexts}
 use Rattle.ffv1_plane.specs.Inner.Readers.{coding_of}
 use Rattle.ffv1_plane.proofs.Readers.{same_plane, same_planes, row_halted, same_read, same_halted}
-use Rattle.ffv1_plane.proofs.plane.PlaneReader.read_row_at.Goals as goal
+use Rattle.ffv1_plane.proofs.plane.PlaneReader.read_row.Goals as goal
 
 pub loop-self-init : goal.loop-self-init
 loop-self-init c = record {
