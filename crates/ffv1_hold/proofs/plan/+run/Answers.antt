@@ -15,6 +15,8 @@ use Rattle.ffv1_hold.specs.declared.plan.PlanFault.{PlanFault}
 use Rattle.ffv1_hold.specs.declared.plan.PlanFault.TheVariants.{Hold, Setup, File}
 use Rattle.ffv1_holding.specs.declared.fault.HoldFault.TheVariants.{Memory}
 use Rattle.ffv1_holding.proofs.ExactlyHeld.{near_exact}
+use Rattle.ffv1_holding.proofs.Reels.{own_size}
+use Rattle.ffv1_hold.proofs.ReadSteps.{holding_none}
 use Rattle.ffv1_hold.proofs.PlanSteps.{after_same, after_found, after_copies, after_joined, AreShort-both, of_kept_reel, reel_on_same, one_reel, near_of_meaning}
 use Rattle.ffv1_hold.proofs.plan.+run.Goals as goal
 
@@ -128,11 +130,13 @@ returns-in_ok-new-in-New t c =
     let h = c.in_ok-new-in-New.field-0 in
     let new = c.in_ok-new-in-New.ensures in
     let meaning = new.empty ∙ ap (λ p. holding_of h.reel (copies_of p)) (sym c.in-New.is) in
+    let reel = own_size h.reel.config c.args.width c.args.height h.reel.setup
+        (subst (λ bytes. IsSetupOf bytes c.args.width c.args.height h.reel.setup) (sym new.config) new.setup) in
     record {
       config = new.config;
       setup = new.setup;
       meaning = meaning;
-      well_formed = search rules;
+      well_formed = subst IsHolding (sym new.empty) (holding_none h.reel reel);
       near = λ original slices near. near_exact h original slices (copies_of plan) near (ap (λ (k : Contents). k.slices) meaning);
       short = subst (λ (p : Plan). AreShort (copies_of p)) (sym c.in-New.is) tt;
       fits = subst (RereadsFit h.reel) (sym c.in-New.is) tt;
