@@ -207,7 +207,7 @@ class PageTest(unittest.TestCase):
         lost = [result for result in made.verdict.results.frames.values() if result.state is FrameState.LOST]
         made.pictures = [Drawn(lost[0], 1, 24, b"few"), Drawn(lost[0], 9, 24, b"more")]
         text, words = self.page(made)
-        self.assertLess(words.index("9 of 24 tiles lost"), words.index("1 of 24 tiles lost"))
+        self.assertLess(words.index("9 of 24 tiles hatched"), words.index("1 of 24 tiles hatched"))
         self.assertEqual(re.findall(r'src="data:image/png;base64,([^"]*)"', text), [base64.b64encode(image).decode() for image in (b"more", b"few")])
         self.assertNotIn("What can be shown", "".join(self.page(summary(recording(), *DAMAGED))[1]))
 

@@ -137,14 +137,14 @@ def pictures(summary: Summary) -> str:
     shown = sorted(summary.pictures, key=lambda each: (-each.lost, each.result.number))
     several = sum(track.is_ffv1 for track in summary.layout.tracks) > 1
     figures = "".join(map(functools.partial(figure, results=summary.verdict.results, several=several), shown))
-    return f'<h2>What can be shown of frames that are not restored</h2><p>Hatched: no copy has it.</p><div class="side">{figures}</div>' if shown else ""
+    return f'<h2>What can be shown of frames that are not restored</h2><p>Hatched: tiles of which the footers of the copies lead to no undamaged slice, or to several.</p><div class="side">{figures}</div>' if shown else ""
 
 
 def figure(drawn: Drawn, results: Results, several: bool) -> str:
     frame = frame_of(drawn.result, results)
     name = f"frame {frame['frame']}" + (f" of track {frame['track']}" if several else "") + f", {time_code(frame['time'])}"
     image = base64.b64encode(drawn.image).decode()
-    lost = f"{drawn.lost} of {drawn.tiles} tiles lost"
+    lost = f"{drawn.lost} of {drawn.tiles} tiles hatched"
     return f'<figure><img src="data:image/png;base64,{image}" alt="{name}: {lost}"><figcaption>{name}<br>{lost}</figcaption></figure>'
 
 

@@ -1,4 +1,4 @@
-"""Small pictures of what can be shown of a frame, as PNG: places that are lost are hatched."""
+"""Small pictures of what can be shown of a frame, as PNG: tiles that are not settled are hatched."""
 from __future__ import annotations
 
 import struct
@@ -25,7 +25,7 @@ class Shape(NamedTuple):
 
 
 class Drawn(NamedTuple):
-    """A picture of what can be shown of a frame, and how many of its tiles are lost."""
+    """A picture of what can be shown of a frame, and how many of its tiles are hatched."""
 
     result: FrameResult
     lost: int
@@ -45,7 +45,7 @@ def chunk(name: bytes, content: bytes) -> bytes:
 
 
 def thumbnail(shape: Shape, samples: bytes, lost: Sequence[int]) -> bytes:
-    """A small picture of a frame's samples, plane after plane; tiles that are lost, by their numbers, are hatched."""
+    """A small picture of a frame's samples, plane after plane; tiles of these numbers are hatched."""
     step = max(1, -(-max(shape.width, shape.height) // LONGEST))
     columns, lines = range(0, shape.width, step), range(0, shape.height, step)
     at, gone = color_at(shape, samples), set(lost)
