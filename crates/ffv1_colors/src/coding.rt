@@ -104,13 +104,12 @@ impl ColorCoding {
         *color
     }
 
-    /// The colour of which these samples are coded (RFC 9043, section 3.7.2). They have at most one bit more than the picture's samples.
+    /// The colour of which these samples are coded (RFC 9043, section 3.7.2).
     ///
     /// Refused where one of its samples is no number of the picture's bits, with the first such plane.
     #[inline(always)]
     #[tactic(auto, using(crate::proofs::Back::colors_coded))]
     pub fn color(&self, coded: &CodedColor) -> Result<Color, OutsideDepth>
-        requires { IsCodedColor self.now (coded_samples coded.now) }
         ensures value { IfOk result (λ color. coded_of self.now (color_samples color) ≡ coded_samples coded.now) }
         ensures within { IfOk result (λ color. IsColor self.now (color_samples color)) }
         ensures err { IfErr result (λ outside. IsFirstOutside self.now (colors_of self.now (coded_samples coded.now)) outside.plane) }
@@ -126,7 +125,6 @@ impl ColorCoding {
     /// The samples of G, B and R, whatever they are.
     #[inline(always)]
     fn planes(&self, coded: &CodedColor) -> Planes
-        requires { IsCodedColor self.now (coded_samples coded.now) }
         ensures { plane_samples result ≡ colors_of self.now (coded_samples coded.now) }
     {
         let blue = lowered(coded.blue_difference, self.offset);

@@ -1,6 +1,5 @@
 //! The colours of RGB: rows by the standard's formulas, and coded samples that no colour has.
 use ffv1_colors::{CodedColor, Color, ColorCoding, OutsideDepth};
-use std::test::Fail;
 
 /// Green, blue and red, the bits of a sample, whether there is alpha, and the three coded samples.
 const CODED: [((u32, u32, u32), u32, bool, (u32, u32, u32)); 9] = [
@@ -25,10 +24,6 @@ const REFUSED: [((u32, u32, u32), u32, usize); 6] = [
     ((1023, 1025, 1024), 10, 0),
 ];
 
-fn color((green, blue, red): (u32, u32, u32)) -> Color {
-    Color { green, blue, red }
-}
-
 fn coded_color((luma, blue_difference, red_difference): (u32, u32, u32)) -> CodedColor {
     CodedColor {
         luma,
@@ -37,22 +32,45 @@ fn coded_color((luma, blue_difference, red_difference): (u32, u32, u32)) -> Code
     }
 }
 
+/// The coding of so many bits, 8 at least and 16 at most.
+fn coding_of(depth: u32, has_alpha: bool) -> ColorCoding {
+    ColorCoding::new(depth.max(8).min(16), has_alpha)
+}
+
 #[test]
-fn colors_are_coded_and_back(rt: HostRuntime) {
-    for (samples, depth, has_alpha, coded) in CODED {
-        let coding = ColorCoding::new(depth, has_alpha);
-        assert_eq!(rt; coding.coded(&color(samples)), coded_color(coded));
-        assert_eq!(rt; coding.color(&coded_color(coded)), Ok(color(samples)));
+fn coded_samples_have_their_colors(rt: HostRuntime) {
+    for ((green, blue, red), depth, has_alpha, coded) in CODED {
+        let found = coding_of(depth, has_alpha).color(&coded_color(coded));
+        assert_eq!(rt; found, Ok(Color { green, blue, red }));
     }
 }
 
 #[test]
 fn first_plane_outside_is_reported(rt: HostRuntime) {
     for (coded, depth, plane) in REFUSED {
-        let coding = ColorCoding::new(depth, false);
-        assert_eq!(rt;
-            coding.color(&coded_color(coded)),
-            Err(OutsideDepth { plane })
-        );
+        let found = coding_of(depth, false).color(&coded_color(coded));
+        assert_eq!(rt; found, Err(OutsideDepth { plane }));
     }
+}
+
+#[test]
+fn colors_are_coded(rt: HostRuntime) {
+    let color = Color {
+        green: 10,
+        blue: 20,
+        red: 30,
+    };
+    let coded = (
+        ColorCoding::new(8, false).coded(&color),
+        ColorCoding::new(10, false).coded(&color),
+        ColorCoding::new(10, true).coded(&color),
+        ColorCoding::new(16, false).coded(&color),
+    );
+    let wanted = (
+        coded_color((17, 266, 276)),
+        coded_color((20, 1014, 1034)),
+        coded_color((17, 1034, 1044)),
+        coded_color((17, 65546, 65556)),
+    );
+    assert_eq!(rt; coded, wanted);
 }
