@@ -131,7 +131,7 @@ returns-in_ok-new-in-New t c =
     let new = c.in_ok-new-in-New.ensures in
     let meaning = new.empty ∙ ap (λ p. holding_of h.reel (copies_of p)) (sym c.in-New.is) in
     let reel = own_size h.reel.config c.args.width c.args.height h.reel.setup
-        (subst (λ bytes. IsSetupOf bytes c.args.width c.args.height h.reel.setup) (sym new.config) new.setup) in
+    (subst (λ bytes. IsSetupOf bytes c.args.width c.args.height h.reel.setup) (sym new.config) new.setup) in
     record {
       config = new.config;
       setup = new.setup;
