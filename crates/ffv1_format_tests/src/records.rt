@@ -4,7 +4,7 @@ ghost use Rattle.ffv1_range.specs.Decoder.{AreStates};
 
 use crate::frames::{are_zeros, copies, is_made, setup_by};
 use crate::parity::with_parity;
-use ffv1_range::{HeadFault, RangeFault, Setup, SetupFault};
+use ffv1_range::{HeadFault, RangeFault, Recording, Setup, SetupFault};
 use ffv1_slice::{LinkFault, read_slice};
 use ffv1_vectors::{MakeFault, RangeEncoder, RecordSpec, make_record, spell_record, spell_slice};
 use std::alloc::{AllocError, Global};
@@ -216,6 +216,29 @@ fn deltas_are_written_for_each_context(rt: HostRuntime) {
         Err(_) => false,
     };
     assert!(rt; is_made(with_deltas(rt.alloc()), &WITH_DELTAS) && are_read);
+}
+
+#[test]
+fn states_are_dropped_with_golomb_rice(rt: HostRuntime) {
+    let read = Recording::read(rt.alloc(), &WITH_DELTAS, 3, 2).expect(&rt, "a record with deltas");
+    assert!(rt; read.sets() == 2 && read.states_coded(0) && read.states_coded(1));
+    assert!(rt; read.initial(0).is_none() && read.initial(1).is_none());
+}
+
+/// The record of a gray recording with range coding, and a delta of -100 for each state of its five contexts.
+fn of_five_contexts(alloc: Global) -> Result<Vec<u8>, MakeFault> {
+    let mut spec = gray(alloc, &[[TWO, TWO, ONE, ONE, ONE]])?;
+    spec.coder = 1;
+    spec.delta = Some(-100);
+    spell_record(alloc, &spec)
+}
+
+#[test]
+fn states_go_on_from_the_context_before(rt: HostRuntime) {
+    let record = of_five_contexts(rt.alloc()).expect(&rt, "a record");
+    let read = Recording::read(rt.alloc(), &record, 1, 1).expect(&rt, "a record with states");
+    let states = [[28; 32], [184; 32], [84; 32], [240; 32], [140; 32]];
+    assert!(rt; read.sets() == 1 && read.initial(0) == Some(states.as_slice()));
 }
 
 /// The record of a gray recording of 666 contexts, with such a delta for each of their states.

@@ -1,14 +1,17 @@
--- The entries of a set's tables come to less than the number of its contexts.
+-- The entries of a set's tables come to less than the number of its contexts, and its states are as many.
 use Rattle.std.proofs.Common.{◌≡◌, ℕ, zero, suc, ◌+◌, ◌-◌, ◌*◌, ◌<◌, ◌≤◌, Bool, true, false, cond, List, [], ◌∷◌, length, map, ap, ◌∙◌, arith, ⊎_elim, pos, neg_ℤ, nat_abs, get_or, eqb, ltb}
-use Rattle.std.specs.Prelude.{nat_le, sum, slice_index}
+use Rattle.std.specs.Prelude.{nat_le, sum, slice_index, slice_index_or, ℤ, Option, Some, None, IfSome}
 use Rattle.std.specs.List.{All}
 use Rattle.std.proofs.Math.Nat.{mul-le-mul_left}
 use Rattle.std.proofs.lemmas.Bool.{lt-leb, cases_lt}
-use Rattle.std.proofs.lemmas.List.{get_or_past}
+use Rattle.std.proofs.lemmas.List.{get_or_past, length-map}
 use Rattle.std.proofs.lemmas.List.FromFn.{get_or-map-range_with_len, length-map-range_with_len}
 use Rattle.std.proofs.lemmas.List.Sums.{sum_by-cons}
 use Rattle.ffv1_range.specs.Tables.{IsTable, IsTableSet, HasContexts, HaveContexts, AreScalesSmall, runs_ended, half_of, halves_of, table_entry, scale_after, scale_after_all, set_of}
-use Rattle.ffv1_range.specs.Setup.{SetFields, IsSetFields}
+use Rattle.ffv1_range.specs.Transitions.{delta_byte}
+use Rattle.ffv1_range.specs.InitialStates.{uncoded_states, states_of}
+use Rattle.ffv1_range.specs.Setup.{SetFields, IsSetFields, AreDeltas, no_set}
+use Rattle.ffv1_range.proofs.DeltaSteps.{length-initial_states}
 
 -- ---- the greatest entry of a table
 
@@ -128,3 +131,24 @@ all_have_contexts (set ∷ sets) h (suc k) d less = all_have_contexts sets (λ j
 pub sets_have_contexts : (sets : List SetFields) → All IsSetFields sets → HaveContexts (map (λ set. set_of set.tables) sets)
 unfolding HaveContexts
 sets_have_contexts sets h = all_have_contexts sets h
+
+-- ---- initial states
+
+-- each set says of its states
+pub states_count : (keeps : Bool) (sets : List SetFields) → length (map (λ set. states_of keeps set.deltas) sets) ≡ length sets
+states_count keeps sets = length-map sets (λ set. states_of keeps set.deltas)
+
+-- the states that a set has are those of its contexts
+states_fit : (keeps : Bool) (contexts : ℕ) (deltas : Option (List (List ℤ))) → AreDeltas contexts deltas
+    → IfSome (states_of keeps deltas).initial (λ states. length states ≡ contexts)
+states_fit keeps contexts None h = tt
+states_fit false contexts (Some deltas) h = tt
+states_fit true contexts (Some deltas) h =
+    length-initial_states (map (λ deltas. map delta_byte deltas) deltas) ∙ length-map deltas (λ deltas. map delta_byte deltas) ∙ h.0
+
+pub states_of_contexts : (keeps : Bool) (sets : List SetFields) → All IsSetFields sets
+    → (set : ℕ) → IfSome (slice_index_or (map (λ set. states_of keeps set.deltas) sets) set uncoded_states).initial
+    (λ states. length states ≡ (slice_index_or (map (λ set. set_of set.tables) sets) set no_set).contexts)
+states_of_contexts keeps [] h set = tt
+states_of_contexts keeps (set ∷ sets) h zero = states_fit keeps (set_of set.tables).contexts set.deltas ((h 0 set (omega arith)).deltas)
+states_of_contexts keeps (set ∷ sets) h (suc k) = states_of_contexts keeps sets (λ j e below. h (suc j) e (omega arith)) k

@@ -10,21 +10,22 @@ use Rattle.ffv1_range.specs.Coding.{record_mode, Coder, Place, start_of}
 use Rattle.ffv1_range.specs.Decoder.{Reader, Starts}
 use Rattle.ffv1_range.specs.Forms.{from_place, form_at}
 use Rattle.ffv1_range.specs.TableForms.{fresh_row}
+use Rattle.ffv1_range.specs.InitialStates.{keeps_states}
 use Rattle.ffv1_range.specs.Setup.{SetupValue, RecordingValue, SetFields, RecordFields, IsAccepted, IsSize, record_content, IsScopedRecord, IsSetupOf, IsInProfile, IsInVersion3, SetupIsOne, SetupIsInProfile, SetupIsRecording, RecordingIsOne, RecordingIsInVersion3}
 use Rattle.ffv1_range.specs.Scopes.{accepts_coder, accepts_space, accepts_depth, accepts_shift, accepts_ec, greatest_shift}
 use Rattle.ffv1_range.specs.declared.scope.Scope.{Scope}
 use Rattle.ffv1_range.specs.declared.scope.Scope.TheVariants.{Profile, Version3}
 use Rattle.ffv1_range.specs.Tables.{set_of}
-use Rattle.ffv1_range.specs.SetupForms.{front_form, record_form, checked_content, is_size, record_read, setup_read}
+use Rattle.ffv1_range.specs.SetupForms.{Grants, all_granted, record_form, checked_content, is_size, record_read, setup_read}
 use Rattle.ffv1_range.specs.declared.coding.RangeFault.{RangeFault}
 use Rattle.ffv1_range.specs.declared.fault.SetupFault.{SetupFault}
 use Rattle.ffv1_range.specs.declared.fault.SetupFault.TheVariants.{TooShort, Parity, Range, Memory}
-use Rattle.ffv1_range.proofs.Forms.{place_of, bind_ok}
+use Rattle.ffv1_range.proofs.Forms.{place_of}
 use Rattle.ffv1_range.proofs.Spelling.{bind_is_ok, same_ok}
-use Rattle.ffv1_range.proofs.SetupSteps.{IsOpened, opened, opened_read, value_of, fields_read, sized, sized_read, front_rest, memory_rest, sets_rest, deltas_rest, last_rest}
+use Rattle.ffv1_range.proofs.SetupSteps.{IsOpened, opened, opened_read, value_of, fields_read, sized, sized_read}
 use Rattle.ffv1_range.proofs.SetupRuns.{record_form-found, record_form-run}
-use Rattle.ffv1_range.proofs.FirstFaults.{first_fault}
-use Rattle.ffv1_range.proofs.Contexts.{sets_have_contexts}
+use Rattle.ffv1_range.proofs.FirstFaults.{first_fault, profile_read}
+use Rattle.ffv1_range.proofs.Contexts.{sets_have_contexts, states_count, states_of_contexts}
 
 -- ---- length, parity and size
 
@@ -57,7 +58,7 @@ size_test n h = and_from (nat_le 1 n) (nat_le n greatest_side) (le-leb 1 n h.0) 
 
 -- ---- what is read is the record's setup
 
-sized_ok : (granted is_width is_height : Bool) (scope : Scope) (width height : ℕ) (content : List ℕ) (value : RecordingValue)
+sized_ok : (granted : Grants) (is_width is_height : Bool) (scope : Scope) (width height : ℕ) (content : List ℕ) (value : RecordingValue)
     → sized granted is_width is_height scope width height content ≡ Ok value
     → (is_width ≡ true) × (is_height ≡ true) × (fields_read granted scope width height content ≡ Ok value)
 unfolding sized
@@ -66,7 +67,7 @@ sized_ok granted true false scope width height content value h = absurd cc
 sized_ok granted false is_height scope width height content value h = absurd cc
 
 -- the start of the content, and what the fields give there
-started_ok : (granted : Bool) (scope : Scope) (width height : ℕ) (at : Result Coder RangeFault) (value : RecordingValue)
+started_ok : (granted : Grants) (scope : Scope) (width height : ℕ) (at : Result Coder RangeFault) (value : RecordingValue)
     → value_of (from_place Range at (λ c. record_form granted scope width height record_mode (place_of c fresh_row))) ≡ Ok value
     → (c : Coder) × (at ≡ Ok c) × ((y : RecordingValue × Place) × (record_form granted scope width height record_mode
     (place_of c fresh_row) ≡ Ok y) × (y.0 ≡ value))
@@ -77,7 +78,7 @@ started_ok granted scope width height (Ok c) value h =
 started_ok granted scope width height (Err e) value h = absurd cc
 
 -- a record that is read: its parts
-record Opening (granted : Bool) (config : List ℕ) (scope : Scope) (width height : ℕ) (value : RecordingValue) : Type 0 where
+record Opening (granted : Grants) (config : List ℕ) (scope : Scope) (width height : ℕ) (value : RecordingValue) : Type 0 where
   content : List ℕ
   checked : checked_content config ≡ Ok content
   is_width : is_size width ≡ true
@@ -88,7 +89,7 @@ record Opening (granted : Bool) (config : List ℕ) (scope : Scope) (width heigh
   read : record_form granted scope width height record_mode (place_of start fresh_row) ≡ Ok outcome
   is : outcome.0 ≡ value
 
-opening : (granted : Bool) (config : List ℕ) (scope : Scope) (width height : ℕ) (value : RecordingValue)
+opening : (granted : Grants) (config : List ℕ) (scope : Scope) (width height : ℕ) (value : RecordingValue)
     → record_read granted config scope width height ≡ Ok value
     → Opening granted config scope width height value
 unfolding sized fields_read value_of
@@ -98,10 +99,10 @@ opening granted config scope width height value h =
     let c = started_ok granted scope width height (start_of true a.0) value b.2 in
     record { content = a.0; checked = a.1; is_width = b.0; is_height = b.1; start = c.0; started = c.1; outcome = c.2.0; read = c.2.1; is = c.2.2 }
 
-pub record-found : (config : List ℕ) (scope : Scope) (width height : ℕ) (value : RecordingValue) → record_read true config scope width height ≡ Ok value
+pub record-found : (config : List ℕ) (scope : Scope) (width height : ℕ) (value : RecordingValue) → record_read all_granted config scope width height ≡ Ok value
     → IsScopedRecord config scope width height value
 record-found config scope width height value h =
-    let o = opening true config scope width height value h in
+    let o = opening all_granted config scope width height value h in
     let checked = checked-found config o.content o.checked in
     let s = record_form-found scope width height o.start o.outcome o.read in
     record {
@@ -120,12 +121,12 @@ record-found config scope width height value h =
 -- ---- the record's setup is read
 
 pub record-run : (config : List ℕ) (scope : Scope) (width height : ℕ) (value : RecordingValue) → IsScopedRecord config scope width height value
-    → record_read true config scope width height ≡ Ok value
+    → record_read all_granted config scope width height ≡ Ok value
 unfolding fields_read value_of
 record-run config scope width height value s =
     let r = record_form-run scope width height s.start s.fields s.end s.accepted s.is_width.1 s.is_height.1 s.coded in
-    sized_read true config (record_content config) scope width height (checked-run config s.passes) (size_test width s.is_width) (size_test height s.is_height)
-    ∙ ap (λ z. value_of (from_place Range z (λ c. record_form true scope width height record_mode (place_of c fresh_row)))) s.started
+    sized_read all_granted config (record_content config) scope width height (checked-run config s.passes) (size_test width s.is_width) (size_test height s.is_height)
+    ∙ ap (λ z. value_of (from_place Range z (λ c. record_form all_granted scope width height record_mode (place_of c fresh_row)))) s.started
     ∙ ap value_of r.1
     ∙ ap (λ z. Ok z) (sym s.is)
 
@@ -212,10 +213,12 @@ record_in_version_3 config scope width height value s =
       some_set = subst (λ n. 1 ≤ n) (sym count) s.accepted.some_set;
       few_sets = subst (λ n. n ≤ 8) (sym count) s.accepted.few_sets;
       contexts = sets_have_contexts r.sets s.accepted.sets;
+      states = states_count (keeps_states r.coder_type) r.sets ∙ sym count;
+      initial = states_of_contexts (keeps_states r.coder_type) r.sets s.accepted.sets;
     })
 
 pub read_in_version_3 : (config : List ℕ) (scope : Scope) (width height : ℕ) (value : RecordingValue)
-    → record_read true config scope width height ≡ Ok value → IsInVersion3 value
+    → record_read all_granted config scope width height ≡ Ok value → IsInVersion3 value
 read_in_version_3 config scope width height value h =
     record_in_version_3 config scope width height value (record-found config scope width height value h)
 
@@ -318,33 +321,19 @@ setup_is_recording config width height setup s =
       s.is,
     )
 
--- with no memory for the sets, a record that has a setup is refused for that
-without_memory : (config : List ℕ) (scope : Scope) (width height : ℕ) (value : RecordingValue) → record_read true config scope width height ≡ Ok value
-    → record_read false config scope width height ≡ Err Memory
-unfolding fields_read value_of front_rest memory_rest sets_rest deltas_rest last_rest
-without_memory config scope width height value h =
-    let o = opening true config scope width height value h in
-    let a = bind_is_ok (front_form scope width height record_mode (place_of o.start fresh_row)) (λ x. front_rest true scope width height x.0
-    record_mode x.1) o.outcome o.read in
-    sized_read false config o.content scope width height o.checked o.is_width o.is_height
-    ∙ ap (λ z. value_of (from_place Range z (λ c. record_form false scope width height record_mode (place_of c fresh_row)))) o.started
-    ∙ ap value_of (bind_ok (front_form scope width height record_mode (place_of o.start fresh_row)) (λ x. front_rest false scope width height x.0
-    record_mode x.1) a.0 a.1)
-
 -- ---- a result that reading gives
 
-only_of : (config : List ℕ) (scope : Scope) (width height : ℕ) (granted : Bool) (e : SetupFault) (setup : RecordingValue)
+only_of : (config : List ℕ) (scope : Scope) (width height : ℕ) (granted : Grants) (e : SetupFault) (setup : RecordingValue)
     → record_read granted config scope width height ≡ Err e
     → IsScopedRecord config scope width height setup → e ≡ Memory
-only_of config scope width height true e setup h s = absurd (apart_results (sym h ∙ record-run config scope width height setup s))
+only_of config scope width height granted e setup h s =
+    elim (first_fault config scope width height granted e h) [
+      | inl memory ↦ memory
+      | inr first ↦ absurd (apart_results (sym first ∙ record-run config scope width height setup s))
+    ]
   where
     apart_results : ◌≡◌ {A = Result RecordingValue SetupFault} (Err e) (Ok setup) → ⊥
     apart_results h = cc
-only_of config scope width height false e setup h s = same_err e Memory (sym h ∙ without_memory config scope width height setup
-    (record-run config scope width height setup s))
-  where
-    same_err : (a b : SetupFault) → ◌≡◌ {A = Result RecordingValue SetupFault} (Err a) (Err b) → a ≡ b
-    same_err a b h = cc
 
 -- what the contract says of a result
 abbrev pub Returned : List ℕ → Scope → ℕ → ℕ → Result RecordingValue SetupFault → Type 0
@@ -352,11 +341,11 @@ Returned config scope width height result =
     record {
       found : IfOk result (IsScopedRecord config scope width height);
       only : (setup : RecordingValue) → IsScopedRecord config scope width height setup → MatchResult result (λ read. read ≡ setup) (λ fault. fault ≡ Memory);
-      first : IfErr result (λ fault. (fault ≡ Memory) ⊎ (record_read true config scope width height ≡ Err fault));
-      fault : IfErr result (λ fault. (granted : Bool) × (record_read granted config scope width height ≡ Err fault));
+      first : IfErr result (λ fault. (fault ≡ Memory) ⊎ (record_read all_granted config scope width height ≡ Err fault));
+      fault : IfErr result (λ fault. (granted : Grants) × (record_read granted config scope width height ≡ Err fault));
     }
 
-pub returned : (config : List ℕ) (scope : Scope) (width height : ℕ) (value : RecordingValue) → record_read true config scope width height ≡ Ok value
+pub returned : (config : List ℕ) (scope : Scope) (width height : ℕ) (value : RecordingValue) → record_read all_granted config scope width height ≡ Ok value
     → Returned config scope width height (Ok value)
 returned config scope width height value h =
     record {
@@ -366,7 +355,7 @@ returned config scope width height value h =
       fault = tt;
     }
 
-pub refused_by : (config : List ℕ) (scope : Scope) (width height : ℕ) (granted : Bool) (e : SetupFault) → record_read granted config scope width height ≡ Err e
+pub refused_by : (config : List ℕ) (scope : Scope) (width height : ℕ) (granted : Grants) (e : SetupFault) → record_read granted config scope width height ≡ Err e
     → Returned config scope width height (Err e)
 refused_by config scope width height granted e h =
     record {
@@ -378,14 +367,15 @@ refused_by config scope width height granted e h =
 
 -- ---- a record of the profile as a setup
 
-pub setup_first : (config : List ℕ) (width height : ℕ) (e : SetupFault) → (e ≡ Memory) ⊎ (record_read true config Profile width height ≡ Err e)
+pub setup_first : (config : List ℕ) (width height : ℕ) (e : SetupFault) → (e ≡ Memory) ⊎ (record_read all_granted config Profile width height ≡ Err e)
     → (e ≡ Memory) ⊎ (setup_read true config width height ≡ Err e)
 setup_first config width height e (inl memory) = inl memory
 setup_first config width height e (inr first) = inr (ap (λ z. z >>> λ r. Ok r.setup) first)
 
-pub setup_refused : (config : List ℕ) (width height : ℕ) (e : SetupFault) → (granted : Bool) × (record_read granted config Profile width height ≡ Err e)
+pub setup_refused : (config : List ℕ) (width height : ℕ) (e : SetupFault) → (granted : Grants) × (record_read granted config Profile width height ≡ Err e)
     → (granted : Bool) × (setup_read granted config width height ≡ Err e)
-setup_refused config width height e h = (h.0, ap (λ z. z >>> λ r. Ok r.setup) h.1)
+setup_refused config width height e h =
+    (h.0.sets, ap (λ z. z >>> λ r. Ok r.setup) (sym (profile_read config width height h.0) ∙ h.1))
 
 -- ---- the same once length, parity and size were found right, where the decoder has the content
 
@@ -395,10 +385,10 @@ module _ (config content : List ℕ) (scope : Scope) (width height : ℕ) (r : R
   abbrev is_opened : IsOpened config width height r
   is_opened = opened config content width height r checked (sym is_width) (sym is_height) starts
 
-  pub refused_in : (granted : Bool) (e : SetupFault) → form_at Range (record_form granted scope width height) r fresh_row ≡ Err e
+  pub refused_in : (granted : Grants) (e : SetupFault) → form_at Range (record_form granted scope width height) r fresh_row ≡ Err e
       → Returned config scope width height (Err e)
   refused_in granted e h = refused_by config scope width height granted e (opened_read granted config scope width height r (Err e) is_opened h)
 
-  pub read_in : (value : RecordingValue) (place : Place) → form_at Range (record_form true scope width height) r fresh_row ≡ Ok (value, place)
-      → record_read true config scope width height ≡ Ok value
-  read_in value place h = opened_read true config scope width height r (Ok (value, place)) is_opened h
+  pub read_in : (value : RecordingValue) (place : Place) → form_at Range (record_form all_granted scope width height) r fresh_row ≡ Ok (value, place)
+      → record_read all_granted config scope width height ≡ Ok value
+  read_in value place h = opened_read all_granted config scope width height r (Ok (value, place)) is_opened h

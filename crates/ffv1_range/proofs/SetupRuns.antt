@@ -11,9 +11,10 @@ use Rattle.ffv1_range.specs.Rows.{Rows, with_row, RowBits, IsRowsRun}
 use Rattle.ffv1_range.specs.Forms.{apart}
 use Rattle.ffv1_range.specs.Fields.{last_fields}
 use Rattle.ffv1_range.specs.Tables.{SetValue, IsTableSet, set_of}
-use Rattle.ffv1_range.specs.TableForms.{fresh_row, fresh_rows, TwoRows, sets_from, sets_deltas, deltas_form}
+use Rattle.ffv1_range.specs.TableForms.{fresh_row, fresh_rows, TwoRows, sets_from, sets_states, states_form}
+use Rattle.ffv1_range.specs.InitialStates.{StatesValue, keeps_states, states_of}
 use Rattle.ffv1_range.specs.Setup.{RecordingValue, FieldValue, symbol, bit, signed, fields_bits, SetFields, IsSetFields, RecordFields, front_fields, back_fields, fresh_states, table_row_bits, deltas_row_bits, record_row_bits, IsAccepted, recording_value}
-use Rattle.ffv1_range.specs.SetupForms.{FrontValue, front_form, recording_of, record_form}
+use Rattle.ffv1_range.specs.SetupForms.{FrontValue, front_form, recording_of, all_granted, record_form}
 use Rattle.ffv1_range.specs.Fields.{chroma_planes_of, shape_of}
 use Rattle.ffv1_range.specs.Transitions.{delta_bytes, transitions_with}
 use Rattle.ffv1_range.specs.declared.scope.Scope.{Scope}
@@ -23,8 +24,8 @@ use Rattle.ffv1_range.proofs.Spelling.{bind_is_ok, same_ok}
 use Rattle.ffv1_range.proofs.FieldRuns.{Plan, form_of, followed, Taken, fields_of, value_of, Each, Each-at, Each-from, PlanAt, plan-found, plan-run, front_plan, front_form-plan, last_plan, last_fields-plan}
 use Rattle.ffv1_range.proofs.RowRuns.{rows_append, rows_split, with_row-same, with_row-other, one_row_bits}
 use Rattle.ffv1_range.proofs.TableRuns.{SetsAt, sets-found, sets-run}
-use Rattle.ffv1_range.proofs.DeltaRuns.{AreRowsOf, SetsDeltasAt, sets-deltas-found, sets-deltas-run}
-use Rattle.ffv1_range.proofs.SetupSteps.{front_rest, memory_rest, sets_rest, deltas_rest, last_rest}
+use Rattle.ffv1_range.proofs.DeltaRuns.{AreRowsOf, SetsStatesAt, sets-states-found, sets-states-run}
+use Rattle.ffv1_range.proofs.SetupSteps.{front_rest, memory_rest, sets_rest, states_rest, last_rest}
 
 -- ---- the rows before the deltas
 
@@ -115,7 +116,9 @@ AreOfSetup scope width height c sets z x =
     length sets ≡ (value_of (front_plan scope width height) x).sets → All IsSetFields sets
     → PartsCoded c (fields_of (front_plan scope width height) x) sets (fields_of (last_plan scope) z)
     → SetupAt scope width height c
-    (recording_of (value_of (front_plan scope width height) x) (map (λ set. set_of set.tables) sets) (value_of (last_plan scope) z) width height)
+    (recording_of (value_of (front_plan scope width height) x) (map (λ set. set_of set.tables) sets)
+    (map (λ set. states_of (keeps_states (value_of (front_plan scope width height) x).shape.coder) set.deltas) sets) (value_of (last_plan scope) z)
+    width height)
 
 are_of_setup : (scope : Scope) (width height : ℕ) (c : Coder) (sets : List SetFields) (z : Taken (last_plan scope)) (x : Taken (front_plan scope width height))
     → AreOfSetup scope width height c sets z x
@@ -185,18 +188,19 @@ are_of_setup scope width height c sets z =
 -- ---- part by part
 
 -- the last fields
-record LastAt (scope : Scope) (width height : ℕ) (front : FrontValue) (sets : List SetValue) (p : Place) (y : RecordingValue × Place) : Type 0 where
+record LastAt (scope : Scope) (width height : ℕ) (front : FrontValue) (sets : List SetValue) (states : List StatesValue) (p : Place) (y : RecordingValue × Place) : Type 0 where
   read : (ℕ × ℕ) × Place
   fields : PlanAt (last_plan scope) record_mode p read
-  is : y.0 ≡ recording_of front sets read.0 width height
+  is : y.0 ≡ recording_of front sets states read.0 width height
 
-last-found : (scope : Scope) (width height : ℕ) (front : FrontValue) (sets : List SetValue) (p : Place) (y : RecordingValue × Place)
-    → deltas_rest scope width height front sets tt record_mode p ≡ Ok y
-    → LastAt scope width height front sets p y
-unfolding deltas_rest last_rest
-last-found scope width height front sets p y h =
-    let x = bind_is_ok (last_fields scope record_mode p) (λ x. last_rest scope width height front sets x.0 record_mode x.1) y h in
-    let pair = same_ok (recording_of front sets x.0.0 width height, x.0.1) y x.2 in
+last-found : (scope : Scope) (width height : ℕ) (front : FrontValue) (sets : List SetValue) (states : List StatesValue) (p : Place)
+    (y : RecordingValue × Place)
+    → states_rest scope width height front sets states record_mode p ≡ Ok y
+    → LastAt scope width height front sets states p y
+unfolding states_rest last_rest
+last-found scope width height front sets states p y h =
+    let x = bind_is_ok (last_fields scope record_mode p) (λ x. last_rest scope width height front sets states x.0 record_mode x.1) y h in
+    let pair = same_ok (recording_of front sets states x.0.0 width height, x.0.1) y x.2 in
     record {
       read = x.0;
       fields = plan-found (last_plan scope) record_mode p x.0 (ap (λ f. f record_mode p) (last_fields-plan scope)
@@ -204,26 +208,37 @@ last-found scope width height front sets p y h =
       is = sym (ap (λ z. z.0) pair);
     }
 
--- the deltas, and what is read after them
-record DeltasAt (scope : Scope) (width height : ℕ) (front : FrontValue) (sets : List SetValue) (contexts : List ℕ) (p : Place)
-    (y : RecordingValue × Place) : Type 0 where
-  after : PlaceOf TwoRows
-  read : sets_deltas contexts record_mode (place_of p.coder (p.states, fresh_rows)) ≡ Ok (tt, after)
-  rest : deltas_rest scope width height front sets tt record_mode (place_of after.coder after.states.0) ≡ Ok y
+-- memory for the states of each set
+abbrev all_sets : ℕ → Bool
+all_sets set = true
 
-deltas-found : (scope : Scope) (width height : ℕ) (front : FrontValue) (sets : List SetValue) (p : Place) (y : RecordingValue × Place)
-    → sets_rest scope width height front sets record_mode p ≡ Ok y
-    → DeltasAt scope width height front sets (map (λ set. set.contexts) sets) p y
+-- whether the states of a record are kept
+abbrev keeps_of : FrontValue → Bool
+keeps_of front = keeps_states front.shape.coder
+
+-- the states, and what is read after them
+record StatesAt (scope : Scope) (width height : ℕ) (front : FrontValue) (sets : List SetValue) (contexts : List ℕ) (p : Place)
+    (y : RecordingValue × Place) : Type 0 where
+  states : List StatesValue
+  after : PlaceOf TwoRows
+  read : sets_states (λ set. true) (keeps_of front) contexts [] record_mode (place_of p.coder (p.states, fresh_rows)) ≡ Ok (states, after)
+  rest : states_rest scope width height front sets states record_mode (place_of after.coder after.states.0) ≡ Ok y
+
+states-found : (scope : Scope) (width height : ℕ) (front : FrontValue) (sets : List SetValue) (p : Place) (y : RecordingValue × Place)
+    → sets_rest all_sets scope width height front sets record_mode p ≡ Ok y
+    → StatesAt scope width height front sets (map (λ set. set.contexts) sets) p y
 unfolding sets_rest
-deltas-found scope width height front sets p y h =
-    let x = bind_is_ok (deltas_form (map (λ set. set.contexts) sets) record_mode p) (λ x. deltas_rest scope width height front sets x.0 record_mode x.1) y h in
-    let d = bind_is_ok (sets_deltas (map (λ set. set.contexts) sets) record_mode (place_of p.coder (p.states, fresh_rows)))
+states-found scope width height front sets p y h =
+    let x = bind_is_ok (states_form all_sets (keeps_of front) (map (λ set. set.contexts) sets) record_mode p)
+    (λ x. states_rest scope width height front sets x.0 record_mode x.1) y h in
+    let d = bind_is_ok (sets_states all_sets (keeps_of front) (map (λ set. set.contexts) sets) [] record_mode (place_of p.coder (p.states, fresh_rows)))
     (λ x. Ok (x.0, place_of x.1.coder x.1.states.0)) x.0 x.1 in
     let pair = same_ok (d.0.0, place_of d.0.1.coder d.0.1.states.0) x.0 d.2 in
     record {
+      states = d.0.0;
       after = d.0.1;
       read = d.1;
-      rest = ap (λ z. deltas_rest scope width height front sets z.0 record_mode z.1) pair ∙ x.2;
+      rest = ap (λ z. states_rest scope width height front sets z.0 record_mode z.1) pair ∙ x.2;
     }
 
 -- the sets, and what is read after them
@@ -231,17 +246,17 @@ record TablesAt (scope : Scope) (width height : ℕ) (front : FrontValue) (p : P
   sets : List SetValue
   after : PlaceOf (Unit {0})
   read : sets_from front.sets [] record_mode (place_of p.coder tt) ≡ Ok (sets, after)
-  rest : sets_rest scope width height front sets record_mode (place_of after.coder p.states) ≡ Ok y
+  rest : sets_rest all_sets scope width height front sets record_mode (place_of after.coder p.states) ≡ Ok y
 
 tables-found : (scope : Scope) (width height : ℕ) (front : FrontValue) (p : Place) (y : RecordingValue × Place)
-    → front_rest true scope width height front record_mode p ≡ Ok y
+    → front_rest all_granted scope width height front record_mode p ≡ Ok y
     → TablesAt scope width height front p y
 unfolding front_rest memory_rest
 tables-found scope width height front p y h =
-    let x = bind_is_ok (sets_apart front.sets p) (λ x. sets_rest scope width height front x.0 record_mode x.1) y h in
+    let x = bind_is_ok (sets_apart front.sets p) (λ x. sets_rest all_sets scope width height front x.0 record_mode x.1) y h in
     let d = bind_is_ok (sets_from front.sets [] record_mode (place_of p.coder tt)) (λ x. Ok (x.0, place_of x.1.coder p.states)) x.0 x.1 in
     let pair = same_ok (d.0.0, place_of d.0.1.coder p.states) x.0 d.2 in
-    record { sets = d.0.0; after = d.0.1; read = d.1; rest = ap (λ z. sets_rest scope width height front z.0 record_mode z.1) pair ∙ x.2 }
+    record { sets = d.0.0; after = d.0.1; read = d.1; rest = ap (λ z. sets_rest all_sets scope width height front z.0 record_mode z.1) pair ∙ x.2 }
 
 tables_count : (sets : List SetFields) → length (map (λ set. set.tables) sets) ≡ length sets
 tables_count [] = refl
@@ -254,20 +269,22 @@ parts_found : (scope : Scope) (width height : ℕ) (c : Coder) (y : RecordingVal
 unfolding first_rows
 parts_found scope width height c y front p f t =
     let s = sets-found record_mode front.sets [] p.coder (t.sets, t.after) t.read in
-    let d = deltas-found scope width height front t.sets (place_of t.after.coder p.states) y t.rest in
-    let e = sets-deltas-found record_mode s.sets (place_of t.after.coder (p.states, fresh_rows)) (tt, d.after) s.each
-    (subst (λ z. sets_deltas (map (λ set. set.contexts) z) record_mode (place_of t.after.coder (p.states, fresh_rows)) ≡ Ok (tt, d.after)) s.is d.read) in
-    let l = last-found scope width height front t.sets (place_of d.after.coder d.after.states.0) y d.rest in
+    let d = states-found scope width height front t.sets (place_of t.after.coder p.states) y t.rest in
+    let e = sets-states-found record_mode (keeps_of front) s.sets [] (place_of t.after.coder (p.states, fresh_rows)) (d.states, d.after) s.each
+    (subst (λ z. sets_states (λ set. true) (keeps_of front) (map (λ set. set.contexts) z) [] record_mode (place_of t.after.coder (p.states, fresh_rows))
+    ≡ Ok (d.states, d.after)) s.is d.read) in
+    let l = last-found scope width height front t.sets d.states (place_of d.after.coder d.after.states.0) y d.rest in
     parts_coded scope width height c y front p f t s d e l
   where
     parts_coded : (scope : Scope) (width height : ℕ) (c : Coder) (y : RecordingValue × Place) (front : FrontValue) (p : Place)
         (f : PlanAt (front_plan scope width height) record_mode (place_of c fresh_row) (front, p))
         (t : TablesAt scope width height front p y) (s : SetsAt record_mode front.sets [] p.coder (t.sets, t.after))
-        (d : DeltasAt scope width height front t.sets (map (λ set. set.contexts) t.sets) (place_of t.after.coder p.states) y)
-        (e : SetsDeltasAt record_mode s.sets (place_of t.after.coder (p.states, fresh_rows)) d.after)
-        (l : LastAt scope width height front t.sets (place_of d.after.coder d.after.states.0) y) → SetupAt scope width height c y.0
+        (d : StatesAt scope width height front t.sets (map (λ set. set.contexts) t.sets) (place_of t.after.coder p.states) y)
+        (e : SetsStatesAt record_mode (keeps_of front) s.sets [] (place_of t.after.coder (p.states, fresh_rows)) (d.states, d.after))
+        (l : LastAt scope width height front t.sets d.states (place_of d.after.coder d.after.states.0) y) → SetupAt scope width height c y.0
     parts_coded scope width height c y front p f t s d e l =
         let values : List SetValue = map (λ set. set_of set.tables) e.sets in
+        let states = λ (z : FrontValue). map (λ (set : SetFields). states_of (keeps_of z) set.deltas) e.sets in
         let last : ℕ × ℕ = value_of (last_plan scope) l.fields.0 in
         let count = sym (tables_count e.sets) ∙ ap length e.same ∙ s.size ∙ ap (λ z. z.sets) (sym f.1) in
         let tables : flat_map (λ set. set) s.sets ≡ flat_map (λ set. set.tables) e.sets = ap (flat_map (λ set. set)) (sym e.same) ∙ flat_tables e.sets in
@@ -276,8 +293,9 @@ parts_found scope width height c y front p f t =
         let m = e.coded k.after (before_deltas (first_rows p.states) k.after p.states (with_row-same fresh_states 0 p.states)
         (first_rows-fresh p.states) k.kept) in
         subst (SetupAt scope width height c)
-        (ap (λ z. recording_of z values last width height) f.1 ∙ ap (λ z. recording_of front z last width height) same
-        ∙ ap (λ z. recording_of front t.sets z width height) l.fields.1 ∙ sym l.is)
+        (ap (λ z. recording_of z values (states z) last width height) f.1 ∙ ap (λ z. recording_of front z (states front) last width height) same
+        ∙ ap (λ z. recording_of front t.sets z last width height) (sym e.is)
+        ∙ ap (λ z. recording_of front t.sets d.states z width height) l.fields.1 ∙ sym l.is)
         (are_of_setup scope width height c e.sets l.fields.0 f.0 count e.each (record {
           front = p;
           first_coded = f.2;
@@ -294,12 +312,12 @@ parts_found scope width height c y front p f t =
               l.fields.2;
         }))
 
-pub record_form-found : (scope : Scope) (width height : ℕ) (c : Coder) (y : RecordingValue × Place) → record_form true scope width height record_mode
+pub record_form-found : (scope : Scope) (width height : ℕ) (c : Coder) (y : RecordingValue × Place) → record_form all_granted scope width height record_mode
     (place_of c fresh_row) ≡ Ok y
     → SetupAt scope width height c y.0
-unfolding front_rest memory_rest sets_rest deltas_rest last_rest
+unfolding front_rest memory_rest sets_rest states_rest last_rest
 record_form-found scope width height c y h =
-    let a = bind_is_ok (front_form scope width height record_mode (place_of c fresh_row)) (λ x. front_rest true scope width height x.0 record_mode x.1) y h in
+    let a = bind_is_ok (front_form scope width height record_mode (place_of c fresh_row)) (λ x. front_rest all_granted scope width height x.0 record_mode x.1) y h in
     parts_found scope width height c y a.0.0 a.0.1
     (plan-found (front_plan scope width height) record_mode (place_of c fresh_row) a.0 (ap (λ f. f record_mode (place_of c fresh_row))
     (front_form-plan scope width height) ∙ a.1))
@@ -357,28 +375,33 @@ last-run scope width height p r z ok run =
 parts_read : (scope : Scope) (width height : ℕ) (c : Coder) (r : RecordFields) (p : Place) (q : Coder) (two : TwoRows) (d : Coder) (last : Place)
     → front_form scope width height record_mode (place_of c fresh_row) ≡ Ok (front_value r, p)
     → sets_from (length r.sets) [] record_mode (place_of p.coder tt) ≡ Ok (map (λ set. set_of set.tables) r.sets, place_of q tt)
-    → sets_deltas (map (λ set. set.contexts) (map (λ set. set_of set.tables) r.sets)) record_mode (place_of q (p.states, fresh_rows)) ≡ Ok (tt, place_of d two)
+    → sets_states (λ set. true) (keeps_states r.coder_type) (map (λ set. set.contexts) (map (λ set. set_of set.tables) r.sets)) [] record_mode
+    (place_of q (p.states, fresh_rows)) ≡ Ok (map (λ set. states_of (keeps_states r.coder_type) set.deltas) r.sets, place_of d two)
     → last_fields scope record_mode (place_of d two.0) ≡ Ok ((r.ec, r.intra), last)
-    → record_form true scope width height record_mode (place_of c fresh_row) ≡ Ok (recording_value width height r, last)
-unfolding front_rest memory_rest sets_rest deltas_rest last_rest
+    → record_form all_granted scope width height record_mode (place_of c fresh_row) ≡ Ok (recording_value width height r, last)
+unfolding front_rest memory_rest sets_rest states_rest last_rest
 parts_read scope width height c r p q two d last h k l m =
     let values : List SetValue = map (λ set. set_of set.tables) r.sets in
     let front : FrontValue = front_value r in
-    bind_ok (front_form scope width height record_mode (place_of c fresh_row)) (λ x. front_rest true scope width height x.0 record_mode x.1) (front, p) h
-    ∙ bind_ok (sets_apart (length r.sets) p) (λ x. sets_rest scope width height front x.0 record_mode x.1) (values, place_of q p.states)
+    let keeps : Bool = keeps_states r.coder_type in
+    let states : List StatesValue = map (λ set. states_of keeps set.deltas) r.sets in
+    bind_ok (front_form scope width height record_mode (place_of c fresh_row)) (λ x. front_rest all_granted scope width height x.0 record_mode x.1) (front, p) h
+    ∙ bind_ok (sets_apart (length r.sets) p) (λ x. sets_rest all_sets scope width height front x.0 record_mode x.1) (values, place_of q p.states)
     (bind_ok (sets_from (length r.sets) [] record_mode (place_of p.coder tt)) (λ x. Ok (x.0, place_of x.1.coder p.states)) (values, place_of q tt) k)
-    ∙ bind_ok (deltas_form (map (λ set. set.contexts) values) record_mode (place_of q p.states)) (λ x. deltas_rest scope width height front values
+    ∙ bind_ok (states_form all_sets keeps (map (λ set. set.contexts) values) record_mode (place_of q p.states)) (λ x. states_rest scope width height front values
     x.0 record_mode x.1)
-    (tt, place_of d two.0)
-    (bind_ok (sets_deltas (map (λ set. set.contexts) values) record_mode (place_of q (p.states, fresh_rows))) (λ x. Ok (x.0, place_of x.1.coder x.1.states.0))
-    (tt, place_of d two) l)
-    ∙ bind_ok (last_fields scope record_mode (place_of d two.0)) (λ x. last_rest scope width height front values x.0 record_mode x.1) ((r.ec, r.intra), last) m
+    (states, place_of d two.0)
+    (bind_ok (sets_states all_sets keeps (map (λ set. set.contexts) values) [] record_mode (place_of q (p.states, fresh_rows)))
+    (λ x. Ok (x.0, place_of x.1.coder x.1.states.0))
+    (states, place_of d two) l)
+    ∙ bind_ok (last_fields scope record_mode (place_of d two.0)) (λ x. last_rest scope width height front values states x.0 record_mode x.1)
+    ((r.ec, r.intra), last) m
 
 pub record_form-run : (scope : Scope) (width height : ℕ) (c : Coder) (r : RecordFields) (z : PlaceOf Rows) → IsAccepted scope width height r
     → width ≤ greatest_side
     → height ≤ greatest_side
     → IsRowsRun record_mode (place_of c fresh_states) (record_row_bits r) z
-    → (last : Place) × (record_form true scope width height record_mode (place_of c fresh_row) ≡ Ok (recording_value width height r, last))
+    → (last : Place) × (record_form all_granted scope width height record_mode (place_of c fresh_row) ≡ Ok (recording_value width height r, last))
 unfolding IsRowsRun first_rows
 record_form-run scope width height c r z ok wide high run =
     let tables : List RowBits = table_row_bits 0 (flat_map (λ set. set.tables) r.sets) in
@@ -395,13 +418,13 @@ record_form-run scope width height c r z ok wide high run =
         → IsRowsRun record_mode (place_of p.coder (first_rows p.states)) (table_row_bits 0 (flat_map (λ set. set.tables) r.sets)) s
         → IsRowsRun record_mode s (flat_map (λ set. deltas_row_bits set.deltas) r.sets) d
         → IsRowsRun record_mode d ((0, fields_bits (back_fields r)) ∷ []) z
-        → (last : Place) × (record_form true scope width height record_mode (place_of c fresh_row) ≡ Ok (recording_value width height r, last))
+        → (last : Place) × (record_form all_granted scope width height record_mode (place_of c fresh_row) ≡ Ok (recording_value width height r, last))
     rest_run scope width height c r z p s d ok front run more end =
         let t = sets-run record_mode (length r.sets) [] (map (λ set. set.tables) r.sets) 0 p.coder (first_rows p.states) s (tables_count r.sets)
         (All-map IsTableSet (λ set. set.tables) r.sets (λ k e h. (ok.sets k e h).tables))
         (λ j h. first_rows-fresh p.states (33 + j) (omega arith))
         (subst (λ w. IsRowsRun record_mode (place_of p.coder (first_rows p.states)) (table_row_bits 0 w) s) (sym (flat_tables r.sets)) run) in
-        let e = sets-deltas-run record_mode r.sets (place_of s.coder (p.states, fresh_rows)) s.states d ok.sets
+        let e = sets-states-run record_mode (keeps_states r.coder_type) r.sets [] (place_of s.coder (p.states, fresh_rows)) s.states d ok.sets
         (before_deltas (first_rows p.states) s.states p.states (with_row-same fresh_states 0 p.states) (first_rows-fresh p.states) t.kept) more in
         let l = last-run scope width height (place_of d.coder e.after.0) r end.0 ok
         (subst (λ w. IsRangeRun record_mode (place_of d.coder w) (fields_bits (back_fields r)) end.0) e.matches.main end.1) in (

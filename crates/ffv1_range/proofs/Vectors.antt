@@ -1,10 +1,11 @@
 -- Outside vectors, computed.
 use Rattle.std.proofs.Common.{◌≡◌, ℕ, zero, suc, Bool, true, false, List, [], ◌∷◌, map, refl, Result, Ok, Err}
-use Rattle.std.specs.Prelude.{pos, negsuc}
+use Rattle.std.specs.Prelude.{pos, negsuc, replicate, Some}
 use Rattle.ffv1_range.specs.Results.{◌>>>◌ as ◌>>=◌}
 use Rattle.ffv1_range.specs.Coding.{header_mode, record_mode, Coder, bit_at, slot_at, start_of}
 use Rattle.ffv1_range.specs.Transitions.{standard_transitions, one_states_with, zero_states_of, default_states}
 use Rattle.ffv1_range.specs.Symbols.{symbol_bits, signed_symbol_bits}
+use Rattle.ffv1_range.specs.InitialStates.{context_states, initial_states, states_of}
 use Rattle.ffv1_range.specs.Forms.{Form}
 use Rattle.ffv1_range.specs.Reading.{symbol_form, exponent_form, low_form}
 use Rattle.ffv1_range.specs.Tables.{half_of, table_entry, set_of}
@@ -75,3 +76,13 @@ entries = refl
 contexts : (set_of (three_runs ∷ three_runs ∷ three_runs ∷ three_runs ∷ three_runs ∷ [])).contexts ≡ 1563
 unfolding three_runs
 contexts = refl
+
+-- a context whose deltas are all 72, and one with 100 after it
+two_contexts : initial_states (replicate 32 72 ∷ replicate 32 100 ∷ []) ≡ replicate 32 200 ∷ replicate 32 44 ∷ []
+unfolding initial_states context_states
+two_contexts = refl
+
+-- a delta of -1
+lower_states : (states_of true (Some (replicate 32 (negsuc 0) ∷ []))).initial ≡ Some (replicate 32 127 ∷ [])
+unfolding initial_states context_states
+lower_states = refl

@@ -1,5 +1,6 @@
 pub mod Results
 pub mod Transitions
+pub mod InitialStates
 pub mod Coding
 pub mod Symbols
 pub mod Reading

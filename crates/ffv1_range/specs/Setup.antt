@@ -1,5 +1,5 @@
 -- A setup: what a configuration record says of its frames (RFC 9043, sections 4.2 and 4.3), for frames of one size.
-use Rattle.std.specs.Prelude.{◌≡◌, ℕ, ◌+◌, ◌-◌, ◌*◌, ◌^◌, ◌<◌, ◌≤◌, ◌==◌, Bool, true, false, List, [], ◌∷◌, ◌++◌, Ok, Option, Some, None, length, map, take, ℤ, unsigned_abs, slice_index_or, if◌then◌else◌, refl}
+use Rattle.std.specs.Prelude.{◌≡◌, ℕ, ◌+◌, ◌-◌, ◌*◌, ◌^◌, ◌<◌, ◌≤◌, ◌==◌, Bool, true, false, List, [], ◌∷◌, ◌++◌, Ok, Option, Some, None, IfSome, length, map, take, ℤ, unsigned_abs, slice_index_or, if◌then◌else◌, refl}
 use Rattle.std.specs.Coded.{Coded, code_by, coded×, coded_ℕ, coded_bool, coded_list}
 use Rattle.std.specs.List.{All, flat_map}
 use Rattle.ffv1_bits.specs.Limits.{greatest_side, most_tiles}
@@ -11,6 +11,7 @@ use Rattle.ffv1_range.specs.Tables.{SetValue, IsTableSet, HaveContexts, set_of, 
 use Rattle.ffv1_range.specs.TableForms.{fresh_row}
 use Rattle.ffv1_range.specs.Scopes.{accepts_coder, accepts_space, accepts_depth, accepts_chroma, accepts_shift, accepts_extra_plane, accepts_ec, delta_count}
 use Rattle.ffv1_range.specs.Transitions.{delta_bytes, transitions_with}
+use Rattle.ffv1_range.specs.InitialStates.{StatesValue, keeps_states, uncoded_states, states_of}
 use Rattle.ffv1_range.specs.declared.scope.Scope.{Scope}
 use Rattle.ffv1_range.specs.declared.scope.Scope.TheVariants.{Profile, Version3}
 use Rattle.ffv1_range.specs.declared.transitions.Transitions.{Transitions}
@@ -223,6 +224,7 @@ pub record RecordingValue : Type 0 where
   pub is_rgb : Bool
   pub depth : ℕ
   pub has_alpha : Bool
+  pub states : List StatesValue
 
 -- 0 bits a sample stand for 8
 abbrev pub recording_value : ℕ → ℕ → RecordFields → RecordingValue
@@ -234,7 +236,16 @@ recording_value width height r =
       is_rgb = r.colorspace_type == 1;
       depth = if r.bits_per_raw_sample == 0 then 8 else r.bits_per_raw_sample;
       has_alpha = r.extra_plane;
+      states = map (λ set. states_of (keeps_states r.coder_type) set.deltas) r.sets;
     }
+
+-- states_coded of the set of this number
+abbrev pub states_coded : RecordingValue → ℕ → Bool
+states_coded recording set = (slice_index_or recording.states set uncoded_states).coded
+
+-- the initial states of its contexts, where they are coded and of use
+abbrev pub initial_of : RecordingValue → ℕ → Option (List (List ℕ))
+initial_of recording set = (slice_index_or recording.states set uncoded_states).initial
 
 -- a width or a height of the profile, in samples
 abbrev pub IsSize : ℕ → Type 0
@@ -286,6 +297,8 @@ pub record IsInVersion3 (r : RecordingValue) : Type 0 where
   pub some_set : 1 ≤ length r.setup.sets
   pub few_sets : length r.setup.sets ≤ 8
   pub contexts : HaveContexts r.setup.sets
+  pub states : length r.states ≡ length r.setup.sets
+  pub initial : (set : ℕ) → IfSome (initial_of r set) (λ states. length states ≡ set_contexts r.setup set)
 
 -- What each setup of the profile keeps.
 pub record IsInProfile (setup : SetupValue) : Type 0 where

@@ -9,7 +9,8 @@ use Rattle.ffv1_range.specs.Coding.{record_mode, start_of}
 use Rattle.ffv1_range.specs.Forms.{Form, ◌>>=◌, giving, accepted, apart, from_place}
 use Rattle.ffv1_range.specs.Fields.{PlanesValue, ShapeValue, TileCounts, versions, shape_fields, tile_counts, last_fields}
 use Rattle.ffv1_range.specs.Tables.{SetValue}
-use Rattle.ffv1_range.specs.TableForms.{fresh_row, set_count, sets_from, deltas_form}
+use Rattle.ffv1_range.specs.TableForms.{fresh_row, set_count, sets_from, states_form}
+use Rattle.ffv1_range.specs.InitialStates.{StatesValue, keeps_states}
 use Rattle.ffv1_range.specs.Setup.{SetupValue, RecordingValue, record_content}
 use Rattle.ffv1_range.specs.declared.scope.Scope.{Scope}
 use Rattle.ffv1_range.specs.declared.scope.Scope.TheVariants.{Profile}
@@ -48,8 +49,8 @@ setup_of micro shape tiles sets ec intra width height =
       height = height;
     }
 
-abbrev pub recording_of : FrontValue → List SetValue → ℕ × ℕ → ℕ → ℕ → RecordingValue
-recording_of front sets last width height =
+abbrev pub recording_of : FrontValue → List SetValue → List StatesValue → ℕ × ℕ → ℕ → ℕ → RecordingValue
+recording_of front sets states last width height =
     record {
       setup = setup_of front.micro front.shape.planes front.tiles sets last.0 last.1 width height;
       coder = front.shape.coder;
@@ -57,17 +58,26 @@ recording_of front sets last width height =
       is_rgb = front.shape.is_rgb;
       depth = front.shape.depth;
       has_alpha = front.shape.has_alpha;
+      states = states;
     }
 
--- The record's fields; after quant_table_set_count memory for the sets is wanted, which is granted or refused.
-abbrev pub record_form : Bool → Scope → ℕ → ℕ → Form (List ℕ) RecordingValue SetupFault
+-- Which growths of memory are granted: that of the sets, and by the number of the set those of the states of its contexts.
+pub record Grants : Type 0 where
+  pub sets : Bool
+  pub states : ℕ → Bool
+
+abbrev pub all_granted : Grants
+all_granted = record { sets = true; states = λ set. true }
+
+-- The record's fields. Memory for the sets is wanted after quant_table_set_count, and for the states of a set after its states_coded.
+abbrev pub record_form : Grants → Scope → ℕ → ℕ → Form (List ℕ) RecordingValue SetupFault
 record_form granted scope width height = do
   front ← front_form scope width height
-  has_memory ← accepted granted Memory
+  has_memory ← accepted granted.sets Memory
   sets ← apart tt (sets_from front.sets [])
-  done ← deltas_form (map (λ set. set.contexts) sets)
+  states ← states_form granted.states (keeps_states front.shape.coder) (map (λ set. set.contexts) sets)
   last ← last_fields scope
-  giving (recording_of front sets last width height)
+  giving (recording_of front sets states last width height)
 
 -- the bytes before the parity, where that passes
 abbrev pub checked_content : List ℕ → Result (List ℕ) SetupFault
@@ -79,7 +89,7 @@ abbrev pub is_size : ℕ → Bool
 is_size n = nat_le 1 n && nat_le n greatest_side
 
 -- what a record says, or the first fault
-abbrev pub record_read : Bool → List ℕ → Scope → ℕ → ℕ → Result RecordingValue SetupFault
+abbrev pub record_read : Grants → List ℕ → Scope → ℕ → ℕ → Result RecordingValue SetupFault
 record_read granted config scope width height =
     checked_content config >>> λ content.
     if is_size width && is_size height
@@ -87,6 +97,6 @@ record_read granted config scope width height =
     >>> λ x. Ok x.0)
     else Err Size
 
--- the setup of a record, or the first fault
+-- the setup of a record, or the first fault; with Golomb-Rice codes only memory for the sets is wanted
 abbrev pub setup_read : Bool → List ℕ → ℕ → ℕ → Result SetupValue SetupFault
-setup_read granted config width height = record_read granted config Profile width height >>> λ r. Ok r.setup
+setup_read granted config width height = record_read (record { sets = granted; states = λ set. true }) config Profile width height >>> λ r. Ok r.setup

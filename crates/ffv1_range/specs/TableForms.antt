@@ -1,11 +1,13 @@
--- Forms of the sets of quantization tables and of the deltas of states in a configuration record (RFC 9043, sections 4.2 and 4.3).
-use Rattle.std.specs.Prelude.{ℕ, zero, suc, ◌+◌, ◌/◌, List, [], ◌∷◌, ◌++◌, replicate, nat_le, ℤ, slice_index_or, slice_set, if◌then◌else◌}
+-- Forms of the sets of quantization tables and of the initial states in a configuration record (RFC 9043, sections 4.2 and 4.3).
+use Rattle.std.specs.Prelude.{ℕ, zero, suc, ◌+◌, ◌/◌, Bool, ◌||◌, not, List, [], ◌∷◌, ◌++◌, length, replicate, nat_le, ℤ, slice_index_or, slice_set, if◌then◌else◌}
 use Rattle.ffv1_range.specs.Forms.{Form, ◌>>=◌, giving, accepted, lifted, on, apart}
 use Rattle.ffv1_range.specs.Reading.{signed_symbol_form}
 use Rattle.ffv1_range.specs.Fields.{number, flag}
+use Rattle.ffv1_range.specs.Transitions.{delta_byte}
+use Rattle.ffv1_range.specs.InitialStates.{StatesValue, uncoded_states, coded_states}
 use Rattle.ffv1_range.specs.Tables.{SetValue, half_of, scale_after}
 use Rattle.ffv1_range.specs.declared.fault.SetupFault.{SetupFault}
-use Rattle.ffv1_range.specs.declared.fault.SetupFault.TheVariants.{Range, TableCount, TableRun, Contexts}
+use Rattle.ffv1_range.specs.declared.fault.SetupFault.TheVariants.{Range, TableCount, TableRun, Contexts, Memory}
 
 -- a row of states as it is before its first bit
 abbrev pub fresh_row : List ℕ
@@ -51,15 +53,15 @@ set_count = do
 abbrev pub delta_form : ℕ → Form (List (List ℕ)) ℤ SetupFault
 delta_form k = on (λ rows. slice_index_or rows k []) (λ rows row. slice_set rows k row) (lifted Range signed_symbol_form)
 
--- n deltas of a context, the first of number k and at the row of that number; they are dropped
-unfoldable pub context_deltas : ℕ → ℕ → Form (List (List ℕ)) (Unit {0}) SetupFault
-context_deltas zero k = giving tt
-context_deltas (suc n) k = delta_form k >>= λ delta. context_deltas n (k + 1)
+-- n more deltas of a context, the first of number k and at the row of that number, each modulo 256, after those that were read
+unfoldable pub context_deltas : ℕ → ℕ → List ℕ → Form (List (List ℕ)) (List ℕ) SetupFault
+context_deltas zero k done = giving done
+context_deltas (suc n) k done = delta_form k >>= λ delta. context_deltas n (k + 1) (done ++ delta_byte delta ∷ [])
 
--- the 32 deltas of each of n contexts
-unfoldable pub contexts_deltas : ℕ → Form (List (List ℕ)) (Unit {0}) SetupFault
-contexts_deltas zero = giving tt
-contexts_deltas (suc n) = context_deltas 32 0 >>= λ done. contexts_deltas n
+-- the 32 deltas of each of n more contexts, after those that were read
+unfoldable pub contexts_deltas : ℕ → List (List ℕ) → Form (List (List ℕ)) (List (List ℕ)) SetupFault
+contexts_deltas zero done = giving done
+contexts_deltas (suc n) done = context_deltas 32 0 [] >>= λ deltas. contexts_deltas n (done ++ deltas ∷ [])
 
 -- The record's row of states, and the 32 rows of its deltas.
 abbrev pub TwoRows : Type 0
@@ -77,15 +79,24 @@ delta_rows rows = rows.1
 abbrev pub with_delta_rows : TwoRows → List (List ℕ) → TwoRows
 with_delta_rows rows deltas = (rows.0, deltas)
 
--- states_coded of a set with this number of contexts, and its deltas where it is 1
-abbrev pub set_deltas : ℕ → Form TwoRows (Unit {0}) SetupFault
-set_deltas contexts =
-    on record_row with_record_row flag >>= λ coded.
-    if coded then on delta_rows with_delta_rows (contexts_deltas contexts) else giving tt
+-- the deltas of a set with this number of contexts, and the states that they give, for which memory is granted or refused where they are kept
+abbrev pub kept_states : Bool → Bool → ℕ → Form TwoRows StatesValue SetupFault
+kept_states granted keeps contexts = do
+  has_memory ← accepted (granted || not keeps) Memory
+  deltas ← on delta_rows with_delta_rows (contexts_deltas contexts [])
+  giving (coded_states keeps deltas)
 
-unfoldable pub sets_deltas : List ℕ → Form TwoRows (Unit {0}) SetupFault
-sets_deltas [] = giving tt
-sets_deltas (contexts ∷ sets) = set_deltas contexts >>= λ done. sets_deltas sets
+-- states_coded of a set, and its deltas where it is 1
+abbrev pub set_states : Bool → Bool → ℕ → Form TwoRows StatesValue SetupFault
+set_states granted keeps contexts =
+    on record_row with_record_row flag >>= λ coded.
+    if coded then kept_states granted keeps contexts else giving uncoded_states
+
+-- the states of more sets, given by their contexts, after those that were read; memory is granted or refused by the number of the set
+unfoldable pub sets_states : (ℕ → Bool) → Bool → List ℕ → List StatesValue → Form TwoRows (List StatesValue) SetupFault
+sets_states granted keeps [] done = giving done
+sets_states granted keeps (contexts ∷ sets) done =
+    set_states (granted (length done)) keeps contexts >>= λ states. sets_states granted keeps sets (done ++ states ∷ [])
 
 -- the rows of the deltas as they are before the first
 abbrev pub fresh_rows : List (List ℕ)
@@ -98,5 +109,5 @@ abbrev pub record_row_after : List ℕ → TwoRows → List ℕ
 record_row_after row rows = rows.0
 
 -- the deltas' rows start once a record, and are kept over its sets
-abbrev pub deltas_form : List ℕ → Form (List ℕ) (Unit {0}) SetupFault
-deltas_form contexts = on beside_fresh_rows record_row_after (sets_deltas contexts)
+abbrev pub states_form : (ℕ → Bool) → Bool → List ℕ → Form (List ℕ) (List StatesValue) SetupFault
+states_form granted keeps contexts = on beside_fresh_rows record_row_after (sets_states granted keeps contexts [])

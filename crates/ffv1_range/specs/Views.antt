@@ -1,9 +1,10 @@
 -- The code's own values as those of the definitions.
-use Rattle.std.specs.Prelude.{ℕ, List, map, ◌++◌, replicate}
+use Rattle.std.specs.Prelude.{ℕ, true, List, map, ◌++◌, replicate, Some, None}
 use Rattle.ffv1_range.specs.Coding.{Coder}
 use Rattle.ffv1_range.specs.Setup.{RecordingValue}
 use Rattle.ffv1_range.specs.SetupForms.{recording_of}
 use Rattle.ffv1_range.specs.Fields.{PlanesValue, ShapeValue, TileCounts}
+use Rattle.ffv1_range.specs.InitialStates.{StatesValue, uncoded_states}
 use Rattle.ffv1_range.specs.Tables.{SetValue}
 use Rattle.ffv1_range.specs.Tiles.{GridValue}
 use Rattle.ffv1_range.specs.declared.coding.Interval.{Interval}
@@ -11,6 +12,8 @@ use Rattle.ffv1_range.specs.declared.fields.Counts.{Counts}
 use Rattle.ffv1_range.specs.declared.fields.Planes.{Planes}
 use Rattle.ffv1_range.specs.declared.fields.Shape.{Shape}
 use Rattle.ffv1_range.specs.declared.grid.Grid.TheInside.{Inside}
+use Rattle.ffv1_range.specs.declared.deltas.SetStates.{SetStates}
+use Rattle.ffv1_range.specs.declared.deltas.SetStates.TheVariants.{Uncoded, Dropped, Kept}
 use Rattle.ffv1_range.specs.declared.tables.TableSet.{TableSet}
 
 abbrev pub coder_of : Interval → Coder
@@ -39,6 +42,14 @@ set_value x = record { halves = x.halves; contexts = x.contexts }
 abbrev pub set_values : List TableSet → List SetValue
 set_values sets = map set_value sets
 
+abbrev pub states_value : SetStates → StatesValue
+states_value Uncoded = uncoded_states
+states_value Dropped = record { coded = true; initial = None }
+states_value (Kept states) = record { coded = true; initial = Some states.items }
+
+abbrev pub states_values : List SetStates → List StatesValue
+states_values sets = map states_value sets
+
 abbrev pub grid_value : Inside → GridValue
 grid_value g =
     record { width = g.width; height = g.height; across = g.across; down = g.down; has_chroma = g.has_chroma; shift_h = g.shift_h; shift_v = g.shift_v }
@@ -49,6 +60,6 @@ grid_fields g =
     record { width = g.width; height = g.height; across = g.across; down = g.down; has_chroma = g.has_chroma; shift_h = g.shift_h; shift_v = g.shift_v }
 
 -- a recording from the code's fields
-abbrev pub recording_fields : ℕ → Shape → Counts → List TableSet → ℕ → ℕ → ℕ → ℕ → RecordingValue
-recording_fields micro shape counts sets ec intra width height =
-    recording_of (record { micro = micro; shape = shape_value shape; tiles = counts_of counts; sets = 0 }) (set_values sets) (ec, intra) width height
+abbrev pub recording_fields : ℕ → Shape → Counts → List TableSet → List SetStates → ℕ → ℕ → ℕ → ℕ → RecordingValue
+recording_fields micro shape counts sets states ec intra width height =
+    recording_of (record { micro = micro; shape = shape_value shape; tiles = counts_of counts; sets = 0 }) (set_values sets) (states_values states) (ec, intra) width height

@@ -1,56 +1,92 @@
-//! The deltas of initial states (RFC 9043, section 4.2): for each set states_coded, and where it is 1 a signed symbol
+//! Initial states (RFC 9043, sections 4.2.14 and 4.2.15): for each set states_coded, and where it is 1 a signed symbol
 //! for each of the 32 states of each context. With Golomb-Rice codes they are read and dropped.
 //!
 //! Delta number k is read at row k of 32 rows, which start once a record and are kept over its sets.
-ghost use Rattle.std.specs.Prelude.{◌≡◌, ◌≤◌, ◌<◌, ℕ, [], IsOk, length, slice_index_or};
-ghost use Rattle.ffv1_range.specs.Forms.{ReadsForm};
-ghost use Rattle.ffv1_range.specs.TableForms.{delta_form, context_deltas, contexts_deltas, set_deltas, sets_deltas, deltas_form};
+ghost use Rattle.std.specs.Prelude.{◌≡◌, ◌≤◌, ◌<◌, ℕ, Bool, true, List, [], IsOk, IfOk, IfErr, Ok, Err, length, slice_index_or, vec_capacity};
+ghost use Rattle.ffv1_range.specs.Forms.{ReadsForm, form_at};
+ghost use Rattle.ffv1_range.specs.InitialStates.{initial_states};
+ghost use Rattle.ffv1_range.specs.TableForms.{delta_form, context_deltas, set_states, states_form};
+ghost use Rattle.ffv1_range.specs.Transitions.{delta_byte};
+ghost use Rattle.ffv1_range.specs.Views.{states_value, states_values};
+ghost use Rattle.ffv1_range.specs.Inner.Forms.{ReadsFormAs, ReadsTo};
+ghost use Rattle.ffv1_range.specs.Inner.TableForms.{ReadsDeltas, states_with, each_set};
 ghost use Rattle.ffv1_range.specs.Inner.Views.{contexts_of};
 ghost use Rattle.ffv1_range.specs.declared.fault.SetupFault.TheVariants.{Range};
 
 use crate::coding::RangeDecoder;
 use crate::fault::SetupFault;
+use crate::fields::delta_byte;
 use crate::tables::TableSet;
+use std::alloc::Global;
 
-/// Reads the deltas of all sets.
-pub(crate) fn read_deltas(
+/// The initial states of a set's contexts.
+#[derive(Drop)]
+pub(crate) enum SetStates {
+    /// None are coded: all are 128.
+    Uncoded,
+    /// They are coded, and dropped.
+    Dropped,
+    /// The 32 states of each context.
+    Kept(Vec<[u8; 32]>),
+}
+
+/// Reads the initial states of all sets into a vector with room for them, and keeps those that are coded or drops them.
+///
+/// `Memory` stands straight after the states_coded of a set whose states are kept.
+pub(crate) fn read_initial_states(
+    alloc: Global,
     decoder: &mut RangeDecoder<'_>,
-    states: &mut [u8; 32],
+    record_row: &mut [u8; 32],
     sets: &[TableSet],
+    keeps: bool,
+    states: &mut Vec<SetStates>,
 ) -> Result<(), SetupFault>
-    requires { IsOk decoder.old.at }
-    ensures { ReadsForm Range (deltas_form (contexts_of sets.now)) decoder.old states.old result decoder.new states.new }
+    requires alive { IsOk decoder.old.at }
+    requires empty { states.old.items ≡ [] }
+    requires room { length sets.now ≤ vec_capacity states.old }
+    ensures read { IfOk result (λ done. ReadsTo Range states_values (states_form each_set keeps (contexts_of sets.now)) decoder.old record_row.old (Ok done) decoder.new record_row.new states.new.items) }
+    ensures refused { IfErr result (λ fault. (granted : ℕ → Bool) × (form_at Range (states_form granted keeps (contexts_of sets.now)) decoder.old record_row.old ≡ Err fault)) }
 {
     let mut rows = [[128; 32]; 32];
     for set in sets {
-        read_set_deltas(decoder, states, &mut rows, set.contexts)?;
+        let coded = read_set_states(alloc, decoder, record_row, &mut rows, set.contexts, keeps)?;
+        states.push_reserved(coded);
     }
     Ok(())
 }
 
-/// Reads states_coded of one set, and its deltas where it is 1.
-fn read_set_deltas(
+/// Reads states_coded of one set, and its states where it is 1.
+fn read_set_states(
+    alloc: Global,
     decoder: &mut RangeDecoder<'_>,
-    states: &mut [u8; 32],
+    record_row: &mut [u8; 32],
     rows: &mut [[u8; 32]; 32],
     contexts: u32,
-) -> Result<(), SetupFault>
-    ensures { ReadsForm Range (set_deltas contexts) decoder.old (states.old, rows.old) result decoder.new (states.new, rows.new) }
+    keeps: bool,
+) -> Result<SetStates, SetupFault>
+    ensures read { IfOk result (λ states. ReadsFormAs Range states_value (set_states true keeps contexts) decoder.old (record_row.old, rows.old) (Ok states) decoder.new (record_row.new, rows.new)) }
+    ensures refused { IfErr result (λ fault. (granted : Bool) × (form_at Range (set_states granted keeps contexts) decoder.old (record_row.old, rows.old) ≡ Err fault)) }
 {
-    if decoder.slot(states, 0)? {
-        return read_contexts_deltas(decoder, rows, contexts);
+    if !decoder.slot(record_row, 0)? {
+        return Ok(SetStates::Uncoded);
     }
-    Ok(())
+    if !keeps {
+        drop_states(decoder, rows, contexts)?;
+        return Ok(SetStates::Dropped);
+    }
+    let mut states = Vec::with_capacity(alloc, contexts as usize)?;
+    read_states(decoder, rows, contexts, &mut states)?;
+    Ok(SetStates::Kept(states))
 }
 
-/// Reads the deltas of a number of contexts.
-fn read_contexts_deltas(
+/// Reads the deltas of a number of contexts, and keeps nothing of them.
+fn drop_states(
     decoder: &mut RangeDecoder<'_>,
     rows: &mut [[u8; 32]; 32],
     contexts: u32,
 ) -> Result<(), SetupFault>
     requires { IsOk decoder.old.at }
-    ensures { ReadsForm Range (contexts_deltas contexts) decoder.old rows.old result decoder.new rows.new }
+    ensures { ReadsDeltas contexts (λ deltas. Unit {0}) decoder.old rows.old result decoder.new rows.new }
 {
     for _ in 0..contexts {
         read_context_deltas(decoder, rows)?;
@@ -58,17 +94,51 @@ fn read_contexts_deltas(
     Ok(())
 }
 
-/// Reads the 32 deltas of one context.
+/// Reads the deltas of a number of contexts, and pushes the states that they give to an empty vector with room for them.
+fn read_states(
+    decoder: &mut RangeDecoder<'_>,
+    rows: &mut [[u8; 32]; 32],
+    contexts: u32,
+    states: &mut Vec<[u8; 32]>,
+) -> Result<(), SetupFault>
+    requires alive { IsOk decoder.old.at }
+    requires empty { states.old.items ≡ [] }
+    requires room { contexts ≤ vec_capacity states.old }
+    ensures { ReadsDeltas contexts (λ deltas. states.new.items ≡ initial_states deltas) decoder.old rows.old result decoder.new rows.new }
+{
+    let mut last = [128; 32];
+    for _ in 0..contexts {
+        let deltas = read_context_deltas(decoder, rows)?;
+        last = states_with(&last, &deltas);
+        states.push_reserved(last);
+    }
+    Ok(())
+}
+
+/// The states of a context, from those of the context before it.
+fn states_with(before: &[u8; 32], deltas: &[u8; 32]) -> [u8; 32]
+    ensures { result ≡ states_with before.now deltas.now }
+{
+    let mut states = [0; 32];
+    for k in 0..32usize {
+        states[k] = before[k].wrapping_add(deltas[k]);
+    }
+    states
+}
+
+/// Reads the 32 deltas of one context, each modulo 256.
 fn read_context_deltas(
     decoder: &mut RangeDecoder<'_>,
     rows: &mut [[u8; 32]; 32],
-) -> Result<(), SetupFault>
-    ensures { ReadsForm Range (context_deltas 32 0) decoder.old rows.old result decoder.new rows.new }
+) -> Result<[u8; 32], SetupFault>
+    ensures { ReadsForm Range (context_deltas 32 0 []) decoder.old rows.old result decoder.new rows.new }
 {
+    let mut deltas = [0; 32];
     for k in 0..32usize {
-        read_delta(decoder, rows, k)?;
+        let delta = read_delta(decoder, rows, k)?;
+        deltas[k] = delta_byte(delta);
     }
-    Ok(())
+    Ok(deltas)
 }
 
 /// Reads the delta of number k.

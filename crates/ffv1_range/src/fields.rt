@@ -117,7 +117,7 @@ fn read_transition_deltas(
 }
 
 /// A delta modulo 256.
-fn delta_byte(delta: i64) -> u8
+pub(crate) fn delta_byte(delta: i64) -> u8
     ensures { result ≡ delta_byte delta }
 {
     let magnitude = (delta.unsigned_abs() % 256) as u8;

@@ -2,17 +2,18 @@
 //!
 //! A `Recording` is of version 3 with micro_version 4 or greater: any coder_type, gray, Y Cb Cr or RGB of 8 to 16 bits, chroma shifts of at
 //! most 4, with alpha or without, at most `MOST_TILES` tiles, and 1 to 8 sets of quantization tables.
-ghost use Rattle.std.specs.Prelude.{◌≡◌, ◌+◌, ◌<◌, ◌⊎◌, Bool, true, length, MatchResult, IfOk, IfErr, Err, if◌then◌else◌};
-ghost use Rattle.ffv1_range.specs.Setup.{RecordingValue, set_contexts, set_entry, IsScopedRecord, IsRecordingOf, IsInVersion3, RecordingIsOne, RecordingIsInVersion3};
+ghost use Rattle.std.specs.Prelude.{◌≡◌, ◌+◌, ◌<◌, ◌⊎◌, Bool, true, length, MatchResult, IfOk, IfErr, IfSome, Err, if◌then◌else◌};
+ghost use Rattle.ffv1_range.specs.Setup.{RecordingValue, set_contexts, set_entry, states_coded, initial_of, IsScopedRecord, IsRecordingOf, IsInVersion3, RecordingIsOne, RecordingIsInVersion3};
+ghost use Rattle.std.specs.Option.{option_copied};
 ghost use Rattle.ffv1_range.specs.SetupFaults.{FirstRecordingFault};
-ghost use Rattle.ffv1_range.specs.SetupForms.{checked_content, is_size, record_read};
+ghost use Rattle.ffv1_range.specs.SetupForms.{Grants, all_granted, checked_content, is_size, record_read};
 ghost use Rattle.ffv1_range.specs.Tiles.{grid_of};
 ghost use Rattle.ffv1_range.specs.Inner.Forms.{Gives};
 ghost use Rattle.ffv1_range.specs.declared.scope.Scope.TheVariants.{Version3};
 ghost use Rattle.ffv1_range.specs.declared.fault.SetupFault.TheVariants.{Memory};
 
 use crate::coding::RangeDecoder;
-use crate::deltas::read_deltas;
+use crate::deltas::{SetStates, read_initial_states};
 use crate::fault::SetupFault;
 use crate::fields::{Counts, Shape, read_front, read_last_fields};
 use crate::grid::Grid;
@@ -30,6 +31,7 @@ pub struct Recording {
     pub(crate) shape: Shape,
     pub(crate) counts: Counts,
     pub(crate) sets: Vec<TableSet>,
+    pub(crate) states: Vec<SetStates>,
     pub(crate) ec: u32,
     pub(crate) intra: u32,
     pub(crate) width: u32,
@@ -42,9 +44,9 @@ impl Model for Recording {
 
     ghost Value = { RecordingValue };
 
-    ghost view = { λ x. recording_fields x.micro x.shape x.counts x.sets.items x.ec x.intra x.width x.height };
+    ghost view = { λ x. recording_fields x.micro x.shape x.counts x.sets.items x.states.items x.ec x.intra x.width x.height };
 
-    ghost invariant = { λ x. IsInVersion3 (recording_fields x.micro x.shape x.counts x.sets.items x.ec x.intra x.width x.height) };
+    ghost invariant = { λ x. IsInVersion3 (recording_fields x.micro x.shape x.counts x.sets.items x.states.items x.ec x.intra x.width x.height) };
 }
 
 impl Recording {
@@ -53,7 +55,7 @@ impl Recording {
     ///
     /// Refused with the first of its faults: `TooShort`, `Parity`, `Size`, then those of the fields in the order in which they are read,
     /// each as soon as its value was read; those of the grid after both of its numbers, that of the contexts after each table of a set.
-    /// `Memory` stands between the number of sets and the first set.
+    /// `Memory` stands between the number of sets and the first set, and with coder_type 1 and 2 straight after each states_coded that is 1.
     pub fn read(
         alloc: Global,
         config: &[u8],
@@ -69,8 +71,8 @@ impl Recording {
         // A refusal is the first that reading meets, or Memory ..
         ensures first { IfErr result (λ fault. (fault ≡ Memory) ⊎ FirstRecordingFault config.now width height fault) }
 
-        // .. which stands after the fields before the sets.
-        ensures fault { IfErr result (λ fault. (granted : Bool) × (record_read granted config.now Version3 width height ≡ Err fault)) }
+        // .. which stands after the fields before the sets, or after a states_coded.
+        ensures fault { IfErr result (λ fault. (granted : Grants) × (record_read granted config.now Version3 width height ≡ Err fault)) }
     {
         read_scoped(alloc, Scope::Version3, config, width, height)
     }
@@ -181,6 +183,27 @@ impl Recording {
         self.sets[set].entry(table, index)
     }
 
+    /// states_coded of a set: whether the record has initial states of its contexts.
+    pub fn states_coded(&self, set: usize) -> bool
+        requires { set < length self.now.setup.sets }
+        ensures { result ≡ states_coded self.now set }
+    {
+        !matches!(&self.states[set], SetStates::Uncoded)
+    }
+
+    /// The initial states of a set, 32 for each of its contexts (RFC 9043, section 4.2.15). `None` with coder_type 0, and where none are
+    /// coded: all are 128 then.
+    pub fn initial(&self, set: usize) -> Option<&[[u8; 32]]>
+        requires { set < length self.now.setup.sets }
+        ensures states { option_copied result ≡ initial_of self.now set }
+        ensures each { IfSome result (λ states. length states.now ≡ set_contexts self.now.setup set) }
+    {
+        match &self.states[set] {
+            SetStates::Kept(states) => Some(states),
+            _ => None,
+        }
+    }
+
     /// ec: 1 where each slice has its parity, and 0 where none has.
     pub fn ec(&self) -> u32
         ensures { result ≡ self.now.setup.ec }
@@ -227,8 +250,8 @@ pub(crate) fn read_scoped(
 ) -> Result<Recording, SetupFault>
     ensures found { IfOk result (IsScopedRecord config.now scope width height) }
     ensures only { (r : RecordingValue) → IsScopedRecord config.now scope width height r → MatchResult result (λ read. read ≡ r) (λ fault. fault ≡ Memory) }
-    ensures first { IfErr result (λ fault. (fault ≡ Memory) ⊎ (record_read true config.now scope width height ≡ Err fault)) }
-    ensures fault { IfErr result (λ fault. (granted : Bool) × (record_read granted config.now scope width height ≡ Err fault)) }
+    ensures first { IfErr result (λ fault. (fault ≡ Memory) ⊎ (record_read all_granted config.now scope width height ≡ Err fault)) }
+    ensures fault { IfErr result (λ fault. (granted : Grants) × (record_read granted config.now scope width height ≡ Err fault)) }
 {
     let content = checked_content(config)?;
     if !is_size(width) || !is_size(height) {
@@ -238,14 +261,17 @@ pub(crate) fn read_scoped(
     let mut states = [128; 32];
     let front = read_front(scope, &mut decoder, &mut states, width, height)?;
     let mut sets = Vec::with_capacity(alloc, front.sets as usize)?;
+    let mut initial = Vec::with_capacity(alloc, front.sets as usize)?;
     read_sets(&mut decoder, &mut sets, front.sets)?;
-    read_deltas(&mut decoder, &mut states, &sets)?;
+    let keeps = front.shape.coder != 0;
+    read_initial_states(alloc, &mut decoder, &mut states, &sets, keeps, &mut initial)?;
     let (ec, intra) = read_last_fields(scope, &mut decoder, &mut states)?;
     Ok(Recording {
         micro: front.micro,
         shape: front.shape,
         counts: front.counts,
         sets,
+        states: initial,
         ec,
         intra,
         width,

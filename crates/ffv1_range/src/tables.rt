@@ -2,7 +2,7 @@
 //! row of states of its own; its second half mirrors the first with the other sign.
 //!
 //! The lengths of `Runs` come to 128. The halves of a `TableSet` hold its entries 0 to 127 at their scale.
-ghost use Rattle.std.specs.Prelude.{◌≡◌, ◌≤◌, ◌<◌, ℕ, [], length, slice_index, slice_index_or, sum, vec_capacity};
+ghost use Rattle.std.specs.Prelude.{◌≡◌, ◌≤◌, ◌<◌, ℕ, [], IfOk, length, slice_index, slice_index_or, sum, vec_capacity};
 ghost use Rattle.ffv1_range.specs.Forms.{ReadsForm};
 ghost use Rattle.ffv1_range.specs.Inner.Forms.{ReadsFormAs, ReadsTo};
 ghost use Rattle.ffv1_range.specs.Views.{set_value, set_values};
@@ -147,6 +147,7 @@ pub(crate) fn read_sets(
     requires empty { sets.old.items ≡ [] }
     requires room { count ≤ vec_capacity sets.old }
     ensures read { ReadsTo Range set_values (sets_from count []) decoder.old tt result decoder.new tt sets.new.items }
+    ensures size { IfOk result (λ done. length sets.new.items ≡ count) }
 {
     for _ in 0..count {
         let set = read_set(decoder)?;

@@ -1,9 +1,10 @@
-use Rattle.std.proofs.Common.{true, false, sym, ap, ◌∙◌}
+use Rattle.std.proofs.Common.{refl, sym, ap, ◌∙◌}
 use Rattle.std.proofs.lemmas.Result.{err_from_is_err_and}
+use Rattle.ffv1_range.specs.SetupForms.{all_granted}
 use Rattle.ffv1_range.specs.Views.{set_values}
 use Rattle.ffv1_range.specs.Inner.Views.{contexts_of, front_value}
 use Rattle.ffv1_range.specs.declared.fault.SetupFault.TheVariants.{Range, Size}
-use Rattle.ffv1_range.proofs.SetupSteps.{not_checked, width_refused, height_refused, start_refused, front_fails, memory_refused, sets_fail, deltas_fail, last_fails, all_read, contexts_of-values}
+use Rattle.ffv1_range.proofs.SetupSteps.{not_checked, width_refused, height_refused, start_refused, front_fails, none_granted, states_granted, memory_refused, sets_fail, states_fail, last_fails, all_read, contexts_of-values}
 use Rattle.ffv1_range.proofs.SetupLaws.{returned, refused_by, read_in_version_3, refused_in, read_in}
 use Rattle.ffv1_range.proofs.recording.read_scoped.Goals as goal
 use Rattle.ffv1_range.proofs.recording.read_scoped.Goals.{then-not-is_size-via-then-not-is_size, then-not-is_size-via-else-not-is_size+then-not-is_size-2}
@@ -12,18 +13,18 @@ pub returns-in_err-content : goal.returns-in_err-content
 returns-in_err-content c =
     let p = err_from_is_err_and c.from_residual.result c.from_residual.ensures.1 in
     rw (p.1, p.2)
-    (refused_by c.args.config.now c.args.scope c.args.width c.args.height true c.in_err-content.field-0.0
-    (not_checked true c.args.config.now c.args.scope c.args.width c.args.height c.in_err-content.field-0.0 c.in_err-content.ensures))
+    (refused_by c.args.config.now c.args.scope c.args.width c.args.height all_granted c.in_err-content.field-0.0
+    (not_checked all_granted c.args.config.now c.args.scope c.args.width c.args.height c.in_err-content.field-0.0 c.in_err-content.ensures))
 
 pub returns-then-not-is_size : goal.returns-then-not-is_size
 returns-then-not-is_size c =
-    refused_by c.args.config.now c.args.scope c.args.width c.args.height true Size
+    refused_by c.args.config.now c.args.scope c.args.width c.args.height all_granted Size
     (elim c.then-not-is_size.branch [
       | then-not-is_size-via-then-not-is_size w ↦
-          width_refused true c.args.config.now c.in_ok-content.content.now c.args.scope c.args.width c.args.height c.in_ok-content.ensures
+          width_refused all_granted c.args.config.now c.in_ok-content.content.now c.args.scope c.args.width c.args.height c.in_ok-content.ensures
           (sym w.if-not-is_size.ensures)
       | then-not-is_size-via-else-not-is_size+then-not-is_size-2 w ↦
-          height_refused true c.args.config.now c.in_ok-content.content.now c.args.scope c.args.width c.args.height c.in_ok-content.ensures
+          height_refused all_granted c.args.config.now c.in_ok-content.content.now c.args.scope c.args.width c.args.height c.in_ok-content.ensures
           (sym w.if-not-is_size.ensures)
           (sym w.if-not-is_size-2.ensures)
     ])
@@ -32,61 +33,73 @@ pub returns-in_err-decoder : goal.returns-in_err-decoder
 returns-in_err-decoder c =
     let p = err_from_is_err_and c.from_residual-in_err-decoder.result c.from_residual-in_err-decoder.ensures.1 in
     rw (p.1, p.2)
-    (refused_by c.args.config.now c.args.scope c.args.width c.args.height true (Range c.in_err-decoder.field-0.0)
-    (start_refused true c.args.config.now c.in_ok-content.content.now c.args.scope c.args.width c.args.height c.in_err-decoder.field-0.0 c.in_ok-content.ensures
+    (refused_by c.args.config.now c.args.scope c.args.width c.args.height all_granted (Range c.in_err-decoder.field-0.0)
+    (start_refused all_granted c.args.config.now c.in_ok-content.content.now c.args.scope c.args.width c.args.height c.in_err-decoder.field-0.0 c.in_ok-content.ensures
     (sym c.if-not-is_size.ensures) (sym c.if-not-is_size-2.ensures) c.in_err-decoder.ensures))
 
 pub returns-in_err-front : goal.returns-in_err-front
 returns-in_err-front c =
     let p = err_from_is_err_and c.from_residual-in_err-front.result c.from_residual-in_err-front.ensures.1 in
     rw (p.1, p.2)
-    (refused_in _ _ _ _ _ _ c.in_ok-content.ensures c.if-not-is_size.ensures c.if-not-is_size-2.ensures c.in_ok-decoder.ensures true _
-    (front_fails true _ _ _ _ c.in_ok-decoder.decoder _ c.in_err-front.ensures.read))
+    (refused_in _ _ _ _ _ _ c.in_ok-content.ensures c.if-not-is_size.ensures c.if-not-is_size-2.ensures c.in_ok-decoder.ensures all_granted _
+    (front_fails all_granted _ _ _ _ c.in_ok-decoder.decoder _ c.in_err-front.ensures.read))
 
 pub returns-in_err-sets : goal.returns-in_err-sets
 returns-in_err-sets c =
     let p = err_from_is_err_and c.from_residual-in_err-sets.result c.from_residual-in_err-sets.ensures.1 in
     rw (p.1, p.2)
-    (refused_in _ _ _ _ _ _ c.in_ok-content.ensures c.if-not-is_size.ensures c.if-not-is_size-2.ensures c.in_ok-decoder.ensures false _
+    (refused_in _ _ _ _ _ _ c.in_ok-content.ensures c.if-not-is_size.ensures c.if-not-is_size-2.ensures c.in_ok-decoder.ensures none_granted _
+    (memory_refused _ _ _ (front_value c.in_ok-front.front) _ _ _ _ c.in_ok-front.ensures.read))
+
+pub returns-in_err-initial : goal.returns-in_err-initial
+returns-in_err-initial c =
+    let p = err_from_is_err_and c.from_residual-in_err-initial.result c.from_residual-in_err-initial.ensures.1 in
+    rw (p.1, p.2)
+    (refused_in _ _ _ _ _ _ c.in_ok-content.ensures c.if-not-is_size.ensures c.if-not-is_size-2.ensures c.in_ok-decoder.ensures none_granted _
     (memory_refused _ _ _ (front_value c.in_ok-front.front) _ _ _ _ c.in_ok-front.ensures.read))
 
 pub returns-in_err-read_sets : goal.returns-in_err-read_sets
 returns-in_err-read_sets c =
     let p = err_from_is_err_and c.from_residual-in_err-read_sets.result c.from_residual-in_err-read_sets.ensures.1 in
     rw (p.1, p.2)
-    (refused_in _ _ _ _ _ _ c.in_ok-content.ensures c.if-not-is_size.ensures c.if-not-is_size-2.ensures c.in_ok-decoder.ensures true _
+    (refused_in _ _ _ _ _ _ c.in_ok-content.ensures c.if-not-is_size.ensures c.if-not-is_size-2.ensures c.in_ok-decoder.ensures all_granted _
     (sets_fail _ _ _ (front_value c.in_ok-front.front) _ _ _ _ _ c.in_ok-front.ensures.read c.in_err-read_sets.ensures.read))
 
-pub returns-in_err-read_deltas : goal.returns-in_err-read_deltas
-returns-in_err-read_deltas c =
-    let p = err_from_is_err_and c.from_residual-in_err-read_deltas.result c.from_residual-in_err-read_deltas.ensures.1 in
+pub returns-in_err-read_initial_states : goal.returns-in_err-read_initial_states
+returns-in_err-read_initial_states c =
+    let p = err_from_is_err_and c.from_residual-in_err-read_initial_states.result c.from_residual-in_err-read_initial_states.ensures.1 in
     rw (p.1, p.2)
-    (refused_in _ _ _ _ _ _ c.in_ok-content.ensures c.if-not-is_size.ensures c.if-not-is_size-2.ensures c.in_ok-decoder.ensures true _
-    (deltas_fail _ _ _ (front_value c.in_ok-front.front) (set_values c.read_sets.new.sets.items) _ _ _ _ _ _ _
+    (refused_in _ _ _ _ _ _ c.in_ok-content.ensures c.if-not-is_size.ensures c.if-not-is_size-2.ensures c.in_ok-decoder.ensures
+    (states_granted c.in_err-read_initial_states.ensures.refused.0) _
+    (states_fail c.in_err-read_initial_states.ensures.refused.0 _ _ _ (front_value c.in_ok-front.front) (set_values c.read_sets.new.sets.items) _ _ _ _ _ _ _ _
+    refl
     (ap contexts_of c.deref.ensures.value ∙ contexts_of-values c.read_sets.new.sets.items)
-    c.in_ok-front.ensures.read c.in_ok-read_sets.ensures.read c.in_err-read_deltas.ensures))
+    c.in_ok-front.ensures.read c.in_ok-read_sets.ensures.read c.in_err-read_initial_states.ensures.refused.1))
 
 pub returns-in_err-ec : goal.returns-in_err-ec
 returns-in_err-ec c =
     let p = err_from_is_err_and c.from_residual-in_err-ec.result c.from_residual-in_err-ec.ensures.1 in
     rw (p.1, p.2)
-    (refused_in _ _ _ _ _ _ c.in_ok-content.ensures c.if-not-is_size.ensures c.if-not-is_size-2.ensures c.in_ok-decoder.ensures true _
-    (last_fails _ _ _ (front_value c.in_ok-front.front) (set_values c.read_sets.new.sets.items) _ _ _ _ _ _ _ _ _
+    (refused_in _ _ _ _ _ _ c.in_ok-content.ensures c.if-not-is_size.ensures c.if-not-is_size-2.ensures c.in_ok-decoder.ensures all_granted _
+    (last_fails _ _ _ (front_value c.in_ok-front.front) (set_values c.read_sets.new.sets.items) _ _ _ _ _ _ _ _ _ _ _
+    refl
     (ap contexts_of c.deref.ensures.value ∙ contexts_of-values c.read_sets.new.sets.items)
-    c.in_ok-front.ensures.read c.in_ok-read_sets.ensures.read c.in_ok-read_deltas.ensures c.in_err-ec.ensures))
+    c.in_ok-front.ensures.read c.in_ok-read_sets.ensures.read c.in_ok-read_initial_states.ensures.read c.in_err-ec.ensures))
 
 pub invariant_of-result : goal.invariant_of-result
 invariant_of-result c =
-    let read = all_read _ _ _ (front_value c.in_ok-front.front) (set_values c.read_sets.new.sets.items) _ _ _ _ _ _ _ _ _ _ _
+    let read = all_read _ _ _ (front_value c.in_ok-front.front) (set_values c.read_sets.new.sets.items) _ _ _ _ _ _ _ _ _ _ _ _ _
+    refl
     (ap contexts_of c.deref.ensures.value ∙ contexts_of-values c.read_sets.new.sets.items)
-    c.in_ok-front.ensures.read c.in_ok-read_sets.ensures.read c.in_ok-read_deltas.ensures c.in_ok-ec.ensures in
+    c.in_ok-front.ensures.read c.in_ok-read_sets.ensures.read c.in_ok-read_initial_states.ensures.read c.in_ok-ec.ensures in
     read_in_version_3 c.args.config.now c.args.scope c.args.width c.args.height _
     (read_in _ _ _ _ _ _ c.in_ok-content.ensures c.if-not-is_size.ensures c.if-not-is_size-2.ensures c.in_ok-decoder.ensures _ _ read.1)
 
 pub returns : goal.returns
 returns c =
-    let read = all_read _ _ _ (front_value c.in_ok-front.front) (set_values c.read_sets.new.sets.items) _ _ _ _ _ _ _ _ _ _ _
+    let read = all_read _ _ _ (front_value c.in_ok-front.front) (set_values c.read_sets.new.sets.items) _ _ _ _ _ _ _ _ _ _ _ _ _
+    refl
     (ap contexts_of c.deref.ensures.value ∙ contexts_of-values c.read_sets.new.sets.items)
-    c.in_ok-front.ensures.read c.in_ok-read_sets.ensures.read c.in_ok-read_deltas.ensures c.in_ok-ec.ensures in
+    c.in_ok-front.ensures.read c.in_ok-read_sets.ensures.read c.in_ok-read_initial_states.ensures.read c.in_ok-ec.ensures in
     returned c.args.config.now c.args.scope c.args.width c.args.height _
     (read_in _ _ _ _ _ _ c.in_ok-content.ensures c.if-not-is_size.ensures c.if-not-is_size-2.ensures c.in_ok-decoder.ensures _ _ read.1)
