@@ -67,7 +67,8 @@ fn overlaps(setup: &Setup) -> bool {
         [rect(0, 0, 3, 2), rect(3, 0, 3, 2)],
         [rect(0, 0, 2, 1), rect(1, 0, 2, 1), rect(0, 0, 3, 1)],
     );
-    (counts(setup), tiles, planes) == wanted
+    let chroma = tile_of(setup, 1).map(|tile| setup.grid().chroma_rect(tile));
+    (counts(setup), tiles, planes) == wanted && chroma == rect(1, 0, 2, 1)
 }
 
 /// Whether a setup of 3 x 2 samples has a chroma column in no tile.

@@ -1,5 +1,8 @@
 //! Configuration records of any recording of version 3, worked by a program of its own.
-use ffv1_range::{RangeDecoder, Recording, Setup, SetupFault, TileRect};
+use ffv1_range::{
+    HeadFault, RangeDecoder, RangeFault, Recording, Setup, SetupFault, SliceHeader, SliceStart,
+    TileRect, read_slice_head,
+};
 
 /// What a record says of the samples: coder_type, whether they are RGB, the bits of one and of a coded one, whether there is alpha, the
 /// planes, and ec.
@@ -367,4 +370,137 @@ fn states_of_two_passes_are_read(rt: HostRuntime) {
     assert!(rt; states.len() == 666);
     assert!(rt; states.first() == Some(&FIRST_AND_LAST[0]));
     assert!(rt; states.last() == Some(&FIRST_AND_LAST[1]));
+}
+
+/// A record and its frames' size, the content of a slice, whether it is the payload's first, its place and size in tiles, and its keyframe bit.
+type SliceCase = (
+    &'static [u8],
+    (u32, u32),
+    &'static [u8],
+    bool,
+    (u32, u32, u32, u32),
+    Option<bool>,
+);
+
+/// gray, range coding
+const GRAY: [u8; 17] = [
+    0x56, 0x00, 0x30, 0x28, 0x49, 0xCD, 0x9B, 0x36, 0x6C, 0xD9, 0xB3, 0x66, 0xC6, 0xAC, 0xF7, 0xF3,
+    0xEB,
+];
+
+/// gray, range coding, 2 x 2 tiles
+const FOUR_TILES: [u8; 18] = [
+    0x56, 0x00, 0x2F, 0xD2, 0x28, 0xA7, 0x4E, 0x9D, 0x3A, 0x74, 0xE9, 0xD3, 0xA3, 0xFA, 0x87, 0x8F,
+    0xBF, 0x38,
+];
+
+static SLICES: [SliceCase; 4] = [
+    (
+        &GRAY,
+        (3, 1),
+        &[0xFC, 0x16, 0x48, 0x2C, 0xE5, 0x9E, 0xC4],
+        true,
+        (0, 0, 1, 1),
+        Some(true),
+    ),
+    (
+        &GRAY,
+        (2, 1),
+        &[0x7C, 0x96, 0x4A, 0x07],
+        true,
+        (0, 0, 1, 1),
+        Some(false),
+    ),
+    (
+        &FOUR_TILES,
+        (2, 2),
+        &[0x99, 0x45, 0x56, 0xAE],
+        true,
+        (1, 0, 1, 2),
+        Some(true),
+    ),
+    (
+        &FOUR_TILES,
+        (2, 2),
+        &[0xE0, 0x93, 0x45, 0x2F],
+        false,
+        (0, 0, 1, 2),
+        None,
+    ),
+];
+
+#[test]
+fn headers_of_range_coded_slices_are_read(rt: HostRuntime) {
+    for &(record, (width, height), content, first, (x, y, w, h), key) in &SLICES {
+        let recording = Recording::read(rt.alloc(), record, width, height).expect(&rt, "a record");
+        let wanted = SliceHeader {
+            x,
+            y,
+            w,
+            h,
+            tables: [0; 3],
+            picture_structure: 3,
+            sar_num: 1,
+            sar_den: 1,
+            key,
+        };
+        match read_slice_head(&recording, content, first) {
+            Ok((header, SliceStart::Samples(_))) => assert!(rt; header == wanted),
+            _ => assert!(rt; false),
+        }
+    }
+}
+
+#[test]
+fn samples_follow_the_header_in_one_decoder(rt: HostRuntime) {
+    let recording = Recording::read(rt.alloc(), &GRAY, 3, 1).expect(&rt, "a record");
+    let content = [0xFC, 0x16, 0x48, 0x2C, 0xE5, 0x9E, 0xC4];
+    match read_slice_head(&recording, &content, true) {
+        Ok((_, SliceStart::Samples(mut decoder))) => {
+            let mut row = [128; 32];
+            let mut differences = [0; 3];
+            for difference in &mut differences {
+                *difference = decoder.signed(&mut row).expect(&rt, "a difference");
+            }
+            assert!(rt; differences == [7, -63, 56]);
+        }
+        _ => assert!(rt; false),
+    }
+}
+
+#[test]
+fn codes_follow_the_bit_after_the_header(rt: HostRuntime) {
+    let (record, _) = RECORDS[3];
+    let recording = Recording::read(rt.alloc(), record, 2, 2).expect(&rt, "a record");
+    let content = [
+        0xFC, 0x15, 0x80, 0x00, 0x06, 0x3B, 0xA0, 0xB8, 0x7A, 0x11, 0xE0, 0x49, 0xC4, 0x40,
+    ];
+    match read_slice_head(&recording, &content, true) {
+        Ok((header, SliceStart::Codes(place))) => {
+            assert!(rt; (header.x, header.y, header.w, header.h, place) == (0, 0, 1, 1, 3));
+        }
+        _ => assert!(rt; false),
+    }
+}
+
+/// Why a slice has no header.
+fn head_fault(recording: &Recording, content: &[u8], first: bool) -> Option<HeadFault> {
+    match read_slice_head(recording, content, first) {
+        Ok(_) => None,
+        Err(fault) => Some(fault),
+    }
+}
+
+#[test]
+fn tiles_past_the_grid_are_refused(rt: HostRuntime) {
+    // gray, two tiles; two tiles from the second on
+    let record = [
+        0x56, 0x00, 0x2F, 0xE2, 0x40, 0xE9, 0xD3, 0xA7, 0x4E, 0x9D, 0x3A, 0x74, 0xE5, 0x11, 0xB3,
+        0xB9, 0xEA, 0x0B,
+    ];
+    let recording = Recording::read(rt.alloc(), &record, 2, 1).expect(&rt, "a record");
+    let wider = head_fault(&recording, &[0x28, 0x8B, 0x7A], false);
+    let empty = head_fault(&recording, &[], false);
+    assert!(rt; wider == Some(HeadFault::OutsideGrid));
+    assert!(rt; empty == Some(HeadFault::Range(RangeFault::Short)));
 }

@@ -4,7 +4,7 @@ ghost use Rattle.ffv1_range.specs.Decoder.{AreStates};
 
 use crate::frames::{are_zeros, copies, is_made, setup_by};
 use crate::parity::with_parity;
-use ffv1_range::{HeadFault, RangeFault, Recording, Setup, SetupFault};
+use ffv1_range::{HeadFault, RangeFault, Recording, Setup, SetupFault, read_slice_head};
 use ffv1_slice::{LinkFault, read_slice};
 use ffv1_vectors::{MakeFault, RangeEncoder, RecordSpec, make_record, spell_record, spell_slice};
 use std::alloc::{AllocError, Global};
@@ -239,6 +239,43 @@ fn states_go_on_from_the_context_before(rt: HostRuntime) {
     let read = Recording::read(rt.alloc(), &record, 1, 1).expect(&rt, "a record with states");
     let states = [[28; 32], [184; 32], [84; 32], [240; 32], [140; 32]];
     assert!(rt; read.sets() == 1 && read.initial(0) == Some(states.as_slice()));
+}
+
+/// The record of a gray recording with alpha, range coding and two sets of tables.
+fn with_alpha(alloc: Global) -> Result<Vec<u8>, MakeFault> {
+    let mut spec = gray(alloc, &[PLAIN, PLAIN])?;
+    spec.coder = 1;
+    spec.extra_plane = true;
+    spec.set_count = 2;
+    spell_record(alloc, &spec)
+}
+
+/// The content of a slice whose header has a field more, with this set of tables for alpha.
+fn header_with_alpha(alloc: Global, table: u32) -> Result<Vec<u8>, MakeFault> {
+    let mut encoder = RangeEncoder::new(alloc);
+    let mut state = 128;
+    encoder.bit(&mut state, true)?;
+    spell_unsigned(&mut encoder, &[0, 0, 0, 0, 1, 0, table, 3, 4, 5])?;
+    encoder.finish_sentinel()
+}
+
+#[test]
+fn a_header_has_a_third_table_with_alpha(rt: HostRuntime) {
+    let record = with_alpha(rt.alloc()).expect(&rt, "a record");
+    let recording = Recording::read(rt.alloc(), &record, 1, 1).expect(&rt, "a record with alpha");
+    let content = header_with_alpha(rt.alloc(), 1).expect(&rt, "a header");
+    match read_slice_head(&recording, &content, true) {
+        Ok((header, _)) => {
+            assert!(rt; header.tables == [1, 0, 1] && header.key == Some(true));
+            assert!(rt; (header.picture_structure, header.sar_num, header.sar_den) == (3, 4, 5));
+        }
+        Err(_) => assert!(rt; false),
+    }
+    let outside = header_with_alpha(rt.alloc(), 2).expect(&rt, "a header");
+    match read_slice_head(&recording, &outside, true) {
+        Ok(_) => assert!(rt; false),
+        Err(fault) => assert!(rt; fault == HeadFault::TableIndex),
+    }
 }
 
 /// The record of a gray recording of 666 contexts, with such a delta for each of their states.

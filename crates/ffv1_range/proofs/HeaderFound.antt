@@ -1,7 +1,6 @@
 -- A header is read where its fields are coded, and nowhere else.
 use Rattle.std.proofs.Common.{◌≡◌, ℕ, suc, zero, ◌+◌, ◌-◌, ◌*◌, ◌/◌, ◌^◌, ◌<◌, ◌≤◌, Bool, true, false, List, [], ◌∷◌, ◌++◌, Result, Ok, Err, refl, sym, ap, ◌∙◌, subst, arith, length, append_assoc}
-use Rattle.std.specs.Prelude.{◌↔◌, IfOk, IsTrue, nat_lt, ◌==◌, ◌&&◌, slice_index, slice_set, if◌then◌else◌}
-use Rattle.std.specs.Bool.{MatchBool}
+use Rattle.std.specs.Prelude.{◌↔◌, IfOk, IsTrue, Option, Some, None, MatchOption, is_some, nat_lt, ◌==◌, ◌&&◌, slice_index, slice_set, if◌then◌else◌}
 use Rattle.std.specs.List.{All, flat_map}
 use Rattle.std.proofs.lemmas.List.{append-nil}
 use Rattle.std.proofs.lemmas.List.Elements.{All-cons, All-nil, All-head, All-tail}
@@ -13,8 +12,11 @@ use Rattle.ffv1_range.specs.Symbols.{symbol_bits}
 use Rattle.ffv1_range.specs.Forms.{lifted_result}
 use Rattle.ffv1_range.specs.Reading.{symbol_form}
 use Rattle.ffv1_range.specs.TableForms.{fresh_row}
-use Rattle.ffv1_range.specs.HeaderForms.{symbols_onto, fields_form, key_coder}
-use Rattle.ffv1_range.specs.Header.{IsHeaderOf, IsHeadOf, IsTileHeader, HeadLimits, header_read, head_judged, head_read, head_with, is_in_place}
+use Rattle.ffv1_range.specs.HeaderForms.{symbols_onto, header_fields, key_coder, HeaderRead, fields_after, header_from}
+use Rattle.ffv1_range.specs.Scopes.{accepts_key}
+use Rattle.ffv1_range.specs.declared.scope.Scope.{Scope}
+use Rattle.ffv1_range.specs.declared.scope.Scope.TheVariants.{Profile}
+use Rattle.ffv1_range.specs.Header.{IsHeaderOf, BeginAt, IsHeadOf, IsTileHeader, HeadLimits, header_read, codes_read, head_judged, head_read, head_with, is_in_place}
 use Rattle.ffv1_range.specs.declared.coding.RangeFault.{RangeFault}
 use Rattle.ffv1_range.specs.declared.coding.RangeFault.TheVariants.{Start}
 use Rattle.ffv1_range.specs.declared.head.HeadFault.{HeadFault}
@@ -63,20 +65,20 @@ symbols_run mode done (a ∷ fields) p q fit run =
     ∙ symbols_run mode (done ++ a ∷ []) fields parts.0 q (All-tail (λ symbol. symbol < 2 ^ 32) a fields fit) parts.2
     ∙ ap (λ z. Ok (z, q)) (append_assoc done (a ∷ []) fields)
 
-fields_found : (c : Coder) (fields : List ℕ) (q : PlaceOf (Unit {0})) → fields_form header_mode (place_of c tt) ≡ Ok (fields, q)
-    → (end : Place) × (q.coder ≡ end.coder) × AreSymbols header_mode 9 (place_of c fresh_row) end fields
-fields_found c fields q h =
-    let x = bind_is_ok (symbols_onto 9 [] header_mode (place_of c fresh_row)) (λ x. Ok (x.0, place_of x.1.coder tt)) (fields, q) h in
+fields_found : (mode : Mode) (count : ℕ) (c : Coder) (fields : List ℕ) (q : PlaceOf (Unit {0})) → header_fields count mode (place_of c tt) ≡ Ok (fields, q)
+    → (end : Place) × (q.coder ≡ end.coder) × AreSymbols mode count (place_of c fresh_row) end fields
+fields_found mode count c fields q h =
+    let x = bind_is_ok (symbols_onto count [] mode (place_of c fresh_row)) (λ x. Ok (x.0, place_of x.1.coder tt)) (fields, q) h in
     let e = same_ok (x.0.0, place_of x.0.1.coder tt) (fields, q) x.2 in
-    let found = symbols_found header_mode 9 [] x.0.0 (place_of c fresh_row) x.0.1 x.1 in
+    let found = symbols_found mode count [] x.0.0 (place_of c fresh_row) x.0.1 x.1 in
     let same : fields ≡ found.0 = sym (ap (λ z. z.0) e) ∙ found.1 in
-    (x.0.1, sym (ap (λ z. z.1.coder) e), subst (λ z. AreSymbols header_mode 9 (place_of c fresh_row) x.0.1 z) (sym same) found.2)
+    (x.0.1, sym (ap (λ z. z.1.coder) e), subst (λ z. AreSymbols mode count (place_of c fresh_row) x.0.1 z) (sym same) found.2)
 
-fields_run : (c : Coder) (fields : List ℕ) (end : Place) → length fields ≡ 9 → All (λ field. field < 2 ^ 32) fields
-    → IsRangeRun header_mode (place_of c fresh_row) (flat_map symbol_bits fields) end → fields_form header_mode (place_of c tt) ≡ Ok (fields, place_of end.coder tt)
-fields_run c fields end nine fit run =
-    bind_ok (symbols_onto 9 [] header_mode (place_of c fresh_row)) (λ x. Ok (x.0, place_of x.1.coder tt)) (fields, end)
-    (ap (λ n. symbols_onto n [] header_mode (place_of c fresh_row)) (sym nine) ∙ symbols_run header_mode [] fields (place_of c fresh_row) end fit run)
+fields_run : (mode : Mode) (count : ℕ) (c : Coder) (fields : List ℕ) (end : Place) → length fields ≡ count → All (λ field. field < 2 ^ 32) fields
+    → IsRangeRun mode (place_of c fresh_row) (flat_map symbol_bits fields) end → header_fields count mode (place_of c tt) ≡ Ok (fields, place_of end.coder tt)
+fields_run mode count c fields end size fit run =
+    bind_ok (symbols_onto count [] mode (place_of c fresh_row)) (λ x. Ok (x.0, place_of x.1.coder tt)) (fields, end)
+    (ap (λ n. symbols_onto n [] mode (place_of c fresh_row)) (sym size) ∙ symbols_run mode [] fields (place_of c fresh_row) end fit run)
 
 -- ---- what is still to come never grows
 
@@ -142,94 +144,119 @@ start_leaves (a ∷ b ∷ rest) c h =
 
 -- ---- the keyframe bit
 
-key_bit : (b : Bool) (c d : Coder) → (if b then Ok c else Err NotKey) ≡ Ok d → (b ≡ true) × (c ≡ d)
-key_bit true c d h = (refl, same_ok c d h)
-key_bit false c d h = absurd cc
+-- a scope accepts the keyframe bit, where there is one
+abbrev pub KeyFits : Scope → Option Bool → Type 0
+KeyFits scope key = MatchOption key (Unit {0}) (λ bit. accepts_key scope bit ≡ true)
 
-key_found : (first : Bool) (c d : Coder) → key_coder first c ≡ Ok d → MatchBool first (bit_at false c 128 ≡ Ok (true, d)) (d ≡ c)
-key_found false c d h = sym (same_ok c d h)
-key_found true c d h =
-    let x = bind_is_ok (lifted_result Range (bit_at false c 128)) (λ bit. if bit.0 then Ok bit.1 else Err NotKey) d h in
-    let bit = key_bit x.0.0 x.0.1 d x.2 in
-    lifted_ok Range (bit_at false c 128) x.0 x.1 ∙ ap (λ z. Ok (z, x.0.1)) bit.0 ∙ ap (λ z. Ok (true, z)) bit.1
+-- the keyframe bit stands between two coders, where there is one
+abbrev pub KeyAt : Mode → Coder → Option Bool → Coder → Type 0
+KeyAt mode c key d = MatchOption key (d ≡ c) (λ bit. bit_at mode.closed c 128 ≡ Ok (bit, d))
 
-key_read : (first : Bool) (c d : Coder) → MatchBool first (bit_at false c 128 ≡ Ok (true, d)) (d ≡ c) → key_coder first c ≡ Ok d
-key_read false c d h = ap Ok (sym h)
-key_read true c d h = ap (λ z. lifted_result Range z >>> λ bit. if bit.0 then Ok bit.1 else Err NotKey) h
+key_bit : (accepts : Bool) (bit : Bool) (d : Coder) (y : Option Bool × Coder) → (if accepts then Ok (Some bit, d) else Err NotKey) ≡ Ok y
+    → (accepts ≡ true) × ((Some bit, d) ≡ y)
+key_bit true bit d y h = (refl, same_ok (Some bit, d) y h)
+key_bit false bit d y h = absurd cc
 
-key_shrinks : (first : Bool) (c d : Coder) → MatchBool first (bit_at false c 128 ≡ Ok (true, d)) (d ≡ c) → length d.rest ≤ length c.rest
-key_shrinks true c d h = bit_shrinks false c d 128 true h
-key_shrinks false c d h = omega (arith, ap (λ z. length z.rest) h)
+key_found : (scope : Scope) (first : Bool) (mode : Mode) (c : Coder) (y : Option Bool × Coder) → key_coder scope first mode c ≡ Ok y
+    → KeyAt mode c y.0 y.1 × (is_some y.0 ≡ first) × KeyFits scope y.0
+key_found scope false mode c y h =
+    let pair = same_ok (None, c) y h in subst (λ z. KeyAt mode c z.0 z.1 × (is_some z.0 ≡ false) × KeyFits scope z.0) pair (refl, refl, tt)
+key_found scope true mode c y h =
+    let x = bind_is_ok (lifted_result Range (bit_at mode.closed c 128)) (λ bit. if accepts_key scope bit.0 then Ok (Some bit.0, bit.1) else Err NotKey) y h in
+    let bit = key_bit (accepts_key scope x.0.0) x.0.0 x.0.1 y x.2 in
+    subst (λ z. KeyAt mode c z.0 z.1 × (is_some z.0 ≡ true) × KeyFits scope z.0) bit.1
+    (lifted_ok Range (bit_at mode.closed c 128) x.0 x.1, refl, bit.0)
+
+key_run : (scope : Scope) (mode : Mode) (c : Coder) (key : Option Bool) (d : Coder) → KeyAt mode c key d → KeyFits scope key
+    → key_coder scope (is_some key) mode c ≡ Ok (key, d)
+key_run scope mode c None d at fits = ap (λ z. Ok (None, z)) (sym at)
+key_run scope mode c (Some bit) d at fits =
+    ap (λ z. lifted_result Range z >>> λ bit. if accepts_key scope bit.0 then Ok (Some bit.0, bit.1) else Err NotKey) at
+    ∙ ap (λ b. if b then Ok (Some bit, d) else Err NotKey) fits
+
+key_shrinks : (mode : Mode) (c : Coder) (key : Option Bool) (d : Coder) → KeyAt mode c key d → length d.rest ≤ length c.rest
+key_shrinks mode c (Some bit) d h = bit_shrinks mode.closed c d 128 bit h
+key_shrinks mode c None d h = omega (arith, ap (λ z. length z.rest) h)
 
 -- ---- the header
 
-after_fields : List ℕ → List ℕ × PlaceOf (Unit {0}) → Result (List ℕ × ℕ) HeadFault
-after_fields content read = lifted_result Range (bit_at false read.1.coder 129) >>> λ last. Ok (read.0, length content - (length last.1.rest + 1))
+pub header_found : (scope : Scope) (mode : Mode) (count : ℕ) (bytes : List ℕ) (first : Bool) (y : HeaderRead)
+    → header_read scope mode count bytes first ≡ Ok y
+    → IsHeaderOf mode count bytes y.key y.fields y.end × (is_some y.key ≡ first) × KeyFits scope y.key
+header_found scope mode count bytes first y h =
+    let start = bind_is_ok (lifted_result Range (start_of mode.closed bytes)) (header_from scope mode count first) y h in
+    let key = bind_is_ok (key_coder scope first mode start.0) (fields_after mode count) y start.2 in
+    let read = bind_is_ok (lifted_result Range (header_fields count mode (place_of key.0.1 tt)))
+    (λ read. Ok (record { key = key.0.0; fields = read.0; end = read.1.coder })) y key.2 in
+    let all = same_ok (record { key = key.0.0; fields = read.0.0; end = read.0.1.coder }) y read.2 in
+    let got = fields_found mode count key.0.1 read.0.0 read.0.1 (lifted_ok Range (header_fields count mode (place_of key.0.1 tt)) read.0 read.1) in
+    let keyed = key_found scope first mode start.0 key.0 key.1 in
+    subst (λ z. IsHeaderOf mode count bytes z.key z.fields z.end × (is_some z.key ≡ first) × KeyFits scope z.key) all (
+      record {
+        before_key = start.0;
+        start = lifted_ok Range (start_of mode.closed bytes) start.0 start.1;
+        after_key = key.0.1;
+        keyed = keyed.0;
+        size = got.2.count;
+        fit = got.2.fit;
+        last = got.0;
+        coded = got.2.coded;
+        is = got.1;
+      },
+      keyed.1,
+      keyed.2,
+    )
 
-after_key : List ℕ → Coder → Result (List ℕ × ℕ) HeadFault
-after_key content coder = lifted_result Range (fields_form header_mode (place_of coder tt)) >>> after_fields content
+pub header_run : (scope : Scope) (mode : Mode) (count : ℕ) (bytes : List ℕ) (key : Option Bool) (fields : List ℕ) (end : Coder)
+    → IsHeaderOf mode count bytes key fields end → KeyFits scope key
+    → header_read scope mode count bytes (is_some key) ≡ Ok (record { key = key; fields = fields; end = end })
+header_run scope mode count bytes key fields end h fits =
+    bind_ok (lifted_result Range (start_of mode.closed bytes)) (header_from scope mode count (is_some key)) h.before_key (ap (lifted_result Range) h.start)
+    ∙ bind_ok (key_coder scope (is_some key) mode h.before_key) (fields_after mode count) (key, h.after_key)
+    (key_run scope mode h.before_key key h.after_key h.keyed fits)
+    ∙ bind_ok (lifted_result Range (header_fields count mode (place_of h.after_key tt)))
+    (λ read. Ok (record { key = key; fields = read.0; end = read.1.coder })) (fields, place_of h.last.coder tt)
+    (ap (lifted_result Range) (fields_run mode count h.after_key fields h.last h.size h.fit h.coded))
+    ∙ ap (λ z. Ok (record { key = key; fields = fields; end = z })) (sym h.is)
 
-after_start : List ℕ → Bool → Coder → Result (List ℕ × ℕ) HeadFault
-after_start content first start = key_coder first start >>> after_key content
+-- a header takes two bytes at least
+pub header_leaves : (mode : Mode) (count : ℕ) (bytes : List ℕ) (key : Option Bool) (fields : List ℕ) (end : Coder) → mode.closed ≡ false
+    → IsHeaderOf mode count bytes key fields end → length end.rest + 2 ≤ length bytes
+header_leaves mode count bytes key fields end is_open h =
+    let start = subst (λ closed. start_of closed bytes ≡ Ok h.before_key) is_open h.start in
+    omega (
+      arith,
+      start_leaves bytes h.before_key start,
+      key_shrinks mode h.before_key key h.after_key h.keyed,
+      run_shrinks mode (place_of h.after_key fresh_row) h.last (flat_map symbol_bits fields) h.coded,
+      ap (λ z. length z.rest) h.is,
+    )
 
-header_found : (content : List ℕ) (first : Bool) (fields : List ℕ) (place : ℕ) → header_read content first ≡ Ok (fields, place)
-    → IsHeaderOf content first fields place
-unfolding after_start after_key after_fields
-header_found content first fields place h =
-    let start = bind_is_ok (lifted_result Range (start_of false content)) (after_start content first) (fields, place) h in
-    let key = bind_is_ok (key_coder first start.0) (after_key content) (fields, place) start.2 in
-    let read = bind_is_ok (lifted_result Range (fields_form header_mode (place_of key.0 tt))) (after_fields content) (fields, place) key.2 in
-    let last = bind_is_ok (lifted_result Range (bit_at false read.0.1.coder 129))
-    (λ last. Ok (read.0.0, length content - (length last.1.rest + 1))) (fields, place) read.2 in
-    let end = same_ok (read.0.0, length content - (length last.0.1.rest + 1)) (fields, place) last.2 in
-    let got = fields_found key.0 read.0.0 read.0.1 (lifted_ok Range (fields_form header_mode (place_of key.0 tt)) read.0 read.1) in
-    let same : read.0.0 ≡ fields = ap (λ z. z.0) end in
-    let symbols = subst (λ z. AreSymbols header_mode 9 (place_of key.0 fresh_row) got.0 z) same got.2 in
-    let started = lifted_ok Range (start_of false content) start.0 start.1 in
-    let keyed = key_found first start.0 key.0 key.1 in
-    let ended : bit_at false got.0.coder 129 ≡ Ok last.0 = ap (λ z. bit_at false z 129) (sym got.1)
-    ∙ lifted_ok Range (bit_at false read.0.1.coder 129) last.0 last.1 in
+-- ---- the place of the codes
+
+pub codes_found : (content : List ℕ) (end : Coder) (place : ℕ) → length end.rest + 2 ≤ length content → codes_read content end ≡ Ok place
+    → BeginAt content end place
+codes_found content end place leaves h =
+    let last = bind_is_ok (lifted_result Range (bit_at false end 129)) (λ last. Ok (length content - (length last.1.rest + 1))) place h in
+    let ended = lifted_ok Range (bit_at false end 129) last.0 last.1 in
     record {
-      before_key = start.0;
-      start = started;
-      after_key = key.0;
-      key = keyed;
-      nine = symbols.count;
-      fit = symbols.fit;
-      end = got.0;
-      coded = symbols.coded;
       last = last.0;
       ended = ended;
-      at = omega (
-        arith,
-        start_leaves content start.0 started,
-        key_shrinks first start.0 key.0 keyed,
-        run_shrinks header_mode (place_of key.0 fresh_row) got.0
-            (flat_map symbol_bits fields) symbols.coded,
-        bit_shrinks false got.0.coder last.0.1 129 last.0.0 ended,
-        ap (λ z. z.1) end,
-      );
+      at = omega (arith, leaves, bit_shrinks false end last.0.1 129 last.0.0 ended, same_ok (length content - (length last.0.1.rest + 1)) place last.2);
     }
 
-header_run : (content : List ℕ) (first : Bool) (fields : List ℕ) (place : ℕ) → IsHeaderOf content first fields place
-    → header_read content first ≡ Ok (fields, place)
-unfolding after_start after_key after_fields
-header_run content first fields place h =
-    bind_ok (lifted_result Range (start_of false content)) (after_start content first) h.before_key (ap (lifted_result Range) h.start)
-    ∙ bind_ok (key_coder first h.before_key) (after_key content) h.after_key (key_read first h.before_key h.after_key h.key)
-    ∙ bind_ok (lifted_result Range (fields_form header_mode (place_of h.after_key tt))) (after_fields content) (fields, place_of h.end.coder tt)
-    (ap (lifted_result Range) (fields_run h.after_key fields h.end h.nine h.fit h.coded))
-    ∙ bind_ok (lifted_result Range (bit_at false h.end.coder 129)) (λ last. Ok (fields, length content - (length last.1.rest + 1))) h.last
-    (ap (lifted_result Range) h.ended)
-    ∙ (let at : length content - (length h.last.1.rest + 1) ≡ place = omega (arith, h.at) in ap (λ z. Ok (fields, z)) at)
+pub codes_run : (content : List ℕ) (end : Coder) (place : ℕ) → BeginAt content end place → codes_read content end ≡ Ok place
+codes_run content end place h =
+    bind_ok (lifted_result Range (bit_at false end 129)) (λ last. Ok (length content - (length last.1.rest + 1))) h.last (ap (lifted_result Range) h.ended)
+    ∙ (let at : length content - (length h.last.1.rest + 1) ≡ place = omega (arith, h.at) in ap (λ z. Ok z) at)
 
 -- ---- the fields of one tile
 
-if_ok : {A : Type 0} (b : Bool) (r : Result A HeadFault) (e : HeadFault) (x : A) → (if b then r else Err e) ≡ Ok x → (b ≡ true) × (r ≡ Ok x)
+pub if_ok : {A : Type 0} (b : Bool) (r : Result A HeadFault) (e : HeadFault) (x : A) → (if b then r else Err e) ≡ Ok x → (b ≡ true) × (r ≡ Ok x)
 if_ok true r e x h = (refl, h)
 if_ok false r e x h = absurd cc
 
-if_true : {A : Type 0} (b : Bool) (r s : Result A HeadFault) → b ≡ true → (if b then r else s) ≡ r
+pub if_true : {A : Type 0} (b : Bool) (r s : Result A HeadFault) → b ≡ true → (if b then r else s) ≡ r
 if_true true r s h = refl
 if_true false r s h = absurd cc
 
@@ -283,21 +310,46 @@ judged_run limits first fields head h same is_first =
 
 -- ---- the head
 
-after_header : HeadLimits → Bool → List ℕ × ℕ → Result (SliceHead × ℕ) HeadFault
-after_header limits first read = head_judged limits first read.0 >>> λ head. Ok (head, read.1)
+after_place : HeadLimits → Bool → List ℕ → ℕ → Result (SliceHead × ℕ) HeadFault
+after_place limits first fields place = head_judged limits first fields >>> λ head. Ok (head, place)
+
+after_header : HeadLimits → List ℕ → Bool → HeaderRead → Result (SliceHead × ℕ) HeadFault
+after_header limits content first read = codes_read content read.end >>> after_place limits first read.fields
+
+-- the keyframe bit of the profile is 1
+key_is : (first : Bool) (key : Option Bool) → is_some key ≡ first → KeyFits Profile key → key ≡ (if first then Some true else None)
+key_is true (Some bit) h fits = ap Some fits
+key_is false None h fits = refl
+key_is true None h fits = absurd cc
+key_is false (Some bit) h fits = absurd cc
+
+key_fits : (first : Bool) → KeyFits Profile (if first then Some true else None)
+key_fits true = refl
+key_fits false = tt
+
+abbrev profile_key : Bool → Option Bool
+profile_key first = if first then Some true else None
+
+has_key : (first : Bool) → is_some (profile_key first) ≡ first
+has_key true = refl
+has_key false = refl
 
 pub head_found : (limits : HeadLimits) (content : List ℕ) (first : Bool) (head : SliceHead) (place : ℕ) → head_read limits content first ≡ Ok (head, place)
     → IsHeadOf limits content first head place
-unfolding after_header
+unfolding after_header after_place
 head_found limits content first head place h =
-    let read = bind_is_ok (header_read content first) (after_header limits first) (head, place) h in
-    let got = bind_is_ok (head_judged limits first read.0.0) (λ head. Ok (head, read.0.1)) (head, place) read.2 in
-    let end = same_ok (got.0, read.0.1) (head, place) got.2 in
-    let header = header_found content first read.0.0 read.0.1 read.1 in
-    let judged = judged_found limits first read.0.0 got.0 got.1 in
+    let read = bind_is_ok (header_read Profile header_mode 9 content first) (after_header limits content first) (head, place) h in
+    let codes = bind_is_ok (codes_read content read.0.end) (after_place limits first read.0.fields) (head, place) read.2 in
+    let got = bind_is_ok (head_judged limits first read.0.fields) (λ head. Ok (head, codes.0)) (head, place) codes.2 in
+    let end = same_ok (got.0, codes.0) (head, place) got.2 in
+    let header = header_found Profile header_mode 9 content first read.0 read.1 in
+    let judged = judged_found limits first read.0.fields got.0 got.1 in
     record {
-      fields = read.0.0;
-      header = subst (λ z. IsHeaderOf content first read.0.0 z) (ap (λ z. z.1) end) header;
+      fields = read.0.fields;
+      end = read.0.end;
+      header = subst (λ z. IsHeaderOf header_mode 9 content z read.0.fields read.0.end) (key_is first read.0.key header.1 header.2) header.0;
+      codes = subst (λ z. BeginAt content read.0.end z) (ap (λ z. z.1) end)
+          (codes_found content read.0.end codes.0 (header_leaves header_mode 9 content read.0.key read.0.fields read.0.end refl header.0) codes.1);
       of_tile = judged.0;
       values = sym (ap (λ z. z.0) end) ∙ judged.1;
       first_tile = subst (λ z. IsTrue first ↔ (z.tile ≡ 0)) (ap (λ z. z.0) end) judged.2;
@@ -305,9 +357,14 @@ head_found limits content first head place h =
 
 pub head_run : (limits : HeadLimits) (content : List ℕ) (first : Bool) (head : SliceHead) (place : ℕ) → IsHeadOf limits content first head place
     → head_read limits content first ≡ Ok (head, place)
-unfolding after_header
+unfolding after_header after_place
 head_run limits content first head place h =
-    bind_ok (header_read content first) (after_header limits first) (h.fields, place) (header_run content first h.fields place h.header)
+    let key : Option Bool = if first then Some true else None in
+    let read : HeaderRead = record { key = key; fields = h.fields; end = h.end } in
+    ap (λ z. header_read Profile header_mode 9 content z >>> after_header limits content first) (sym (has_key first))
+    ∙ bind_ok (header_read Profile header_mode 9 content (is_some key)) (after_header limits content first) read
+    (header_run Profile header_mode 9 content key h.fields h.end h.header (key_fits first))
+    ∙ bind_ok (codes_read content h.end) (after_place limits first h.fields) place (codes_run content h.end place h.codes)
     ∙ bind_ok (head_judged limits first h.fields) (λ head. Ok (head, place)) head (judged_run limits first h.fields head h.of_tile h.values h.first_tile)
 
 pub head_is_found : (limits : HeadLimits) (content : List ℕ) (first : Bool) (r : Result (SliceHead × ℕ) HeadFault) → r ≡ head_read limits content first

@@ -5,7 +5,7 @@ use Rattle.ffv1_range.specs.Decoder.{Reader}
 use Rattle.ffv1_range.specs.Forms.{Form, ◌>>=◌, giving, ReadsForm, same_fault, form_at}
 use Rattle.ffv1_range.specs.Reading.{symbol_form}
 use Rattle.ffv1_range.specs.TableForms.{fresh_row}
-use Rattle.ffv1_range.specs.HeaderForms.{symbols_onto, fields_form}
+use Rattle.ffv1_range.specs.HeaderForms.{symbols_onto, header_fields}
 use Rattle.ffv1_range.specs.declared.coding.RangeFault.{RangeFault}
 use Rattle.ffv1_range.proofs.Forms.{Continues, IsAtPlace, continue_next, continue_stop, end_of, read_on}
 
@@ -30,20 +30,20 @@ symbol_turn form k n symbol done q r s start row states l so h =
     (subst (λ z. Continues same_fault form q start z r row) (ap (λ z. symbols_onto z done) l ∙ symbols_onto-open n done) so) h
 
 -- one symbol more can't be read
-pub symbol_fails : (k n : ℕ) (done : List ℕ) (f : RangeFault) (q r s : Reader) (row states : List ℕ) → k ≡ suc n
-    → Continues same_fault (symbols_onto 9 []) q fresh_row (symbols_onto k done) r row → ReadsForm same_fault symbol_form r row (Err f) s states
-    → form_at same_fault fields_form q tt ≡ Err f
-symbol_fails k n done f q r s row states l so h =
-    read_on same_fault (λ at_hand. fresh_row) (λ at_hand used. at_hand) (symbols_onto 9 []) q s tt fresh_row (Err f)
-    (continue_stop same_fault (symbols_onto 9 []) symbol_form (more_symbols n done) q r s fresh_row row states f
-    (subst (λ z. Continues same_fault (symbols_onto 9 []) q fresh_row z r row) (ap (λ z. symbols_onto z done) l ∙ symbols_onto-open n done) so) h)
+pub symbol_fails : (count k n : ℕ) (done : List ℕ) (f : RangeFault) (q r s : Reader) (row states : List ℕ) → k ≡ suc n
+    → Continues same_fault (symbols_onto count []) q fresh_row (symbols_onto k done) r row → ReadsForm same_fault symbol_form r row (Err f) s states
+    → form_at same_fault (header_fields count) q tt ≡ Err f
+symbol_fails count k n done f q r s row states l so h =
+    read_on same_fault (λ at_hand. fresh_row) (λ at_hand used. at_hand) (symbols_onto count []) q s tt fresh_row (Err f)
+    (continue_stop same_fault (symbols_onto count []) symbol_form (more_symbols n done) q r s fresh_row row states f
+    (subst (λ z. Continues same_fault (symbols_onto count []) q fresh_row z r row) (ap (λ z. symbols_onto z done) l ∙ symbols_onto-open n done) so) h)
 
--- all nine were read
-pub fields_end : (k : ℕ) (done : List ℕ) (q r : Reader) (row : List ℕ) → k ≡ 0 → IsAtPlace r
-    → Continues same_fault (symbols_onto 9 []) q fresh_row (symbols_onto k done) r row → ReadsForm same_fault fields_form q tt (Ok done) r tt
-fields_end k done q r row l place so =
-    read_on same_fault (λ at_hand. fresh_row) (λ at_hand used. at_hand) (symbols_onto 9 []) q r tt row (Ok done)
-    (end_of same_fault (symbols_onto 9 []) (symbols_onto k done) q r fresh_row row done (ap (λ z. symbols_onto z done) l ∙ symbols_onto-none done) place so)
+-- all were read
+pub fields_end : (count k : ℕ) (done : List ℕ) (q r : Reader) (row : List ℕ) → k ≡ 0 → IsAtPlace r
+    → Continues same_fault (symbols_onto count []) q fresh_row (symbols_onto k done) r row → ReadsForm same_fault (header_fields count) q tt (Ok done) r tt
+fields_end count k done q r row l place so =
+    read_on same_fault (λ at_hand. fresh_row) (λ at_hand used. at_hand) (symbols_onto count []) q r tt row (Ok done)
+    (end_of same_fault (symbols_onto count []) (symbols_onto k done) q r fresh_row row done (ap (λ z. symbols_onto z done) l ∙ symbols_onto-none done) place so)
 
 -- a tile's number fits the code's numbers
 pub tile_fits : (row across column : ℕ) → row < 2 ^ 32 → across < 2 ^ 32 → column < 2 ^ 32 → row * across + column < 2 ^ 64

@@ -8,6 +8,7 @@ pub mod TableMeanings
 pub mod TileLaws
 pub mod HeaderSteps
 pub mod HeaderFound
+pub mod SliceHeaderFound
 pub mod DeltaSteps
 pub mod SetupSteps
 pub mod TransitionSteps

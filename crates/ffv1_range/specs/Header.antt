@@ -1,31 +1,36 @@
 -- A slice header at the front of a slice's content (RFC 9043, sections 4.5 and 4.6), and the bit that ends range coding
 -- before Golomb-Rice codes (section 3.8.1.1.1).
-use Rattle.std.specs.Prelude.{◌≡◌, ◌↔◌, ℕ, ◌+◌, ◌-◌, ◌*◌, ◌^◌, ◌<◌, Bool, true, false, IsTrue, List, length, replicate, Result, Ok, Err, slice_index, nat_lt, ◌==◌, ◌&&◌, if◌then◌else◌}
-use Rattle.std.specs.Bool.{MatchBool}
+use Rattle.std.specs.Prelude.{◌≡◌, ◌↔◌, ℕ, ◌+◌, ◌-◌, ◌*◌, ◌^◌, ◌<◌, Bool, true, false, IsTrue, List, length, replicate, Option, Some, None, MatchOption, Result, Ok, Err, slice_index, nat_lt, ◌==◌, ◌&&◌, if◌then◌else◌}
 use Rattle.std.specs.List.{All, flat_map}
 use Rattle.ffv1_range.specs.Results.{◌>>>◌}
-use Rattle.ffv1_range.specs.Coding.{header_mode, Coder, Place, bit_at, start_of, IsRangeRun}
+use Rattle.ffv1_range.specs.Coding.{header_mode, Mode, Coder, Place, bit_at, start_of, IsRangeRun}
 use Rattle.ffv1_range.specs.Symbols.{symbol_bits}
 use Rattle.ffv1_range.specs.Forms.{lifted_result}
-use Rattle.ffv1_range.specs.HeaderForms.{fields_form, key_coder}
+use Rattle.ffv1_range.specs.HeaderForms.{HeaderRead, header_from}
 use Rattle.ffv1_range.specs.Setup.{SetupValue}
+use Rattle.ffv1_range.specs.declared.scope.Scope.{Scope}
+use Rattle.ffv1_range.specs.declared.scope.Scope.TheVariants.{Profile}
 use Rattle.ffv1_range.specs.declared.head.SliceHead.{SliceHead}
 use Rattle.ffv1_range.specs.declared.head.HeadFault.{HeadFault}
 use Rattle.ffv1_range.specs.declared.head.HeadFault.TheVariants.{Range, OutsideGrid, Spans, TableIndex, FirstElsewhere}
 
--- The content begins with these nine fields, after a keyframe bit 1 where it is the payload's first; the codes begin at
--- this place, one byte before those that the range decoder has not read.
-pub record IsHeaderOf (content : List ℕ) (first : Bool) (fields : List ℕ) (place : ℕ) : Type 0 where
+-- These bytes begin with the keyframe bit, where there is one, and so many fields; the coder is then here.
+pub record IsHeaderOf (mode : Mode) (count : ℕ) (bytes : List ℕ) (key : Option Bool) (fields : List ℕ) (end : Coder) : Type 0 where
   pub before_key : Coder
-  pub start : start_of false content ≡ Ok before_key
+  pub start : start_of mode.closed bytes ≡ Ok before_key
   pub after_key : Coder
-  pub key : MatchBool first (bit_at false before_key 128 ≡ Ok (true, after_key)) (after_key ≡ before_key)
-  pub nine : length fields ≡ 9
+  pub keyed : MatchOption key (after_key ≡ before_key) (λ bit. bit_at mode.closed before_key 128 ≡ Ok (bit, after_key))
+  pub size : length fields ≡ count
   pub fit : All (λ field. field < 2 ^ 32) fields
-  pub end : Place
-  pub coded : IsRangeRun header_mode (record { coder = after_key; states = replicate 32 128 }) (flat_map symbol_bits fields) end
+  pub last : Place
+  pub coded : IsRangeRun mode (record { coder = after_key; states = replicate 32 128 }) (flat_map symbol_bits fields) last
+  pub is : end ≡ last.coder
+
+-- After a header the bit at state 129 is read, of either value. The codes begin at this place of the content, one byte before those that
+-- the range decoder has not read.
+pub record BeginAt (content : List ℕ) (end : Coder) (place : ℕ) : Type 0 where
   pub last : Bool × Coder
-  pub ended : bit_at false end.coder 129 ≡ Ok last
+  pub ended : bit_at false end 129 ≡ Ok last
   pub at : place + 1 + length last.1.rest ≡ length content
 
 -- what judges a header: the tiles across and down, and the sets of quantization tables
@@ -62,21 +67,22 @@ head_with limits fields =
 -- The content has a header of the profile, and is the payload's first exactly where it is of tile 0.
 pub record IsHeadOf (limits : HeadLimits) (content : List ℕ) (first : Bool) (head : SliceHead) (place : ℕ) : Type 0 where
   pub fields : List ℕ
-  pub header : IsHeaderOf content first fields place
+  pub end : Coder
+  pub header : IsHeaderOf header_mode 9 content (if first then Some true else None) fields end
+  pub codes : BeginAt content end place
   pub of_tile : IsTileHeader limits fields
   pub values : head ≡ head_with limits fields
   pub first_tile : IsTrue first ↔ (head.tile ≡ 0)
 
 -- ---- the first fault
 
--- fields and the place of the codes
-abbrev pub header_read : List ℕ → Bool → Result (List ℕ × ℕ) HeadFault
-header_read content first =
-    lifted_result Range (start_of false content) >>> λ start.
-    key_coder first start >>> λ coder.
-    lifted_result Range (fields_form header_mode (record { coder = coder; states = tt })) >>> λ read.
-    lifted_result Range (bit_at false read.1.coder 129) >>> λ last.
-    Ok (read.0, length content - (length last.1.rest + 1))
+-- what is read of a header
+abbrev pub header_read : Scope → Mode → ℕ → List ℕ → Bool → Result HeaderRead HeadFault
+header_read scope mode count bytes first = lifted_result Range (start_of mode.closed bytes) >>> header_from scope mode count first
+
+-- the place of the codes after it
+abbrev pub codes_read : List ℕ → Coder → Result ℕ HeadFault
+codes_read content end = lifted_result Range (bit_at false end 129) >>> λ last. Ok (length content - (length last.1.rest + 1))
 
 -- whether a content is where its tile has to be: that of tile 0 first, others not
 abbrev pub is_in_place : Bool → ℕ → Bool
@@ -97,6 +103,7 @@ head_judged limits first fields =
 -- the head and the place of the codes, or the first fault
 abbrev pub head_read : HeadLimits → List ℕ → Bool → Result (SliceHead × ℕ) HeadFault
 head_read limits content first =
-    header_read content first >>> λ read.
-    head_judged limits first read.0 >>> λ head.
-    Ok (head, read.1)
+    header_read Profile header_mode 9 content first >>> λ read.
+    codes_read content read.end >>> λ place.
+    head_judged limits first read.fields >>> λ head.
+    Ok (head, place)

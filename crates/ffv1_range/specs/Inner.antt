@@ -3,3 +3,4 @@ pub mod Forms
 pub mod HeaderForms
 pub mod TableForms
 pub mod Views
+pub mod SliceHeader

@@ -18,4 +18,5 @@ pub mod SetupFaults
 pub mod Tiles
 pub mod HeaderForms
 pub mod Header
+pub mod SliceHeader
 pub mod Inner

@@ -31,6 +31,11 @@ abbrev pub accepts_ec : Scope → ℕ → Bool
 accepts_ec Profile ec = ec == 1
 accepts_ec Version3 ec = nat_le ec 1
 
+-- the keyframe bit: the profile's frames are keyframes
+abbrev pub accepts_key : Scope → Bool → Bool
+accepts_key Profile key = key
+accepts_key Version3 key = true
+
 -- ---- alike for both
 
 -- RGB has its three planes

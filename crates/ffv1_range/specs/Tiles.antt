@@ -52,11 +52,15 @@ tiles_rect g i j columns rows =
 abbrev pub tile_rect : GridValue → ℕ → TileRect
 tile_rect g t = tiles_rect g (t % g.across) (t / g.across) 1 1
 
--- a rectangle of luma in a plane: 0 is luma; in a chroma plane its place is rounded down, its size rounded up
+-- a rectangle of luma in a chroma plane: its place is rounded down, its size rounded up
+abbrev pub chroma_rect : GridValue → TileRect → TileRect
+chroma_rect g r =
+    record { x = r.x / 2 ^ g.shift_h; y = r.y / 2 ^ g.shift_v; w = div_ceil r.w (2 ^ g.shift_h); h = div_ceil r.h (2 ^ g.shift_v) }
+
+-- a rectangle of luma in a plane: 0 is luma, the others are chroma
 abbrev pub rect_in_plane : GridValue → ℕ → TileRect → TileRect
 rect_in_plane g zero r = r
-rect_in_plane g (suc plane) r =
-    record { x = r.x / 2 ^ g.shift_h; y = r.y / 2 ^ g.shift_v; w = div_ceil r.w (2 ^ g.shift_h); h = div_ceil r.h (2 ^ g.shift_v) }
+rect_in_plane g (suc plane) r = chroma_rect g r
 
 abbrev pub plane_rect : GridValue → ℕ → ℕ → TileRect
 plane_rect g t plane = rect_in_plane g plane (tile_rect g t)

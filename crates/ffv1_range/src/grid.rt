@@ -48,7 +48,7 @@ impl Model for Grid {
 }
 
 impl Grid {
-    ghost use Rattle.ffv1_range.specs.Tiles.{GridValue, IsGrid, tile_count, plane_count, tile_rect, tiles_rect, plane_rect, frame_rect, rect_in_plane, grid_of};
+    ghost use Rattle.ffv1_range.specs.Tiles.{GridValue, IsGrid, tile_count, plane_count, tile_rect, tiles_rect, plane_rect, frame_rect, rect_in_plane, chroma_rect, grid_of};
 
     /// The grid of a recording's frames.
     pub(crate) fn of(recording: &Recording) -> Grid
@@ -152,8 +152,17 @@ impl Grid {
         ensures { result ≡ rect_in_plane self.now plane rect }
     {
         if plane == 0 {
-            return rect;
+            rect
+        } else {
+            self.chroma_rect(rect)
         }
+    }
+
+    /// Where a rectangle of luma lies in a chroma plane of Y Cb Cr: its place is rounded down, its size up. Other planes, alpha among them,
+    /// have it where luma has.
+    pub fn chroma_rect(&self, rect: TileRect) -> TileRect
+        ensures { result ≡ chroma_rect self.now rect }
+    {
         TileRect {
             x: rect.x >> self.shift_h,
             y: rect.y >> self.shift_v,

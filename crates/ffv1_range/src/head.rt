@@ -2,26 +2,35 @@
 //!
 //! The content of a slice begins with it, range-coded in a content that nothing follows; the keyframe bit of the frame
 //! (section 4.4) stands before the header of the payload's first slice.
-ghost use Rattle.std.specs.Prelude.{◌≡◌, ◌≤◌, ℕ, Ok, false, IfOk};
+ghost use Rattle.std.specs.Prelude.{◌≡◌, ◌+◌, ◌≤◌, ℕ, Ok, false, IfOk, take, nat_le};
+ghost use Rattle.ffv1_range.specs.Decoder.{Starts};
 ghost use Rattle.ffv1_range.specs.Forms.{ReadsForm, same_fault};
-ghost use Rattle.ffv1_range.specs.declared.head.SliceHead.{SliceHead};
 ghost use Rattle.ffv1_range.specs.Header.{header_limits, head_read, head_judged, IsHeadOf};
-ghost use Rattle.ffv1_range.specs.HeaderForms.{fields_form};
-ghost use Rattle.ffv1_range.specs.Inner.HeaderForms.{ReadsKey, IsAtPlace};
+ghost use Rattle.ffv1_range.specs.HeaderForms.{header_fields, fields_form};
+ghost use Rattle.ffv1_range.specs.SliceHeader.{slice_mode, slice_bytes, field_count, slice_header_judged, slice_header_read, IsSliceHeaderOf};
+ghost use Rattle.ffv1_range.specs.Inner.Forms.{ReadsFormAs};
+ghost use Rattle.ffv1_range.specs.Inner.HeaderForms.{ReadsKey, ReadsHeader, IsAtPlace};
+ghost use Rattle.ffv1_range.specs.Inner.SliceHeader.{FollowsDecoder};
 ghost use Rattle.ffv1_range.specs.Inner.Views.{limits_of};
+ghost use Rattle.ffv1_range.specs.declared.head.SliceHead.{SliceHead};
+ghost use Rattle.ffv1_range.specs.declared.head.SliceHeader.{SliceHeader};
+ghost use Rattle.ffv1_range.specs.declared.head.SliceStart.{SliceStart};
 
 use crate::coding::{RangeDecoder, RangeFault};
+use crate::recording::Recording;
+use crate::scope::Scope;
 use crate::setup::Setup;
 
-/// Why a slice's content has no header of the profile. `Range` and `NotKey` are returned where they are met; the others are returned, in
-/// this order, after all of the header was read.
+/// Why a slice's content has no header, of the profile or of any recording. `Range` and `NotKey` are returned where they are met; the others
+/// are returned, in this order, after all of the header was read. Of slices of any recording `NotKey`, `Spans` and `FirstElsewhere` are not
+/// returned.
 #[derive(Clone, Copy, Debug, PartialEq, Eq)]
 pub enum HeadFault {
     /// A range-coded value can't be read.
     Range(RangeFault),
     /// The keyframe bit of the payload's first slice is 0.
     NotKey,
-    /// The slice's place is outside the grid.
+    /// A tile of the slice is outside the grid. Of a slice of the profile the first tile alone is judged so.
     OutsideGrid,
     /// The slice spans more than one tile.
     Spans,
@@ -42,8 +51,11 @@ impl From<RangeFault> for HeadFault {
     }
 }
 
-/// How many fields a header has.
+/// How many fields a header has where there is no extra plane.
 pub const HEAD_FIELDS: usize = 9;
+
+/// How many a header has where there is one.
+const MOST_FIELDS: usize = 10;
 
 /// What a slice's header says.
 #[derive(Clone, Copy, Debug, PartialEq, Eq)]
@@ -61,6 +73,45 @@ pub struct SliceHead {
     pub sar_num: u32,
     /// Its denominator (section 4.6.8).
     pub sar_den: u32,
+}
+
+/// What the header of a slice of any recording says.
+#[derive(Clone, Copy, Debug, PartialEq, Eq)]
+pub struct SliceHeader {
+    /// slice_x: the column of its first tile.
+    pub x: u32,
+    /// slice_y: the row of its first tile.
+    pub y: u32,
+    /// slice_width: its tiles across.
+    pub w: u32,
+    /// slice_height: its tiles down.
+    pub h: u32,
+    /// The sets of quantization tables of the first plane, of the second and third, and of alpha; 0 for alpha where there is none.
+    pub tables: [u32; 3],
+    /// How the fields of a frame follow each other (section 4.6.6), as it stands.
+    pub picture_structure: u32,
+    /// The numerator of a sample's aspect ratio (section 4.6.7).
+    pub sar_num: u32,
+    /// Its denominator (section 4.6.8).
+    pub sar_den: u32,
+    /// The frame's keyframe bit (section 4.4), in the payload's first slice.
+    pub key: Option<bool>,
+}
+
+/// How a slice of any recording goes on after its header.
+#[derive(Drop)]
+pub enum SliceStart<'a> {
+    /// With coder_type 0: how many bytes of the content stand before its first Golomb-Rice byte.
+    Codes(usize),
+    /// With coder_type 1 and 2: the decoder of the header, whose next value is the first sample's.
+    Samples(RangeDecoder<'a>),
+}
+
+/// The keyframe bit where there is one, and the fields of a header with 0 after them.
+#[derive(Clone, Copy)]
+struct HeaderFields {
+    key: Option<bool>,
+    fields: [u32; MOST_FIELDS],
 }
 
 /// What judges a header: the tiles across and down, and the sets of quantization tables.
@@ -109,30 +160,109 @@ fn read_head_within(
     ensures { result ≡ head_read (limits_of limits) content.now first }
 {
     let mut decoder = RangeDecoder::sentinel(content)?;
-    read_key(&mut decoder, first)?;
-    let fields = read_head_fields(&mut decoder)?;
+    let header = read_header(Scope::Profile, &mut decoder, first, HEAD_FIELDS)?;
     let place = decoder.finish()?;
-    let head = judged(limits, first, &fields)?;
+    let head = judged(limits, first, &header.fields)?;
     Ok((head, place))
 }
 
-/// Reads the keyframe bit where the content is the payload's first. It has to be 1.
-fn read_key(decoder: &mut RangeDecoder<'_>, first: bool) -> Result<(), HeadFault>
-    requires sentinel { decoder.old.mode.closed ≡ false }
-    requires alive { IsAtPlace decoder.old }
-    ensures { ReadsKey first decoder.old result decoder.new }
+/// The header that the content of a slice of any recording begins with, and how the slice goes on after it. The content is the slice
+/// without its footer; it is `first` where it is the payload's first, and then the frame's keyframe bit stands before its header. It takes
+/// no memory.
+///
+/// Returns `Range` if a range-coded value can't be read. Once all of the header was read, and with coder_type 0 the bit after it,
+/// `OutsideGrid` is returned if a tile of the slice is outside the grid, then `TableIndex`. Others are not returned.
+pub fn read_slice_head<'a>(
+    recording: &'a Recording,
+    content: &'a [u8],
+    first: bool,
+) -> Result<(SliceHeader, SliceStart<'a>), HeadFault>
+    ensures found { IfOk result (λ r. IsSliceHeaderOf recording.now content.now first r.0 r.1) }
+    ensures only { (header : SliceHeader) (start : SliceStart) → IsSliceHeaderOf recording.now content.now first header start → result ≡ Ok (header, start) }
+    ensures fault { result ≡ slice_header_read recording.now content.now first }
 {
-    if !first {
-        return Ok(());
-    }
-    let mut state = 128;
-    if !decoder.bit(&mut state)? {
-        return Err(HeadFault::NotKey);
-    }
-    Ok(())
+    let mut decoder = slice_decoder(recording, content)?;
+    let count = field_count(recording.has_alpha());
+    let header = read_header(Scope::Version3, &mut decoder, first, count)?;
+    let start = slice_start(recording, decoder)?;
+    let header = slice_header(recording, &header)?;
+    Ok((header, start))
 }
 
-/// The nine fields of a header, as they stand after the keyframe bit (RFC 9043, section 4.6): slice_x, slice_y,
+/// A decoder at the start of a slice's content.
+fn slice_decoder<'a>(
+    recording: &'a Recording,
+    content: &'a [u8],
+) -> Result<RangeDecoder<'a>, RangeFault>
+    ensures { Starts (slice_mode recording.now) (slice_bytes recording.now content.now) result }
+{
+    if recording.coder() == 0 {
+        RangeDecoder::sentinel(content)
+    } else {
+        RangeDecoder::slice(content, recording.transitions())
+    }
+}
+
+/// How many fields a header has: one more where there is an extra plane.
+fn field_count(has_alpha: bool) -> usize
+    ensures { result ≡ field_count has_alpha }
+{
+    if has_alpha { MOST_FIELDS } else { HEAD_FIELDS }
+}
+
+/// How a slice goes on after its header.
+fn slice_start<'a>(
+    recording: &Recording,
+    decoder: RangeDecoder<'a>,
+) -> Result<SliceStart<'a>, HeadFault>
+    requires { decoder.mode.closed ≡ false }
+    ensures { FollowsDecoder recording.now decoder.entry result }
+{
+    if recording.coder() != 0 {
+        return Ok(SliceStart::Samples(decoder));
+    }
+    let place = decoder.finish()?;
+    Ok(SliceStart::Codes(place))
+}
+
+/// The keyframe bit and so many fields, as they stand at the front of a slice (RFC 9043, sections 4.4 and 4.6).
+fn read_header(
+    scope: Scope,
+    decoder: &mut RangeDecoder<'_>,
+    first: bool,
+    count: usize,
+) -> Result<HeaderFields, HeadFault>
+    requires alive { IsAtPlace decoder.old }
+    requires some { 1 ≤ count }
+    requires few { count ≤ 10 }
+    ensures { ReadsHeader scope count first decoder.old result decoder.new }
+{
+    let key = read_key(scope, decoder, first)?;
+    let fields = read_fields(decoder, count)?;
+    Ok(HeaderFields { key, fields })
+}
+
+/// Reads the keyframe bit where the content is the payload's first.
+fn read_key(
+    scope: Scope,
+    decoder: &mut RangeDecoder<'_>,
+    first: bool,
+) -> Result<Option<bool>, HeadFault>
+    requires { IsAtPlace decoder.old }
+    ensures { ReadsKey scope first decoder.old result decoder.new }
+{
+    if !first {
+        return Ok(None);
+    }
+    let mut state = 128;
+    let key = decoder.bit(&mut state)?;
+    if !scope.accepts_key(key) {
+        return Err(HeadFault::NotKey);
+    }
+    Ok(Some(key))
+}
+
+/// The nine fields of a header without extra plane, as they stand after the keyframe bit (RFC 9043, section 4.6): slice_x, slice_y,
 /// slice_width - 1, slice_height - 1, the two table sets, picture_structure, sar_num and sar_den. None of them is
 /// judged.
 ///
@@ -140,19 +270,71 @@ fn read_key(decoder: &mut RangeDecoder<'_>, first: bool) -> Result<(), HeadFault
 pub fn read_head_fields(decoder: &mut RangeDecoder<'_>) -> Result<[u32; HEAD_FIELDS], RangeFault>
     ensures { ReadsForm same_fault fields_form decoder.old tt result decoder.new tt }
 {
+    let [a, b, c, d, e, f, g, h, i, _] = read_fields(decoder, HEAD_FIELDS)?;
+    Ok([a, b, c, d, e, f, g, h, i])
+}
+
+/// So many fields of a header, and 0 after them.
+fn read_fields(
+    decoder: &mut RangeDecoder<'_>,
+    count: usize,
+) -> Result<[u32; MOST_FIELDS], RangeFault>
+    requires some { 1 ≤ count }
+    requires few { count ≤ 10 }
+    ensures { ReadsFormAs same_fault (λ fields. take count fields) (header_fields count) decoder.old tt result decoder.new tt }
+{
     let mut states = [128; 32];
-    let mut fields = [0; HEAD_FIELDS];
-    for index in 0..HEAD_FIELDS {
+    let mut fields = [0; MOST_FIELDS];
+    for index in 0..count {
         let symbol = decoder.unsigned(&mut states)?;
         fields[index] = symbol;
     }
     Ok(fields)
 }
 
+/// The fields of a slice of any recording as a header, or the first fault of them.
+fn slice_header(recording: &Recording, header: &HeaderFields) -> Result<SliceHeader, HeadFault>
+    ensures { result ≡ slice_header_judged recording.now header.now.key (take (field_count recording.now.has_alpha) header.now.fields) }
+{
+    let has_alpha = recording.has_alpha();
+    let [x, y, less_width, less_height, first, second, a, b, c, d] = header.fields;
+    let (third, picture_structure, sar_num, sar_den) = if has_alpha {
+        (a, b, c, d)
+    } else {
+        (0, a, b, c)
+    };
+    let grid = recording.grid();
+    if !is_within(x, less_width, grid.across()) || !is_within(y, less_height, grid.down()) {
+        return Err(HeadFault::OutsideGrid);
+    }
+    let sets = recording.sets();
+    if first as usize >= sets || second as usize >= sets || has_alpha && third as usize >= sets {
+        return Err(HeadFault::TableIndex);
+    }
+    Ok(SliceHeader {
+        x,
+        y,
+        w: less_width + 1,
+        h: less_height + 1,
+        tables: [first, second, third],
+        picture_structure,
+        sar_num,
+        sar_den,
+        key: header.key,
+    })
+}
+
+/// Whether tiles from a first one on, so many less 1, are among a number of them.
+fn is_within(first: u32, less: u32, among: u32) -> bool
+    ensures { result ≡ nat_le (first + (less + 1)) among }
+{
+    u64::from(first) + u64::from(less) < u64::from(among)
+}
+
 /// The fields as a head, or the first fault of them.
 #[tactic(auto, using(crate::proofs::HeaderSteps::tile_fits))]
-fn judged(limits: Limits, first: bool, fields: &[u32; HEAD_FIELDS]) -> Result<SliceHead, HeadFault>
-    ensures { result ≡ head_judged (limits_of limits) first fields.now }
+fn judged(limits: Limits, first: bool, fields: &[u32; MOST_FIELDS]) -> Result<SliceHead, HeadFault>
+    ensures { result ≡ head_judged (limits_of limits) first (take 9 fields.now) }
 {
     let [
         slice_x,
@@ -164,6 +346,7 @@ fn judged(limits: Limits, first: bool, fields: &[u32; HEAD_FIELDS]) -> Result<Sl
         picture_structure,
         sar_num,
         sar_den,
+        _,
     ] = *fields;
     let (table_y, table_c) = (table_y as usize, table_c as usize);
     if slice_x >= limits.across || slice_y >= limits.down {

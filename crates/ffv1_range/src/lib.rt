@@ -18,7 +18,10 @@ mod transitions;
 pub use coding::{RangeDecoder, RangeFault};
 pub use fault::SetupFault;
 pub use grid::{Grid, TileRect, each_place_in_one_tile, each_tile_in_frame};
-pub use head::{HEAD_FIELDS, HeadFault, SliceHead, read_head, read_head_fields};
+pub use head::{
+    HEAD_FIELDS, HeadFault, SliceHead, SliceHeader, SliceStart, read_head, read_head_fields,
+    read_slice_head,
+};
 pub use recording::{Recording, recording_is_in_version_3, recording_is_one};
 pub use setup::{Setup, setup_is_in_profile, setup_is_one, setup_is_recording};
 pub use symbols::{signed_symbol_is_spelled, symbol_is_spelled};

@@ -1,6 +1,6 @@
 //! Which recordings are read: those of the profile, or all of version 3.
 ghost use Rattle.std.specs.Prelude.{◌≡◌};
-ghost use Rattle.ffv1_range.specs.Scopes.{accepts_coder, accepts_space, accepts_depth, greatest_shift, accepts_extra_plane, accepts_ec};
+ghost use Rattle.ffv1_range.specs.Scopes.{accepts_coder, accepts_space, accepts_depth, greatest_shift, accepts_extra_plane, accepts_ec, accepts_key};
 
 /// Which values of some fields a configuration record may have.
 #[derive(Clone, Copy)]
@@ -70,6 +70,16 @@ impl Scope {
         match self {
             Scope::Profile => ec == 1,
             Scope::Version3 => ec <= 1,
+        }
+    }
+
+    /// Whether a frame's keyframe bit may be this.
+    pub(crate) fn accepts_key(self, key: bool) -> bool
+        ensures { result ≡ accepts_key self key }
+    {
+        match self {
+            Scope::Profile => key,
+            Scope::Version3 => true,
         }
     }
 }
