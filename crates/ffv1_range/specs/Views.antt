@@ -47,8 +47,8 @@ states_value Uncoded = uncoded_states
 states_value Dropped = record { coded = true; initial = None }
 states_value (Kept states) = record { coded = true; initial = Some states.items }
 
-abbrev pub states_values : List SetStates → List StatesValue
-states_values sets = map states_value sets
+abbrev pub states_values : List TableSet → List StatesValue
+states_values sets = map (λ set. states_value set.states) sets
 
 abbrev pub grid_value : Inside → GridValue
 grid_value g =
@@ -60,6 +60,6 @@ grid_fields g =
     record { width = g.width; height = g.height; across = g.across; down = g.down; has_chroma = g.has_chroma; shift_h = g.shift_h; shift_v = g.shift_v }
 
 -- a recording from the code's fields
-abbrev pub recording_fields : ℕ → Shape → Counts → List TableSet → List SetStates → ℕ → ℕ → ℕ → ℕ → RecordingValue
-recording_fields micro shape counts sets states ec intra width height =
-    recording_of (record { micro = micro; shape = shape_value shape; tiles = counts_of counts; sets = 0 }) (set_values sets) (states_values states) (ec, intra) width height
+abbrev pub recording_fields : ℕ → Shape → Counts → List TableSet → ℕ → ℕ → ℕ → ℕ → RecordingValue
+recording_fields micro shape counts sets ec intra width height =
+    recording_of (record { micro = micro; shape = shape_value shape; tiles = counts_of counts; sets = 0 }) (set_values sets) (states_values sets) (ec, intra) width height

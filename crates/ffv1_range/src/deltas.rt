@@ -2,12 +2,11 @@
 //! for each of the 32 states of each context. With Golomb-Rice codes they are read and dropped.
 //!
 //! Delta number k is read at row k of 32 rows, which start once a record and are kept over its sets.
-ghost use Rattle.std.specs.Prelude.{◌≡◌, ◌≤◌, ◌<◌, ℕ, Bool, true, List, [], IsOk, IfOk, IfErr, Ok, Err, length, slice_index_or, vec_capacity};
+ghost use Rattle.std.specs.Prelude.{◌≡◌, ◌≤◌, ◌<◌, ℕ, Bool, true, [], IsOk, IfOk, IfErr, Ok, Err, vec_capacity};
 ghost use Rattle.ffv1_range.specs.Forms.{ReadsForm, form_at};
 ghost use Rattle.ffv1_range.specs.InitialStates.{initial_states};
 ghost use Rattle.ffv1_range.specs.TableForms.{delta_form, context_deltas, set_states, states_form};
-ghost use Rattle.ffv1_range.specs.Transitions.{delta_byte};
-ghost use Rattle.ffv1_range.specs.Views.{states_value, states_values};
+ghost use Rattle.ffv1_range.specs.Views.{set_values, states_value, states_values};
 ghost use Rattle.ffv1_range.specs.Inner.Forms.{ReadsFormAs, ReadsTo};
 ghost use Rattle.ffv1_range.specs.Inner.TableForms.{ReadsDeltas, states_with, each_set};
 ghost use Rattle.ffv1_range.specs.Inner.Views.{contexts_of};
@@ -30,27 +29,26 @@ pub(crate) enum SetStates {
     Kept(Vec<[u8; 32]>),
 }
 
-/// Reads the initial states of all sets into a vector with room for them, and keeps those that are coded or drops them.
+/// Reads the initial states of all sets into them, and keeps those that are coded or drops them.
 ///
 /// `Memory` stands straight after the states_coded of a set whose states are kept.
 pub(crate) fn read_initial_states(
     alloc: Global,
     decoder: &mut RangeDecoder<'_>,
     record_row: &mut [u8; 32],
-    sets: &[TableSet],
+    sets: &mut [TableSet],
     keeps: bool,
-    states: &mut Vec<SetStates>,
 ) -> Result<(), SetupFault>
-    requires alive { IsOk decoder.old.at }
-    requires empty { states.old.items ≡ [] }
-    requires room { length sets.now ≤ vec_capacity states.old }
-    ensures read { IfOk result (λ done. ReadsTo Range states_values (states_form each_set keeps (contexts_of sets.now)) decoder.old record_row.old (Ok done) decoder.new record_row.new states.new.items) }
-    ensures refused { IfErr result (λ fault. (granted : ℕ → Bool) × (form_at Range (states_form granted keeps (contexts_of sets.now)) decoder.old record_row.old ≡ Err fault)) }
+    requires { IsOk decoder.old.at }
+    ensures read { IfOk result (λ done. ReadsTo Range states_values (states_form each_set keeps (contexts_of sets.old)) decoder.old record_row.old (Ok done) decoder.new record_row.new sets.new) }
+    ensures kept { IfOk result (λ done. set_values sets.new ≡ set_values sets.old) }
+    ensures refused { IfErr result (λ fault. (granted : ℕ → Bool) × (form_at Range (states_form granted keeps (contexts_of sets.old)) decoder.old record_row.old ≡ Err fault)) }
 {
     let mut rows = [[128; 32]; 32];
-    for set in sets {
-        let coded = read_set_states(alloc, decoder, record_row, &mut rows, set.contexts, keeps)?;
-        states.push_reserved(coded);
+    for index in 0..sets.len() {
+        let contexts = sets[index].contexts;
+        let coded = read_set_states(alloc, decoder, record_row, &mut rows, contexts, keeps)?;
+        sets[index].states = coded;
     }
     Ok(())
 }

@@ -31,7 +31,6 @@ pub struct Recording {
     pub(crate) shape: Shape,
     pub(crate) counts: Counts,
     pub(crate) sets: Vec<TableSet>,
-    pub(crate) states: Vec<SetStates>,
     pub(crate) ec: u32,
     pub(crate) intra: u32,
     pub(crate) width: u32,
@@ -44,9 +43,9 @@ impl Model for Recording {
 
     ghost Value = { RecordingValue };
 
-    ghost view = { λ x. recording_fields x.micro x.shape x.counts x.sets.items x.states.items x.ec x.intra x.width x.height };
+    ghost view = { λ x. recording_fields x.micro x.shape x.counts x.sets.items x.ec x.intra x.width x.height };
 
-    ghost invariant = { λ x. IsInVersion3 (recording_fields x.micro x.shape x.counts x.sets.items x.states.items x.ec x.intra x.width x.height) };
+    ghost invariant = { λ x. IsInVersion3 (recording_fields x.micro x.shape x.counts x.sets.items x.ec x.intra x.width x.height) };
 }
 
 impl Recording {
@@ -188,7 +187,7 @@ impl Recording {
         requires { set < length self.now.setup.sets }
         ensures { result ≡ states_coded self.now set }
     {
-        !matches!(&self.states[set], SetStates::Uncoded)
+        !matches!(&self.sets[set].states, SetStates::Uncoded)
     }
 
     /// The initial states of a set, 32 for each of its contexts (RFC 9043, section 4.2.15). `None` with coder_type 0, and where none are
@@ -198,7 +197,7 @@ impl Recording {
         ensures states { option_copied result ≡ initial_of self.now set }
         ensures each { IfSome result (λ states. length states.now ≡ set_contexts self.now.setup set) }
     {
-        match &self.states[set] {
+        match &self.sets[set].states {
             SetStates::Kept(states) => Some(states),
             _ => None,
         }
@@ -261,17 +260,15 @@ pub(crate) fn read_scoped(
     let mut states = [128; 32];
     let front = read_front(scope, &mut decoder, &mut states, width, height)?;
     let mut sets = Vec::with_capacity(alloc, front.sets as usize)?;
-    let mut initial = Vec::with_capacity(alloc, front.sets as usize)?;
     read_sets(&mut decoder, &mut sets, front.sets)?;
     let keeps = front.shape.coder != 0;
-    read_initial_states(alloc, &mut decoder, &mut states, &sets, keeps, &mut initial)?;
+    read_initial_states(alloc, &mut decoder, &mut states, &mut sets, keeps)?;
     let (ec, intra) = read_last_fields(scope, &mut decoder, &mut states)?;
     Ok(Recording {
         micro: front.micro,
         shape: front.shape,
         counts: front.counts,
         sets,
-        states: initial,
         ec,
         intra,
         width,

@@ -2,7 +2,7 @@
 //! row of states of its own; its second half mirrors the first with the other sign.
 //!
 //! The lengths of `Runs` come to 128. The halves of a `TableSet` hold its entries 0 to 127 at their scale.
-ghost use Rattle.std.specs.Prelude.{◌≡◌, ◌≤◌, ◌<◌, ℕ, [], IfOk, length, slice_index, slice_index_or, sum, vec_capacity};
+ghost use Rattle.std.specs.Prelude.{◌≡◌, ◌≤◌, ◌<◌, ℕ, [], length, slice_index, slice_index_or, sum, vec_capacity};
 ghost use Rattle.ffv1_range.specs.Forms.{ReadsForm};
 ghost use Rattle.ffv1_range.specs.Inner.Forms.{ReadsFormAs, ReadsTo};
 ghost use Rattle.ffv1_range.specs.Views.{set_value, set_values};
@@ -11,6 +11,7 @@ ghost use Rattle.ffv1_range.specs.TableForms.{table_form, tables_from, sets_from
 ghost use Rattle.ffv1_range.specs.declared.fault.SetupFault.TheVariants.{Range};
 
 use crate::coding::RangeDecoder;
+use crate::deltas::SetStates;
 use crate::fault::SetupFault;
 use std::marker::Model;
 
@@ -96,6 +97,8 @@ pub(crate) struct TableSet {
     pub(crate) halves: [[u16; 128]; 5],
     /// The number of contexts.
     pub(crate) contexts: u32,
+    /// The initial states of its contexts.
+    pub(crate) states: SetStates,
 }
 
 impl TableSet {
@@ -116,7 +119,7 @@ impl TableSet {
     }
 }
 
-/// Reads the five tables of one set.
+/// Reads the five tables of one set. Its states are those of a set where none are coded.
 pub(crate) fn read_set(decoder: &mut RangeDecoder<'_>) -> Result<TableSet, SetupFault>
     ensures { ReadsFormAs Range set_value (tables_from 5 1 []) decoder.old tt result decoder.new tt }
 {
@@ -134,6 +137,7 @@ pub(crate) fn read_set(decoder: &mut RangeDecoder<'_>) -> Result<TableSet, Setup
     Ok(TableSet {
         halves,
         contexts: (scale + 1) / 2,
+        states: SetStates::Uncoded,
     })
 }
 
@@ -147,7 +151,6 @@ pub(crate) fn read_sets(
     requires empty { sets.old.items ≡ [] }
     requires room { count ≤ vec_capacity sets.old }
     ensures read { ReadsTo Range set_values (sets_from count []) decoder.old tt result decoder.new tt sets.new.items }
-    ensures size { IfOk result (λ done. length sets.new.items ≡ count) }
 {
     for _ in 0..count {
         let set = read_set(decoder)?;

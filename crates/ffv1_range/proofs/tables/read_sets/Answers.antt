@@ -16,7 +16,6 @@ returns-in_err-set c =
       read = sets_fails (sets_from c.args.count []) (c.args.count - c.loop.counter) (c.args.count - (c.loop.counter + 1))
           (set_values c.loop.sets.items) c.in_err-set.field-0.0
           c.args.decoder.now c.loop.decoder c.read_set.new.decoder (omega arith) c.loop.invariant.going c.in_err-set.ensures;
-      size = tt;
     })
 
 pub loop-preserved : goal.loop-preserved
@@ -39,5 +38,4 @@ returns c =
     record {
       read = sets_end (sets_from c.args.count []) (c.args.count - c.loop.counter) (set_values c.loop.sets.items) c.args.decoder.now c.loop.decoder
           (omega arith) (c.loop.invariant.alive (omega arith)) c.loop.invariant.going;
-      size = omega (arith, c.loop.invariant.size);
     }
