@@ -1,9 +1,7 @@
--- No bits begin with the spellings of two planes.
-use Rattle.std.proofs.Common.{◌≡◌, ◌≢◌, ℕ, zero, suc, ◌+◌, ◌-◌, ◌%◌, ◌*◌, ◌/◌, ◌<◌, ◌≤◌, Bool, true, false, not, ◌&&◌, cond, eqb, List, [], ◌∷◌, ◌++◌, map, filter, fold, refl, sym, ap, ◌∙◌, subst, arith, append_assoc, ⊎_elim, ℤ, pos, negsuc, nat_abs, int_lt, ◌-ℤ◌}
+-- No bits begin with the spellings of two rows.
+use Rattle.std.proofs.Common.{◌≡◌, ◌≢◌, ℕ, zero, suc, ◌+◌, ◌-◌, ◌<◌, ◌≤◌, Bool, true, false, not, ◌&&◌, cond, List, [], ◌∷◌, ◌++◌, map, filter, fold, refl, sym, ap, ◌∙◌, subst, arith, append_assoc, ⊎_elim, ℤ, pos, negsuc, nat_abs, int_lt, ◌-ℤ◌}
 use Rattle.std.proofs.lemmas.Int.{ints}
-use Rattle.std.proofs.lemmas.Bool.{cases_lt, cases_Bool, and_parts, not-true}
-use Rattle.std.proofs.lemmas.Nat.{div-add-mod', mod-mul-add}
-use Rattle.std.proofs.Math.Nat.{mul-add-mod_self_right, mod_self}
+use Rattle.std.proofs.lemmas.Bool.{cases_lt, cases_Bool, and_parts}
 use Rattle.std.proofs.lemmas.List.{map-append}
 use Rattle.std.proofs.lemmas.List.Elements.{filter-append}
 use Rattle.ffv1_rice.specs.States.{start_state, after_value, IsDifference, IsCodedDepth}
@@ -11,24 +9,10 @@ use Rattle.ffv1_rice.specs.Codes.{SpellsValue, decoded_value}
 use Rattle.ffv1_rice.specs.Runs.{SpellsRun}
 use Rattle.ffv1_rice.proofs.OneCode.{one_value}
 use Rattle.ffv1_rice.proofs.OneRun.{one_run}
-use Rattle.ffv1_plane.specs.Spelling.{Residuals, begins_line, is_zero, is_in_run, is_skipped, is_coded, follows_skipped, starts_run, left_in_line, skipped_among, run_length, value_at, samples_before, state_before, SampleSpells, SamplesSpell}
+use Rattle.ffv1_plane.specs.Spelling.{Residuals, is_zero, is_in_run, is_skipped, is_coded, follows_skipped, starts_run, left_in_line, skipped_among, run_length, value_at, columns_before, values_before, state_before, SampleSpells, SamplesSpell}
 
 abbrev pub residuals : ℕ → ℕ → (ℕ → ℤ) → (ℕ → ℤ) → Residuals
 residuals depth width context difference = record { depth = depth; width = width; context = context; difference = difference }
-
--- one column on, in one line
-pub next_column : (n w : ℕ) → 0 < w → eqb ((n + 1) % w) 0 ≡ false → (n + 1) % w ≡ n % w + 1
-next_column n w some inside =
-    let whole : n / w * w + n % w ≡ n = div-add-mod' n w in
-    let below : n % w < w = omega arith in
-    let split : n + 1 ≡ n / w * w + (n % w + 1) = omega (arith, whole) in
-    ⊎_elim
-    (λ less. ap (λ k. k % w) split ∙ mod-mul-add (n / w) w (n % w + 1) less)
-    (λ most.
-    let end : n % w + 1 ≡ w = omega arith in
-    let again : (n / w * w + (n % w + 1)) % w ≡ 0 = ap (λ k. (n / w * w + k) % w) end ∙ mul-add-mod_self_right (n / w) w w ∙ mod_self w in
-    absurd (let zero_there : (n + 1) % w ≡ 0 = ap (λ k. k % w) split ∙ again in let t : eqb ((n + 1) % w) 0 ≡ true = ap (λ k. eqb k 0) zero_there in cc))
-    (cases_lt (n % w + 1) w)
 
 module _ (depth w : ℕ) (c e d f : ℕ → ℤ) where
   pub in_run_alike : (n : ℕ) → ((j : ℕ) → j ≤ n → c j ≡ e j) → ((j : ℕ) → j < n → d j ≡ f j) → is_in_run (residuals depth w c d) n ≡ is_in_run (residuals depth w e f) n
@@ -55,16 +39,16 @@ kept false n g h same = refl
 
 -- lists of samples on which two tests and two values agree
 values_alike : (n : ℕ) (p q : ℕ → Bool) (g h : ℕ → ℤ) → ((j : ℕ) → j < n → p j ≡ q j) → ((j : ℕ) → j < n → g j ≡ h j)
-    → map g (filter p (samples_before n)) ≡ map h (filter q (samples_before n))
-unfolding samples_before
+    → map g (filter p (columns_before n)) ≡ map h (filter q (columns_before n))
+unfolding columns_before
 values_alike zero p q g h tests values = refl
 values_alike (suc n) p q g h tests values =
-    let ind : map g (filter p (samples_before n)) ≡ map h (filter q (samples_before n)) =
+    let ind : map g (filter p (columns_before n)) ≡ map h (filter q (columns_before n)) =
     values_alike n p q g h (λ j k. tests j (omega arith)) (λ j k. values j (omega arith)) in
     let test : p n ≡ q n = tests n (omega arith) in
     let value : g n ≡ h n = values n (omega arith) in
     rw (filter-append p, filter-append q, map-append g, map-append h, ind)
-    (ap (λ l. map h (filter q (samples_before n)) ++ l) (rw test (kept (q n) n g h value)))
+    (ap (λ l. map h (filter q (columns_before n)) ++ l) (rw test (kept (q n) n g h value)))
 
 -- a level's difference isn't 0, so its value gives it
 one_difference : (level : Bool) (x y : ℤ) → (level ≡ true → x ≢ pos 0) → (level ≡ true → y ≢ pos 0) → decoded_value level x ≡ decoded_value level y → x ≡ y
@@ -87,7 +71,7 @@ zero_of (negsuc n) h = absurd (grind (arith, ints))
 pub nonzero_of : (x : ℤ) → is_zero x ≡ false → x ≢ pos 0
 nonzero_of x h e = let f : is_zero x ≡ true = ap is_zero e in absurd cc
 
--- Two planes that the same bits begin to spell, up to sample n: what was read of them is alike.
+-- Two rows that the same bits begin to spell, up to column n: what was read of them is alike.
 pub record Alike (depth w : ℕ) (c e d f : ℕ → ℤ) (n : ℕ) : Type 0 where
   pub contexts : (j : ℕ) → j < n → c j ≡ e j
   pub differences : (j : ℕ) → j < n → d j ≡ f j
@@ -125,21 +109,23 @@ length_after r q s count m is a b same =
     let right : skipped_among q (suc m) s ≡ suc (skipped_among q m (s + 1)) = ap (λ t. cond t (suc (skipped_among q m (s + 1))) 0) b in
     omega (arith, opened, left, right)
 
-module _ (earlier : ℕ → List ℤ) (depth w : ℕ) (c e d f : ℕ → ℤ) (some : 0 < w) (deep : IsCodedDepth depth)
+module _ (earlier : ℕ → List ℤ) (depth w : ℕ) (c e d f : ℕ → ℤ) (deep : IsCodedDepth depth)
     (range : (j : ℕ) → IsDifference depth (d j)) (also : (j : ℕ) → IsDifference depth (f j))
     (determined : (n : ℕ) → ((j : ℕ) → j < n → d j ≡ f j) → c n ≡ e n) where
   pub contexts_to : (n : ℕ) → ((j : ℕ) → j < n → d j ≡ f j) → (j : ℕ) → j ≤ n → c j ≡ e j
   contexts_to n alike j h = determined j (λ i less. alike i (omega arith))
 
-  pub states_alike : (n k : ℕ) → ((j : ℕ) → j < n → d j ≡ f j) → state_before earlier (residuals depth w c d) k n ≡ state_before earlier (residuals depth w e f) k n
-  states_alike n k alike =
+  pub before_alike : (n k : ℕ) → ((j : ℕ) → j < n → d j ≡ f j) → values_before (residuals depth w c d) k n ≡ values_before (residuals depth w e f) k n
+  before_alike n k alike =
       let runs : (j : ℕ) → j < n → is_in_run (residuals depth w c d) j ≡ is_in_run (residuals depth w e f) j =
       λ j h. in_run_alike depth w c e d f j (contexts_to j (λ i less. alike i (omega arith))) (λ i less. alike i (omega arith)) in
-      ap (λ l. fold (λ state value. after_value depth state value) start_state (earlier k ++ l))
-      (values_alike n _ _ _ _
+      values_alike n _ _ _ _
       (λ j h. let r : is_in_run (residuals depth w c d) j ≡ is_in_run (residuals depth w e f) j = runs j h in let a : d j ≡ f j = alike j h in
       let b : c j ≡ e j = determined j (λ i less. alike i (omega arith)) in rw (r, a, b) refl)
-      (λ j h. let r : is_in_run (residuals depth w c d) j ≡ is_in_run (residuals depth w e f) j = runs j h in let a : d j ≡ f j = alike j h in rw (r, a) refl))
+      (λ j h. let r : is_in_run (residuals depth w c d) j ≡ is_in_run (residuals depth w e f) j = runs j h in let a : d j ≡ f j = alike j h in rw (r, a) refl)
+
+  pub states_alike : (n k : ℕ) → ((j : ℕ) → j < n → d j ≡ f j) → state_before earlier (residuals depth w c d) k n ≡ state_before earlier (residuals depth w e f) k n
+  states_alike n k alike = ap (λ l. fold (λ state value. after_value depth state value) start_state (earlier k ++ l)) (before_alike n k alike)
 
   -- sample n, after what was read alike
   pub record AfterRun (n next then : ℕ) (rest more : List Bool) : Type 0 where
@@ -182,11 +168,11 @@ module _ (earlier : ℕ → List ℤ) (depth w : ℕ) (c e d f : ℕ → ℤ) (s
       ∙ ap (λ l. l ++ rest) (sym a.joined) ∙ joined ∙ ap (λ l. l ++ more) b.joined ∙ append_assoc b.run b.code more in
       runs_alike n index then next last a.run b.run (a.code ++ rest) (b.code ++ more) alike same inner a.run_starts a.no_run_starts b.run_starts b.no_run_starts
 
-  pub skipped_alike : (n next then : ℕ) (rest more : List Bool) → Alike depth w c e d f n → AfterRun n next then rest more
+  pub skipped_alike : (n next then : ℕ) (rest more : List Bool) → n < w → Alike depth w c e d f n → AfterRun n next then rest more
       → is_skipped (residuals depth w c d) n ≡ is_skipped (residuals depth w e f) n
-  skipped_alike n next then rest more alike after =
+  skipped_alike n next then rest more inside alike after =
       let runs : is_in_run (residuals depth w c d) n ≡ is_in_run (residuals depth w e f) n = in_run_alike depth w c e d f n (contexts_to n alike.differences) alike.differences in
-      let left : 0 < left_in_line (residuals depth w c d) n = (let small : n % w < w = omega arith in omega arith) in
+      let left : 0 < left_in_line (residuals depth w c d) n = omega arith in
       ⊎_elim
       (λ yes. first_skipped (residuals depth w c d) (residuals depth w e f) n (left_in_line (residuals depth w c d) n) (left_in_line (residuals depth w c d) n - 1) 0 (omega arith)
       (after.lengths yes))
@@ -194,12 +180,12 @@ module _ (earlier : ℕ → List ℤ) (depth w : ℕ) (c e d f : ℕ → ℤ) (s
       (cases_Bool (is_in_run (residuals depth w c d) n))
 
   -- one sample more
-  pub one_sample : (n index then next last : ℕ) (portion words rest more : List Bool) → Alike depth w c e d f n → index ≡ then → portion ++ rest ≡ words ++ more
+  pub one_sample : (n index then next last : ℕ) (portion words rest more : List Bool) → n < w → Alike depth w c e d f n → index ≡ then → portion ++ rest ≡ words ++ more
       → SampleSpells earlier (residuals depth w c d) n index portion next → SampleSpells earlier (residuals depth w e f) n then words last → (d n ≡ f n) × (next ≡ last)
       × (rest ≡ more)
-  one_sample n index then next last portion words rest more alike same joined a b =
+  one_sample n index then next last portion words rest more inside alike same joined a b =
       let after = after_run n index then next last portion words rest more alike same joined a b in
-      let skipped : is_skipped (residuals depth w c d) n ≡ is_skipped (residuals depth w e f) n = skipped_alike n next last _ _ alike after in
+      let skipped : is_skipped (residuals depth w c d) n ≡ is_skipped (residuals depth w e f) n = skipped_alike n next last _ _ inside alike after in
       let runs : is_in_run (residuals depth w c d) n ≡ is_in_run (residuals depth w e f) n = in_run_alike depth w c e d f n (contexts_to n alike.differences) alike.differences in
       let here : c n ≡ e n = determined n alike.differences in
       ⊎_elim
@@ -233,43 +219,37 @@ module _ (earlier : ℕ → List ℤ) (depth w : ℕ) (c e d f : ℕ → ℤ) (s
       (cases_Bool (is_skipped (residuals depth w c d) n))
 
   -- what is alike before the next sample, too
-  alike_more : (n next last : ℕ) (rest more : List Bool) → Alike depth w c e d f n → AfterRun n next last rest more → d n ≡ f n → Alike depth w c e d f (n + 1)
+  alike_more : (n next last : ℕ) (rest more : List Bool) → n < w → Alike depth w c e d f n → AfterRun n next last rest more → d n ≡ f n → Alike depth w c e d f (n + 1)
   unfolding follows_skipped
-  alike_more n next last rest more alike after here = record {
+  alike_more n next last rest more inside alike after here = record {
     contexts = λ j h. determined j (λ i less. alike.differences i (omega arith));
     differences = λ j h. ⊎_elim (λ less. alike.differences j less) (λ most. let j_is : j ≡ n = omega arith in rw j_is here) (cases_lt j n);
     runs = λ follows.
         let runs : is_in_run (residuals depth w c d) n ≡ is_in_run (residuals depth w e f) n =
         in_run_alike depth w c e d f n (contexts_to n alike.differences) alike.differences in
-        let opened : (not (begins_line (residuals depth w c d) (suc n)) && is_skipped (residuals depth w c d) n) ≡ true =
+        let skip : is_skipped (residuals depth w c d) n ≡ true =
         ap (λ k. follows_skipped (residuals depth w c d) k) (let k : suc n ≡ n + 1 = omega arith in k) ∙ follows in
-        let both = and_parts (not (begins_line (residuals depth w c d) (suc n))) (is_skipped (residuals depth w c d) n) opened in
-        let skip : is_skipped (residuals depth w c d) n ≡ true = both.1 in
         let skip' : is_skipped (residuals depth w e f) n ≡ true = rw (← runs, ← here) skip in
         let length = after.lengths ((and_parts (is_in_run (residuals depth w c d) n) (is_zero (d n)) skip).0) in
-        let small : n % w < w = omega arith in
-        let k : suc n ≡ n + 1 = omega arith in
-        let inside : eqb ((n + 1) % w) 0 ≡ false = ap (λ j. eqb (j % w) 0) (sym k) ∙ not-true (begins_line (residuals depth w c d) (suc n)) both.0 in
-        let column : (n + 1) % w ≡ n % w + 1 = next_column n w some inside in
-        let left : left_in_line (residuals depth w c d) n ≡ suc (w - (n + 1) % w) = omega arith in
-        length_after (residuals depth w c d) (residuals depth w e f) n (left_in_line (residuals depth w c d) n) (w - (n + 1) % w) left skip skip' length;
+        let left : left_in_line (residuals depth w c d) n ≡ suc (w - (n + 1)) = omega arith in
+        length_after (residuals depth w c d) (residuals depth w e f) n (left_in_line (residuals depth w c d) n) (w - (n + 1)) left skip skip' length;
   }
 
-  pub one_reading : (n : ℕ) (front words rest more : List Bool) (next last : ℕ) → SamplesSpell earlier (residuals depth w c d) n front next
-      → SamplesSpell earlier (residuals depth w e f) n words last
+  pub one_reading : (first n : ℕ) (front words rest more : List Bool) (next last : ℕ) → n ≤ w
+      → SamplesSpell earlier (residuals depth w c d) first n front next → SamplesSpell earlier (residuals depth w e f) first n words last
       → front ++ rest ≡ words ++ more → Alike depth w c e d f n × (next ≡ last) × (rest ≡ more)
   unfolding SamplesSpell follows_skipped
-  one_reading zero front words rest more next last a b same = (
+  one_reading first zero front words rest more next last low a b same = (
     record { contexts = λ j h. absurd (omega arith); differences = λ j h. absurd (omega arith); runs = λ h. absurd cc },
     a.1 ∙ sym b.1,
     ap (λ l. l ++ rest) (sym a.0) ∙ same ∙ ap (λ l. l ++ more) b.0,
   )
-  one_reading (suc n) front words rest more next last (a0, a1, a2, a3, a4, a5) (b0, b1, b2, b3, b4, b5) same =
+  one_reading first (suc n) front words rest more next last low (a0, a1, a2, a3, a4, a5) (b0, b1, b2, b3, b4, b5) same =
       let joined : a0 ++ (a1 ++ rest) ≡ b0 ++ (b1 ++ more) = sym (append_assoc a0 a1 rest)
       ∙ ap (λ l. l ++ rest) (sym a3) ∙ same ∙ ap (λ l. l ++ more) b3 ∙ append_assoc b0 b1 more in
-      let before = one_reading n a0 b0 (a1 ++ rest) (b1 ++ more) a2 b2 a4 b4 joined in
+      let before = one_reading first n a0 b0 (a1 ++ rest) (b1 ++ more) a2 b2 (omega arith) a4 b4 joined in
       let after = after_run n a2 b2 next last a1 b1 rest more before.0 before.1 before.2 a5 b5 in
-      let sample = one_sample n a2 b2 next last a1 b1 rest more before.0 before.1 before.2 a5 b5 in
-      let all : Alike depth w c e d f (n + 1) = alike_more n next last _ _ before.0 after sample.0 in
+      let sample = one_sample n a2 b2 next last a1 b1 rest more (omega arith) before.0 before.1 before.2 a5 b5 in
+      let all : Alike depth w c e d f (n + 1) = alike_more n next last _ _ (omega arith) before.0 after sample.0 in
       let n_is : n + 1 ≡ suc n = omega arith in
       (subst (Alike depth w c e d f) n_is all, sample.1, sample.2)

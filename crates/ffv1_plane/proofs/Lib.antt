@@ -1,10 +1,12 @@
 pub mod Alike
 pub mod Back
 pub mod Causal
+pub mod CodedLines
 pub mod Contexts
 pub mod Copies
 pub mod Fronts
 pub mod Halting
+pub mod OneLines
 pub mod OnePlane
 pub mod OneStuck
 pub mod Medians

@@ -1,8 +1,9 @@
 -- The planes of a tile: their sizes, and that bits begin with those of one picture.
-use Rattle.std.proofs.Common.{◌≡◌, ℕ, zero, suc, ◌-◌, ◌^◌, ◌<◌, ◌≤◌, Bool, true, false, cond, List, [], ◌∷◌, ◌++◌, length, map, take, drop, length-drop, refl, sym, ap, ◌∙◌, subst, arith, append_assoc, ℤ, rules}
+use Rattle.std.proofs.Common.{◌≡◌, ℕ, zero, suc, ◌*◌, ◌^◌, ◌<◌, ◌≤◌, Bool, true, false, cond, List, [], ◌∷◌, ◌++◌, length, take, drop, get_or, ◌-◌, length-drop, refl, sym, ap, ◌∙◌, subst, arith, append_assoc, ⊎_elim, ℤ, rules}
 use Rattle.std.specs.Prelude.{◌==◌}
 use Rattle.std.specs.Int.{div_ceil}
-use Rattle.std.proofs.lemmas.List.{append-nil, ext_get_or, take_all}
+use Rattle.std.proofs.lemmas.Bool.{cases_lt}
+use Rattle.std.proofs.lemmas.List.{ext_get_or, get_or_past, take_all}
 use Rattle.ffv1_rice.proofs.Depths.{bytes}
 use Rattle.ffv1_bits.specs.Limits.{greatest_side}
 use Rattle.ffv1_bits.specs.Bits.{bits_of}
@@ -15,13 +16,15 @@ use Rattle.ffv1_range.proofs.TileLaws.{each_tile}
 use Rattle.ffv1_range.proofs.HeaderFound.{head_run}
 use Rattle.ffv1_range.proofs.Spelling.{same_ok}
 use Rattle.ffv1_rice.specs.States.{ContextState}
-use Rattle.ffv1_plane.specs.Samples.{plane_of, coding_at}
-use Rattle.ffv1_plane.specs.Spelling.{PlaneSpells, values_after}
+use Rattle.ffv1_plane.specs.Samples.{coding_at}
+use Rattle.ffv1_plane.specs.Lines.{lines_of_plane, plane_after_plane, values_after_lines, LinesSpell}
 use Rattle.ffv1_plane.specs.Progress.{AreStatesAfter}
+use Rattle.ffv1_plane.specs.Inner.PlaneRows.{values_after_rows, RowsSpell, PlaneSpells}
 use Rattle.ffv1_plane.specs.Inner.Progress.{IsPlaneRead}
-use Rattle.ffv1_plane.specs.Picture.{PictureValue, ArePlanesOf, IsPlaneIn, samples_of, plane_set, shaped_plane, tile_plane, plane_groups, no_values, GroupsSpell, IsPictureOf, OneReading}
+use Rattle.ffv1_plane.specs.Picture.{PictureValue, ArePlanesOf, IsPlaneIn, samples_of, plane_set, shaped_plane, tile_plane, plane_group, picture_planes, plane_height, picture_lines, no_values, PictureSpells, IsPictureOf, OneReading}
 use Rattle.ffv1_plane.specs.Inner.Groups.{IsLumaRead, IsChromaRead, ArePlanesRead}
-use Rattle.ffv1_plane.proofs.OnePlane.{one_plane}
+use Rattle.ffv1_plane.proofs.CodedLines.{values_after_append, values_of_rows, values_elsewhere, planes_spell, none_known, known_planes, order_planes}
+use Rattle.ffv1_plane.proofs.OneLines.{AreKnownSame, one_lines}
 
 -- ---- sizes
 
@@ -66,42 +69,11 @@ pub plane_within_is : (setup : SetupValue) (tile plane : ℕ) (rect : TileRect) 
     → rect ≡ plane_rect (grid_of setup) tile plane → IsWithinLimits rect
 plane_within_is setup tile plane rect profile there is = subst IsWithinLimits (sym is) (plane_within setup tile plane profile there)
 
--- ---- one plane
-
-pub same_plane : (rect : TileRect) (entry : ℕ → ℕ → ℤ) (earlier : ℕ → List ℤ) (samples others : List ℕ) (front words rest more : List Bool) → 1 ≤ rect.w
-    → IsPlaneIn rect samples → IsPlaneIn rect others
-    → PlaneSpells earlier (plane_of rect.w (coding_at 8 entry) samples) front → PlaneSpells earlier (plane_of rect.w (coding_at 8 entry) others) words → front ++ rest ≡ words ++ more
-    → (samples ≡ others) × (rest ≡ more)
-same_plane rect entry earlier samples others front words rest more some is also spells spells_too same =
-    one_plane rect.w (coding_at 8 entry) some bytes samples others is.small also.small earlier front words rest more (is.count ∙ sym also.count) spells spells_too same
-
--- ---- the groups
+-- ---- the planes
 
 module _ (setup : SetupValue) (head : SliceHead) (profile : IsInProfile setup) (inside : head.tile < tile_count (grid_of setup)) where
   pub some_columns : (plane : ℕ) → 1 ≤ (plane_rect (grid_of setup) head.tile plane).w
   some_columns plane = (plane_within setup head.tile plane profile inside).some_columns
-
-  pub one_luma : (bits : List Bool) (samples others : List ℕ) (rest more : List Bool) → IsLumaRead setup head bits samples rest
-      → IsLumaRead setup head bits others more → (samples ≡ others) × (rest ≡ more)
-  one_luma bits samples others rest more a b =
-      same_plane (plane_rect (grid_of setup) head.tile 0) (set_entry setup (plane_set head 0)) no_values samples others a.front b.front rest more
-      (some_columns 0) a.size b.size a.spells b.spells (sym a.begins ∙ b.begins)
-
-  one_cb : (bits : List Bool) (cb cr blue red : List ℕ) (rest more : List Bool) → (a : IsChromaRead setup head bits cb cr rest)
-      → (b : IsChromaRead setup head bits blue red more) → (cb ≡ blue) × (a.back ++ rest ≡ b.back ++ more)
-  one_cb bits cb cr blue red rest more a b =
-      same_plane (plane_rect (grid_of setup) head.tile 1) (set_entry setup (plane_set head 1)) no_values cb blue a.front b.front (a.back ++ rest)
-      (b.back ++ more) (some_columns 1) a.cb_size b.cb_size a.cb_spells b.cb_spells (sym a.begins ∙ b.begins)
-
-  pub one_chroma : (bits : List Bool) (cb cr blue red : List ℕ) (rest more : List Bool) → IsChromaRead setup head bits cb cr rest
-      → IsChromaRead setup head bits blue red more → (cb ≡ blue) × (cr ≡ red) × (rest ≡ more)
-  one_chroma bits cb cr blue red rest more a b =
-      let first = one_cb bits cb cr blue red rest more a b in
-      let P : List ℕ → Type 0 = λ l. PlaneSpells (values_after no_values (shaped_plane setup head 1 l)) (shaped_plane setup head 2 red) b.back in
-      let second = same_plane (plane_rect (grid_of setup) head.tile 2) (set_entry setup (plane_set head 2))
-      (values_after no_values (shaped_plane setup head 1 cb)) cr red a.back b.back rest more (some_columns 2) a.cr_size b.cr_size
-      a.cr_spells (subst P (sym first.0) b.cr_spells) first.1 in
-      (first.0, second.0, second.1)
 
   pub chroma_read : (bits mid rest : List Bool) (states between after : List ContextState) (cb cr : List ℕ) → AreStatesAfter 8 no_values states
       → IsPlaneIn (plane_rect (grid_of setup) head.tile 1) cb → IsPlaneIn (plane_rect (grid_of setup) head.tile 2) cr
@@ -110,17 +82,16 @@ module _ (setup : SetupValue) (head : SliceHead) (profile : IsInProfile setup) (
       → IsPlaneRead (plane_rect (grid_of setup) head.tile 2).w (plane_rect (grid_of setup) head.tile 2).h
       (coding_at 8 (set_entry setup (plane_set head 2))) between mid cr after rest → IsChromaRead setup head bits cb cr rest
   chroma_read bits mid rest states between after cb cr fresh cb_size cr_size first second =
-      let one = first no_values fresh in
-      let two = second (values_after no_values (shaped_plane setup head 1 cb)) one.3 in
+      let one = (first no_values fresh).1 in
+      let two = second (values_after_rows no_values (shaped_plane setup head 1 cb) (plane_height setup head.tile 1)) one.states_are in
       record {
         cb_size = cb_size;
         cr_size = cr_size;
-        front = one.0;
-        back = two.0;
-        begins = one.1
-            ∙ ap (λ l. one.0 ++ l) two.1;
-        cb_spells = one.2;
-        cr_spells = two.2;
+        front = one.front;
+        back = two.1.front;
+        begins = one.begins ∙ ap (λ l. one.front ++ l) two.1.begins;
+        cb_spells = ((first no_values fresh).0, one.spells);
+        cr_spells = (two.0, two.1.spells);
       }
 
   -- ---- whole pictures
@@ -147,123 +118,115 @@ module _ (setup : SetupValue) (head : SliceHead) (profile : IsInProfile setup) (
   pub count_of : (b : Bool) → setup.has_chroma ≡ b → plane_count (grid_of setup) ≡ cond b 3 1
   count_of b is = ap (λ c. cond c 3 1) is
 
+  -- the lines of the first planes
+  module _ (planes : List (List ℕ)) where
+    unfoldable pub values_below : ℕ → (ℕ → ℕ → List ℤ)
+    values_below n = values_after_lines (picture_planes setup head planes) (λ group. no_values) (plane_after_plane (plane_height setup head.tile) n)
+
+    unfoldable pub AreBelowSpelled : ℕ → List Bool → Type 0
+    AreBelowSpelled n bits =
+        (last : ℕ) × LinesSpell (picture_planes setup head planes) (λ group. no_values) 0 (plane_after_plane (plane_height setup head.tile) n) bits last
+
+    pub luma_values : values_below 0 0 ≡ no_values
+    unfolding values_below values_after_lines plane_after_plane
+    luma_values = refl
+
+    pub cb_values : values_below 1 1 ≡ no_values
+    unfolding values_below values_after_lines plane_after_plane
+    cb_values = values_elsewhere (picture_planes setup head planes) (λ group. no_values) 0 (plane_height setup head.tile 0) 1 (λ e. absurd (omega arith))
+
+    pub cr_values : values_below 2 1 ≡ values_after_rows no_values (tile_plane setup head planes 1) (plane_height setup head.tile 1)
+    unfolding values_below plane_after_plane
+    cr_values =
+        let c = picture_planes setup head planes in
+        let luma = plane_after_plane (plane_height setup head.tile) 1 in
+        ap (λ f. f 1) (values_after_append c (λ group. no_values) luma (lines_of_plane 1 (plane_height setup head.tile 1)))
+        ∙ values_of_rows c (values_after_lines c (λ group. no_values) luma) 1 (plane_height setup head.tile 1)
+        ∙ ap (λ v. values_after_rows v (tile_plane setup head planes 1) (plane_height setup head.tile 1)) cb_values
+
+    pub none_below : AreBelowSpelled 0 []
+    unfolding AreBelowSpelled LinesSpell plane_after_plane
+    none_below = (0, (refl, refl))
+
+    -- one plane more
+    pub below_more : (n : ℕ) (earlier : ℕ → List ℤ) (front back : List Bool) → values_below n (plane_group n) ≡ earlier → AreBelowSpelled n front
+        → PlaneSpells earlier (tile_plane setup head planes n) (plane_height setup head.tile n) back → AreBelowSpelled (suc n) (front ++ back)
+    unfolding AreBelowSpelled values_below
+    below_more n earlier front back values before spells =
+        let P : (ℕ → List ℤ) → Type 0 = λ v. RowsSpell v (tile_plane setup head planes n) (plane_height setup head.tile n) back spells.0 in
+        planes_spell (picture_planes setup head planes) (λ group. no_values) (plane_height setup head.tile) 0 before.0 n front back spells.0 (λ row. refl) before.1
+        (subst P (sym values) spells.1)
+
+    pub luma_below : (bits : List Bool) → PlaneSpells no_values (tile_plane setup head planes 0) (plane_height setup head.tile 0) bits → AreBelowSpelled 1 bits
+    luma_below bits spells = below_more 0 no_values [] bits luma_values none_below spells
+
+    pub cb_below : (front back : List Bool) → PlaneSpells no_values (tile_plane setup head planes 0) (plane_height setup head.tile 0) front
+        → PlaneSpells no_values (tile_plane setup head planes 1) (plane_height setup head.tile 1) back → AreBelowSpelled 2 (front ++ back)
+    cb_below front back luma cb = below_more 1 no_values front back cb_values (luma_below front luma) cb
+
+    -- all planes
+    pub below_all : (count : ℕ) (bits : List Bool) → plane_count (grid_of setup) ≡ count → AreBelowSpelled count bits → PictureSpells setup head planes bits
+    unfolding AreBelowSpelled
+    below_all count bits is spelled =
+        let P : ℕ → Type 0 = λ n. (last : ℕ) × LinesSpell (picture_planes setup head planes) (λ group. no_values) 0
+        (plane_after_plane (plane_height setup head.tile) n) bits last in
+        subst P (sym is) spelled
+
   pub gray_read : (bits rest : List Bool) (samples : List ℕ) → setup.has_chroma ≡ false → IsLumaRead setup head bits samples rest
       → ArePlanesRead setup head bits (samples ∷ []) rest
   gray_read bits rest samples gray h =
-      let G : Bool → Type 0 = λ b. GroupsSpell (map (map (tile_plane setup head (samples ∷ []))) (plane_groups b)) h.front in
       record {
         sizes = gray_sizes samples (count_of false gray) h.size;
         words = h.front;
         begins = h.begins;
-        spells = subst G (sym gray) (h.front, [], sym (append-nil h.front), (h.front, [], sym (append-nil h.front), h.spells, refl), refl);
+        spells = below_all (samples ∷ []) 1 h.front (count_of false gray) (luma_below (samples ∷ []) h.front h.spells);
       }
 
   pub colour_read : (bits mid rest : List Bool) (y cb cr : List ℕ) → setup.has_chroma ≡ true → IsLumaRead setup head bits y mid
       → IsChromaRead setup head mid cb cr rest → ArePlanesRead setup head bits (y ∷ cb ∷ cr ∷ []) rest
   colour_read bits mid rest y cb cr colour h k =
-      let G : Bool → Type 0 = λ b. GroupsSpell (map (map (tile_plane setup head (y ∷ cb ∷ cr ∷ []))) (plane_groups b)) (h.front ++ (k.front ++ k.back)) in
+      let planes = y ∷ cb ∷ cr ∷ [] in
       record {
         sizes = colour_sizes y cb cr (count_of true colour) h.size k.cb_size k.cr_size;
-        words = h.front ++ (k.front ++ k.back);
-        begins = h.begins ∙ ap (λ l. h.front ++ l) (k.begins ∙ sym (append_assoc k.front k.back rest)) ∙ sym (append_assoc h.front (k.front ++ k.back) rest);
-        spells = subst G (sym colour) (
-          h.front,
-          k.front ++ k.back,
-          refl,
-          (h.front, [], sym (append-nil h.front), h.spells, refl),
-          (
-            k.front ++ k.back,
-            [],
-            sym (append-nil (k.front ++ k.back)),
-            (k.front, k.back, refl, k.cb_spells, (k.back, [], sym (append-nil k.back), k.cr_spells, refl)),
-            refl,
-          ),
-        );
+        words = (h.front ++ k.front) ++ k.back;
+        begins = h.begins ∙ ap (λ l. h.front ++ l) k.begins ∙ sym (append_assoc h.front k.front (k.back ++ rest))
+            ∙ sym (append_assoc (h.front ++ k.front) k.back rest);
+        spells = below_all planes 3 ((h.front ++ k.front) ++ k.back) (count_of true colour)
+            (below_more planes 2 (values_after_rows no_values (tile_plane setup head planes 1) (plane_height setup head.tile 1)) (h.front ++ k.front) k.back
+            (cr_values planes) (cb_below planes h.front k.front h.spells k.cb_spells) k.cr_spells);
       }
 
-  pub gray_parts : (bits rest : List Bool) (planes : List (List ℕ)) → setup.has_chroma ≡ false → ArePlanesRead setup head bits planes rest
-      → IsLumaRead setup head bits (samples_of planes 0) rest
-  gray_parts bits rest planes gray h =
-      let G : Bool → Type 0 = λ b. GroupsSpell (map (map (tile_plane setup head planes)) (plane_groups b)) h.words in
-      let s = subst G gray h.spells in
-      let luma = s.3 in
-      let words : h.words ≡ luma.0 = s.2 ∙ ap (λ l. s.0 ++ l) s.4 ∙ append-nil s.0 ∙ luma.2 ∙ ap (λ l. luma.0 ++ l) luma.4 ∙ append-nil luma.0 in
-      record {
-        size = h.sizes.sizes 0 (let count = count_of false gray in omega (arith, count));
-        front = luma.0;
-        begins = h.begins ∙ ap (λ l. l ++ rest) words;
-        spells = luma.3;
-      }
+  -- ---- one picture
 
-  pub record ColourParts (bits rest : List Bool) (planes : List (List ℕ)) : Type 0 where
-    pub mid : List Bool
-    pub luma : IsLumaRead setup head bits (samples_of planes 0) mid
-    pub chroma : IsChromaRead setup head mid (samples_of planes 1) (samples_of planes 2) rest
+  -- the samples of each plane are bytes
+  pub bytes_of_planes : (planes : List (List ℕ)) → ArePlanesOf setup head.tile planes → (n j : ℕ) → get_or (samples_of planes n) j 0 < 2 ^ 8
+  bytes_of_planes planes sizes n j = ⊎_elim
+      (λ there. (sizes.sizes n there).small j)
+      (λ past.
+      let none : samples_of planes n ≡ [] = get_or_past planes n [] (omega (arith, past, sizes.count)) in
+      subst (λ (l : List ℕ). get_or l j 0 < 2 ^ 8) (sym none) (let least : 0 < 2 ^ 8 = omega arith in least))
+      (cases_lt n (plane_count (grid_of setup)))
 
-  pub colour_parts : (bits rest : List Bool) (planes : List (List ℕ)) → setup.has_chroma ≡ true → ArePlanesRead setup head bits planes rest
-      → ColourParts bits rest planes
-  colour_parts bits rest planes colour h =
-      let G : Bool → Type 0 = λ b. GroupsSpell (map (map (tile_plane setup head planes)) (plane_groups b)) h.words in
-      let count = count_of true colour in
-      let s = subst G colour h.spells in
-      let luma = s.3 in
-      let t = s.4 in
-      let blue = t.3 in
-      let red = blue.4 in
-      let front : s.0 ≡ luma.0 = luma.2 ∙ ap (λ l. luma.0 ++ l) luma.4 ∙ append-nil luma.0 in
-      let last : blue.1 ≡ red.0 = red.2 ∙ ap (λ l. red.0 ++ l) red.4 ∙ append-nil red.0 in
-      let back : s.1 ≡ blue.0 ++ red.0 = t.2 ∙ ap (λ l. t.0 ++ l) t.4 ∙ append-nil t.0 ∙ blue.2 ∙ ap (λ l. blue.0 ++ l) last in
-      record {
-        mid = s.1 ++ rest;
-        luma = record {
-          size = h.sizes.sizes 0 (omega (arith, count));
-          front = luma.0;
-          begins = h.begins ∙ ap (λ l. l ++ rest) s.2 ∙ append_assoc s.0 s.1 rest ∙ ap (λ l. l ++ (s.1 ++ rest)) front;
-          spells = luma.3;
-        };
-        chroma = record {
-          cb_size = h.sizes.sizes 1 (omega (arith, count));
-          cr_size = h.sizes.sizes 2 (omega (arith, count));
-          front = blue.0;
-          back = red.0;
-          begins = ap (λ l. l ++ rest) back ∙ append_assoc blue.0 red.0 rest;
-          cb_spells = blue.3;
-          cr_spells = red.3;
-        };
-      }
-
-  -- one picture
   pub one_picture : (bits rest more : List Bool) (planes others : List (List ℕ)) → ArePlanesRead setup head bits planes rest
       → ArePlanesRead setup head bits others more → (planes ≡ others) × (rest ≡ more)
-  one_picture bits rest more planes others a b = either setup.has_chroma refl
-    where
-      alike : (n : ℕ) → plane_count (grid_of setup) ≡ n → ((i : ℕ) → i < n → samples_of planes i ≡ samples_of others i) → planes ≡ others
-      alike n count same = ext_get_or [] planes others (a.sizes.count ∙ sym b.sizes.count) (λ i less. same i (omega (arith, less, a.sizes.count, count)))
-
-      first : samples_of planes 0 ≡ samples_of others 0 → (i : ℕ) → i < 1 → samples_of planes i ≡ samples_of others i
-      first same zero less = same
-      first same (suc i) less = absurd (omega arith)
-
-      three : samples_of planes 0 ≡ samples_of others 0 → samples_of planes 1 ≡ samples_of others 1 → samples_of planes 2 ≡ samples_of others 2 → (i : ℕ)
-          → i < 3 → samples_of planes i ≡ samples_of others i
-      three y cb cr zero less = y
-      three y cb cr (suc zero) less = cb
-      three y cb cr (suc (suc zero)) less = cr
-      three y cb cr (suc (suc (suc i))) less = absurd (omega arith)
-
-      either : (b : Bool) → setup.has_chroma ≡ b → (planes ≡ others) × (rest ≡ more)
-      either false gray =
-          let one = one_luma bits (samples_of planes 0) (samples_of others 0) rest more (gray_parts bits rest planes gray a)
-          (gray_parts bits more others gray b) in
-          (alike 1 (count_of false gray) (first one.0), one.1)
-      either true colour =
-          let p = colour_parts bits rest planes colour a in
-          let q = colour_parts bits more others colour b in
-          let luma = one_luma bits (samples_of planes 0) (samples_of others 0) p.mid q.mid p.luma q.luma in
-          let P : List Bool → Type 0 = λ l. IsChromaRead setup head l (samples_of others 1) (samples_of others 2) more in
-          let chroma = one_chroma p.mid (samples_of planes 1) (samples_of planes 2) (samples_of others 1) (samples_of others 2) rest more p.chroma
-          (subst P (sym luma.1) q.chroma) in
-          (alike 3 (count_of true colour) (three luma.0 chroma.0 chroma.1), chroma.2)
+  unfolding AreKnownSame
+  one_picture bits rest more planes others a b =
+      let g = grid_of setup in
+      let height = plane_height setup head.tile in
+      let width = λ (n : ℕ). (plane_rect g head.tile n).w in
+      let coding = λ (n : ℕ). coding_at 8 (set_entry setup (plane_set head n)) in
+      let one = one_lines plane_group (λ line. line.row == 0) width coding (samples_of planes) (samples_of others) some_columns (λ n. bytes)
+      (bytes_of_planes planes a.sizes) (bytes_of_planes others b.sizes) none_known (λ group. no_values) 0 (picture_lines setup head.tile)
+      a.words b.words rest more a.spells.0 b.spells.0 (order_planes height (plane_count g)) (λ n j less. absurd (omega arith))
+      a.spells.1 b.spells.1 (sym a.begins ∙ b.begins) in
+      let plane = λ (n : ℕ) (there : n < plane_count g).
+      let p = a.sizes.sizes n there in
+      let q = b.sizes.sizes n there in
+      let known = known_planes height (plane_count g) n there in
+      let same : samples_of planes n ≡ samples_of others n = ext_get_or 0 (samples_of planes n) (samples_of others n) (p.count ∙ sym q.count)
+      (λ j less. one.samples n j (subst (λ (k : ℕ). j < k * width n) (sym known) (omega (arith, less, p.count)))) in
+      same in
+      (ext_get_or [] planes others (a.sizes.count ∙ sym b.sizes.count) (λ n less. plane n (omega (arith, less, a.sizes.count))), one.later)
 
 -- ---- the law
 

@@ -1,5 +1,5 @@
 -- What one code says of every plane that begins with the samples so far.
-use Rattle.std.proofs.Common.{◌≡◌, ℕ, zero, suc, ◌+◌, ◌-◌, ◌%◌, ◌<◌, ◌≤◌, not, inl, inr, length-append, Bool, true, false, List, [], ◌∷◌, ◌++◌, get_or, set, length, refl, sym, ap, ◌∙◌, subst, arith, append_assoc, ⊎_elim, ◌≢◌, ◌&&◌, cond, eqb, eq-eqb, ℤ, pos, negsuc, ◌-ℤ◌, int_lt, nat_abs}
+use Rattle.std.proofs.Common.{◌≡◌, ℕ, zero, suc, ◌+◌, ◌-◌, ◌*◌, ◌<◌, ◌≤◌, not, inl, inr, length-append, Bool, true, false, List, [], ◌∷◌, ◌++◌, get_or, set, length, refl, sym, ap, ◌∙◌, subst, arith, append_assoc, ⊎_elim, ◌≢◌, ◌&&◌, cond, eqb, eq-eqb, ℤ, pos, negsuc, ◌-ℤ◌, int_lt, nat_abs}
 use Rattle.std.proofs.lemmas.List.{get_or_append_left, get_or_push, length_push, get_or-set_same, get_or-set_other, length-set, append-nil, get_or_read}
 use Rattle.std.proofs.lemmas.Bool.{cases_eq, cases_lt, ne_eqb, cases_Bool, or_from, and_right}
 use Rattle.std.proofs.lemmas.Int.{ints}
@@ -7,10 +7,11 @@ use Rattle.ffv1_rice.proofs.Folds.{fold_zero}
 use Rattle.ffv1_rice.specs.States.{ContextState, start_state, after_value, fold, IsCodedDepth}
 use Rattle.ffv1_rice.specs.Codes.{IsCodeFault, decoded_value, IsCoded, IsCodedDifference, SpellsValue}
 use Rattle.ffv1_bits.specs.Reader.{Reading}
-use Rattle.ffv1_plane.specs.Samples.{SamplesAbout, plane_of, neighbours_at, prediction_of, context_of, difference_of, Coding}
-use Rattle.ffv1_plane.specs.Spelling.{Residuals, residuals_of, context_number, is_zero, is_in_run, is_skipped, is_coded, value_at, state_after, state_before, values_after, samples_before, follows_skipped, SamplesSpell, PlaneSpells}
+use Rattle.ffv1_plane.specs.Samples.{SamplesAbout, plane_of, neighbours_at, prediction_of, context_of, difference_of, context_at, difference_at, Coding}
+use Rattle.ffv1_plane.specs.Spelling.{Residuals, residuals_of, context_number, is_zero, is_in_run, is_skipped, is_coded, value_at, state_after, state_before, columns_before, follows_skipped, SamplesSpell}
 use Rattle.ffv1_plane.specs.Progress.{AreStatesAfter}
-use Rattle.ffv1_plane.specs.Inner.Progress.{IsSampleRead, IsReadTo, IsRunRead, AreSkipped, Progress}
+use Rattle.ffv1_plane.specs.Inner.PlaneRows.{values_after_rows, RowsSpell}
+use Rattle.ffv1_plane.specs.Inner.Progress.{IsContinued, RowStart, Progress, IsReadTo, IsRunRead, IsSampleRead, AreSkipped, AreRowsRead}
 use Rattle.ffv1_plane.specs.Inner.Halts.{IsCodeHalted, next_context}
 use Rattle.ffv1_rice.specs.declared.code.CodeFault.{CodeFault}
 use Rattle.ffv1_plane.proofs.Alike.{zero_of}
@@ -34,7 +35,6 @@ pub sample_read : (width : ℕ) (coding : Coding) (level : Bool) (old new : List
     → IsCoded coding.depth (get_or states (nat_abs context) start_state) level difference bits rest
     → after ≡ set states (nat_abs context) (after_value coding.depth (get_or states (nat_abs context) start_state) (decoded_value level difference))
     → IsSampleRead width coding level old states bits.left new after rest.left
-unfolding residuals_of
 sample_read width coding level old new states after bits rest near context difference x some near_is context_is difference_is pushed given below coded stepped =
     let around = λ (more : List ℕ). neighbours_same width (length old) some ((old ++ x ∷ []) ++ more) old (same_before old more x) ∙ sym near_is in
     record {
@@ -95,42 +95,48 @@ within_before states after j k state h stepped = omega (arith, h, ap length step
 
 -- ---- one scalar further
 
-pub scalar_read : (earlier : ℕ → List ℤ) (width : ℕ) (coding : Coding) (bits left rest : List Bool) (old new : List ℕ) (index : ℕ)
-    (states after : List ContextState) → IsReadTo earlier width coding bits old index states left
-    → (read : IsSampleRead width coding false old states left new after rest) → 0 < read.context → IsReadTo earlier width coding bits new index after rest
+pub scalar_read : (start : RowStart) (width : ℕ) (coding : Coding) (bits left rest : List Bool) (old new : List ℕ) (x next index : ℕ)
+    (states after : List ContextState) → x < width → next ≡ x + 1 → IsReadTo start width coding bits old x index states left
+    → (read : IsSampleRead width coding false old states left new after rest) → 0 < read.context → IsReadTo start width coding bits new next index after rest
 unfolding residuals_of
-scalar_read earlier width coding bits left rest old new index states after so_far read some =
-    let s = length old in
+scalar_read start width coding bits left rest old new x next index states after inside next_is so_far read some =
+    let earlier = start.earlier in
+    let place = so_far.place in
     let lists = λ (more : List ℕ). let e : old ++ (read.sample ∷ more) ≡ new ++ more = sym (append_assoc old (read.sample ∷ []) more)
     ∙ ap (λ l. l ++ more) (sym read.pushed) in e in
-    let longer : suc (length old) ≡ length new = omega (arith, ap length read.pushed, length_push old read.sample) in
-    let outside = λ (more : List ℕ). scalar_context (residuals_of (plane_of width coding (new ++ more))) s
-    (let h : 0 < context_number (residuals_of (plane_of width coding (new ++ more))) s = omega (arith, read.is_context more) in h) in
-    let before = λ (more : List ℕ). let P : List ℕ → Type 0 = λ l. Progress earlier (residuals_of (plane_of width coding l)) s bits index left in
+    let column : suc x ≡ next = omega arith in
+    let number = λ (more : List ℕ). let p = plane_of width coding (new ++ more) in
+    let e : context_number (residuals_of p start.row) x ≡ read.context = ap (λ k. nat_abs (context_at p k)) (sym place) ∙ read.is_context more in e in
+    let difference = λ (more : List ℕ). let p = plane_of width coding (new ++ more) in
+    let e : (residuals_of p start.row).difference x ≡ read.difference = ap (λ k. difference_at p k) (sym place) ∙ read.is_difference more in e in
+    let outside = λ (more : List ℕ). scalar_context (residuals_of (plane_of width coding (new ++ more)) start.row) x
+    (let h : 0 < context_number (residuals_of (plane_of width coding (new ++ more)) start.row) x = omega (arith, number more) in h) in
+    let before = λ (more : List ℕ). let P : List ℕ → Type 0 = λ l. Progress start (residuals_of (plane_of width coding l) start.row) x bits index left in
     subst P (lists more) (so_far.progress (read.sample ∷ more)) in
     let states_before = λ (more : List ℕ) (k : ℕ) (h : k < length states). let P : List ℕ
-    → Type 0 = λ l. get_or states k start_state ≡ state_before earlier (residuals_of (plane_of width coding l)) k s in
+    → Type 0 = λ l. get_or states k start_state ≡ state_before earlier (residuals_of (plane_of width coding l) start.row) k x in
     subst P (lists more) (so_far.states_are (read.sample ∷ more) k h) in
     record {
+      place = omega (arith, ap length read.pushed, length_push old read.sample, place);
       progress = λ more.
-          let r = residuals_of (plane_of width coding (new ++ more)) in
-          let state : get_or states read.context start_state ≡ state_before earlier r (context_number r s) s = states_before more read.context read.below
-          ∙ ap (λ k. state_before earlier r k s) (sym (read.is_context more)) in
-          let spells : SpellsValue coding.depth (state_before earlier r (context_number r s) s) (r.difference s) read.code =
-          (let P : ContextState → Type 0 = λ z. SpellsValue coding.depth z (r.difference s) read.code in subst P state
+          let r = residuals_of (plane_of width coding (new ++ more)) start.row in
+          let state : get_or states read.context start_state ≡ state_before earlier r (context_number r x) x = states_before more read.context read.below
+          ∙ ap (λ k. state_before earlier r k x) (sym (number more)) in
+          let spells : SpellsValue coding.depth (state_before earlier r (context_number r x) x) (r.difference x) read.code =
+          (let P : ContextState → Type 0 = λ z. SpellsValue coding.depth z (r.difference x) read.code in subst P state
           (let Q : ℤ → Type 0 = λ z. SpellsValue coding.depth (get_or states read.context start_state) z read.code in
-          subst Q (sym (read.is_difference more)) read.spells)) in
-          let R : ℕ → Type 0 = λ n. Progress earlier r n bits index rest in
-          subst R longer (scalar_step earlier r s index bits read.code left rest (before more) (outside more) spells read.begins);
+          subst Q (sym (difference more)) read.spells)) in
+          let R : ℕ → Type 0 = λ n. Progress start r n bits index rest in
+          subst R column (scalar_step start r x index bits read.code left rest inside (before more) (outside more) spells read.begins);
       states_are = λ more k h.
-          let r = residuals_of (plane_of width coding (new ++ more)) in
-          let run : is_in_run r s ≡ false = in_run_is r s ∙ or_from _ _ (outside more) ((before more).fresh) in
-          let coded : is_coded r s ≡ true = rw run refl in
-          let value : value_at r s ≡ decoded_value false read.difference = ap (λ l. decoded_value l (r.difference s)) run ∙ read.is_difference more in
-          let inside = within_before states after read.context k _ h read.stepped in
-          let step = states_step earlier r s read.context k states (decoded_value false read.difference) read.below coded (read.is_context more) value
-          (states_before more) inside in
-          ap (λ l. get_or l k start_state) read.stepped ∙ step ∙ ap (λ n. state_before earlier r k n) longer;
+          let r = residuals_of (plane_of width coding (new ++ more)) start.row in
+          let run : is_in_run r x ≡ false = in_run_is r x ∙ or_from _ _ (outside more) ((before more).fresh inside) in
+          let coded : is_coded r x ≡ true = rw run refl in
+          let value : value_at r x ≡ decoded_value false read.difference = ap (λ l. decoded_value l (r.difference x)) run ∙ difference more in
+          let within = within_before states after read.context k _ h read.stepped in
+          let step = states_step earlier r x read.context k states (decoded_value false read.difference) read.below coded (number more) value
+          (states_before more) within in
+          ap (λ l. get_or l k start_state) read.stepped ∙ step ∙ ap (λ n. state_before earlier r k n) column;
     }
 
 -- ---- one run further
@@ -146,130 +152,173 @@ skipped_states earlier r s k (suc n) skipped =
     ∙ ap (λ t. cond t (after_value r.depth (state_before earlier r k (s + n)) (value_at r (s + n))) (state_before earlier r k (s + n))) test
     ∙ skipped_states earlier r s k n (λ j h. skipped j (omega arith))
 
-module _ (earlier : ℕ → List ℤ) (width : ℕ) (coding : Coding) (some : 0 < width) (bits left : List Bool) (old mid : List ℕ) (index : ℕ)
-    (states : List ContextState) (so_far : IsReadTo earlier width coding bits old index states left)
-    (zero_context : (more : List ℕ) → is_zero ((residuals_of (plane_of width coding (old ++ more))).context (length old)) ≡ true)
-    (n next : ℕ) (tail : List Bool) (run : IsRunRead (width - length old % width) index left n next tail) (skips : AreSkipped width coding old mid n) where
+module _ (start : RowStart) (width : ℕ) (coding : Coding) (bits left : List Bool) (old mid : List ℕ) (x index : ℕ)
+    (states : List ContextState) (inside : x < width) (so_far : IsReadTo start width coding bits old x index states left)
+    (zero_context : (more : List ℕ) → is_zero (context_at (plane_of width coding (old ++ more)) (length old)) ≡ true)
+    (n next : ℕ) (tail : List Bool) (run : IsRunRead (width - x) index left n next tail) (skips : AreSkipped width coding old mid n) where
   pub lists_mid : (more : List ℕ) → old ++ (skips.samples ++ more) ≡ mid ++ more
   lists_mid more = sym (append_assoc old skips.samples more) ∙ ap (λ l. l ++ more) (sym skips.pushed)
 
   pub longer_mid : length mid ≡ length old + n
   longer_mid = omega (arith, ap length skips.pushed, length-append old skips.samples, skips.count)
 
-  pub before_mid : (more : List ℕ) → Progress earlier (residuals_of (plane_of width coding (mid ++ more))) (length old) bits index left
-  before_mid more = let P : List ℕ → Type 0 = λ l. Progress earlier (residuals_of (plane_of width coding l)) (length old) bits index left in
+  -- the place of a sample of the run
+  place_mid : (j : ℕ) → length old + j ≡ start.row * width + (x + j)
+  place_mid j = let place = so_far.place in omega arith
+
+  pub before_mid : (more : List ℕ) → Progress start (residuals_of (plane_of width coding (mid ++ more)) start.row) x bits index left
+  before_mid more = let P : List ℕ → Type 0 = λ l. Progress start (residuals_of (plane_of width coding l) start.row) x bits index left in
       subst P (lists_mid more) (so_far.progress (skips.samples ++ more))
 
-  pub zero_mid : (more : List ℕ) → is_zero ((residuals_of (plane_of width coding (mid ++ more))).context (length old)) ≡ true
-  zero_mid more = let P : List ℕ → Type 0 = λ l. is_zero ((residuals_of (plane_of width coding l)).context (length old)) ≡ true in
-      subst P (lists_mid more) (zero_context (skips.samples ++ more))
+  fresh_mid : (more : List ℕ) → follows_skipped (residuals_of (plane_of width coding (mid ++ more)) start.row) x ≡ false
+  unfolding residuals_of
+  fresh_mid more = (before_mid more).fresh inside
 
-  pub states_mid : (more : List ℕ) (k : ℕ) → k < length states → get_or states k start_state ≡ state_before earlier
-      (residuals_of (plane_of width coding (mid ++ more))) k (length old + n)
+  pub zero_mid : (more : List ℕ) → is_zero ((residuals_of (plane_of width coding (mid ++ more)) start.row).context x) ≡ true
+  unfolding residuals_of
+  zero_mid more =
+      let P : List ℕ → Type 0 = λ l. is_zero (context_at (plane_of width coding l) (length old)) ≡ true in
+      let Q : ℕ → Type 0 = λ k. is_zero (context_at (plane_of width coding (mid ++ more)) k) ≡ true in
+      subst Q so_far.place (subst P (lists_mid more) (zero_context (skips.samples ++ more)))
+
+  skipped_mid : (more : List ℕ) (j : ℕ) → j < n → is_zero ((residuals_of (plane_of width coding (mid ++ more)) start.row).difference (x + j)) ≡ true
+  unfolding residuals_of
+  skipped_mid more j less =
+      let P : ℕ → Type 0 = λ k. is_zero (difference_at (plane_of width coding (mid ++ more)) k) ≡ true in
+      subst P (place_mid j) (skips.zero_differences more j less)
+
+  pub states_mid : (more : List ℕ) (k : ℕ) → k < length states → get_or states k start_state ≡ state_before start.earlier
+      (residuals_of (plane_of width coding (mid ++ more)) start.row) k (x + n)
   unfolding residuals_of
   states_mid more k h =
-      let r = residuals_of (plane_of width coding (mid ++ more)) in
-      let P : List ℕ → Type 0 = λ l. get_or states k start_state ≡ state_before earlier (residuals_of (plane_of width coding l)) k (length old) in
+      let r = residuals_of (plane_of width coding (mid ++ more)) start.row in
+      let P : List ℕ → Type 0 = λ l. get_or states k start_state ≡ state_before start.earlier (residuals_of (plane_of width coding l) start.row) k x in
       subst P (lists_mid more) (so_far.states_are (skips.samples ++ more) k h)
-      ∙ sym (skipped_states earlier r (length old) k n (skipped_to earlier r some (length old) n (zero_mid more) ((before_mid more).fresh) (run.fits)
-      (skips.zero_differences more)))
+      ∙ sym (skipped_states start.earlier r x k n (skipped_to start r x n inside (zero_mid more) (fresh_mid more) run.fits (skipped_mid more)))
 
-  pub run_end_read : width - length old % width ≡ n → IsReadTo earlier width coding bits mid next states tail
+  -- the run takes the row to its end
+  pub run_end_read : (column : ℕ) → column ≡ x + n → width - x ≡ n → IsReadTo start width coding bits mid column next states tail
   unfolding residuals_of
-  run_end_read whole = record {
+  run_end_read column column_is whole = record {
+    place = let longer = longer_mid in let place = so_far.place in omega arith;
     progress = λ more.
-        let r = residuals_of (plane_of width coding (mid ++ more)) in
-        let P : ℕ → Type 0 = λ i. Progress earlier r i bits next tail in
-        subst P (sym longer_mid) (run_end earlier r some (length old) n (zero_mid more) ((before_mid more).fresh) run.fits
-        (skips.zero_differences more) index next run.run run.spelled (inl whole) bits left tail whole (before_mid more) run.begins);
-    states_are = λ more k h. states_mid more k h ∙ ap (λ i. state_before earlier (residuals_of (plane_of width coding (mid ++ more))) k i) (sym longer_mid);
+        let r = residuals_of (plane_of width coding (mid ++ more)) start.row in
+        let P : ℕ → Type 0 = λ i. Progress start r i bits next tail in
+        subst P (sym column_is) (run_end start r x n inside (zero_mid more) (fresh_mid more) run.fits (skipped_mid more) index next run.run run.spelled
+        (inl whole) bits left tail whole (before_mid more) run.begins);
+    states_are = λ more k h.
+        states_mid more k h ∙ ap (λ i. state_before start.earlier (residuals_of (plane_of width coding (mid ++ more)) start.row) k i) (sym column_is);
   }
 
-  module _ (new : List ℕ) (after : List ContextState) (rest : List Bool) (inside : n < width - length old % width)
+  module _ (new : List ℕ) (after : List ContextState) (rest : List Bool) (within : n < width - x)
       (read : IsSampleRead width coding true mid states tail new after rest) where
     lists_new : (more : List ℕ) → mid ++ (read.sample ∷ more) ≡ new ++ more
     lists_new more = sym (append_assoc mid (read.sample ∷ []) more) ∙ ap (λ l. l ++ more) (sym read.pushed)
 
-    longer_new : suc (length old + n) ≡ length new
-    longer_new = omega (arith, ap length read.pushed, length_push mid read.sample, longer_mid)
+    -- the place of the level
+    place_new : length mid ≡ start.row * width + (x + n)
+    place_new = longer_mid ∙ place_mid n
 
-    level_new : (more : List ℕ) → is_zero ((residuals_of (plane_of width coding (new ++ more))).difference (length old + n)) ≡ false
-    level_new more =
-        let r = residuals_of (plane_of width coding (new ++ more)) in
-        let here : r.difference (length old + n) ≡ read.difference = ap r.difference (sym longer_mid) ∙ read.is_difference more in
-        ap is_zero here ∙ nonzero_is read.difference (read.given.1 refl)
+    context_new : (more : List ℕ) → context_number (residuals_of (plane_of width coding (new ++ more)) start.row) (x + n) ≡ read.context
+    unfolding residuals_of
+    context_new more = ap (λ k. nat_abs (context_at (plane_of width coding (new ++ more)) k)) (sym place_new) ∙ read.is_context more
 
-    progress_new : (more : List ℕ) → Progress earlier (residuals_of (plane_of width coding (new ++ more))) (length old) bits index left
-    progress_new more = let P : List ℕ → Type 0 = λ l. Progress earlier (residuals_of (plane_of width coding l)) (length old) bits index left in
+    difference_new : (more : List ℕ) → (residuals_of (plane_of width coding (new ++ more)) start.row).difference (x + n) ≡ read.difference
+    unfolding residuals_of
+    difference_new more = ap (λ k. difference_at (plane_of width coding (new ++ more)) k) (sym place_new) ∙ read.is_difference more
+
+    level_new : (more : List ℕ) → is_zero ((residuals_of (plane_of width coding (new ++ more)) start.row).difference (x + n)) ≡ false
+    level_new more = ap is_zero (difference_new more) ∙ nonzero_is read.difference (read.given.1 refl)
+
+    progress_new : (more : List ℕ) → Progress start (residuals_of (plane_of width coding (new ++ more)) start.row) x bits index left
+    progress_new more = let P : List ℕ → Type 0 = λ l. Progress start (residuals_of (plane_of width coding l) start.row) x bits index left in
         subst P (lists_new more) (before_mid (read.sample ∷ more))
 
-    zero_new : (more : List ℕ) → is_zero ((residuals_of (plane_of width coding (new ++ more))).context (length old)) ≡ true
-    zero_new more = let P : List ℕ → Type 0 = λ l. is_zero ((residuals_of (plane_of width coding l)).context (length old)) ≡ true in
+    fresh_new : (more : List ℕ) → follows_skipped (residuals_of (plane_of width coding (new ++ more)) start.row) x ≡ false
+    fresh_new more = let P : List ℕ → Type 0 = λ l. follows_skipped (residuals_of (plane_of width coding l) start.row) x ≡ false in
+        subst P (lists_new more) (fresh_mid (read.sample ∷ more))
+
+    zero_new : (more : List ℕ) → is_zero ((residuals_of (plane_of width coding (new ++ more)) start.row).context x) ≡ true
+    zero_new more = let P : List ℕ → Type 0 = λ l. is_zero ((residuals_of (plane_of width coding l) start.row).context x) ≡ true in
         subst P (lists_new more) (zero_mid (read.sample ∷ more))
 
-    skipped_new : (more : List ℕ) (j : ℕ) → j < n → is_zero ((residuals_of (plane_of width coding (new ++ more))).difference (length old + j)) ≡ true
-    skipped_new more j h = let P : List ℕ → Type 0 = λ l. is_zero ((residuals_of (plane_of width coding l)).difference (length old + j)) ≡ true in
-        subst P (lists_new more) (skips.zero_differences (read.sample ∷ more) j h)
+    skipped_new : (more : List ℕ) (j : ℕ) → j < n → is_zero ((residuals_of (plane_of width coding (new ++ more)) start.row).difference (x + j)) ≡ true
+    skipped_new more j h = let P : List ℕ → Type 0 = λ l. is_zero ((residuals_of (plane_of width coding l) start.row).difference (x + j)) ≡ true in
+        subst P (lists_new more) (skipped_mid (read.sample ∷ more) j h)
 
-    states_new : (more : List ℕ) (k : ℕ) → k < length states → get_or states k start_state ≡ state_before earlier
-        (residuals_of (plane_of width coding (new ++ more))) k (length old + n)
-    states_new more k h = let P : List ℕ → Type 0 = λ l. get_or states k start_state ≡ state_before earlier (residuals_of (plane_of width coding l)) k
-        (length old + n) in subst P (lists_new more) (states_mid (read.sample ∷ more) k h)
+    states_new : (more : List ℕ) (k : ℕ) → k < length states → get_or states k start_state ≡ state_before start.earlier
+        (residuals_of (plane_of width coding (new ++ more)) start.row) k (x + n)
+    states_new more k h = let P : List ℕ
+        → Type 0 = λ l. get_or states k start_state ≡ state_before start.earlier (residuals_of (plane_of width coding l) start.row) k (x + n) in
+        subst P (lists_new more) (states_mid (read.sample ∷ more) k h)
 
-    pub run_level_read : IsReadTo earlier width coding bits new next after rest
+    pub run_level_read : (column : ℕ) → column ≡ x + n + 1 → IsReadTo start width coding bits new column next after rest
     unfolding residuals_of
-    run_level_read = record {
-      progress = λ more.
-          let r = residuals_of (plane_of width coding (new ++ more)) in
-          let s = length old in
-          let context : context_number r (s + n) ≡ read.context = ap (context_number r) (sym longer_mid) ∙ read.is_context more in
-          let difference : r.difference (s + n) ≡ read.difference = ap r.difference (sym longer_mid) ∙ read.is_difference more in
-          let state : get_or states read.context start_state ≡ state_before earlier r (context_number r (s + n)) (s + n) =
-          states_new more read.context read.below ∙ ap (λ k. state_before earlier r k (s + n)) (sym context) in
-          let P : ContextState → Type 0 = λ z. SpellsValue coding.depth z (decoded_value true (r.difference (s + n))) read.code in
-          let Q : ℤ → Type 0 = λ z. SpellsValue coding.depth (get_or states read.context start_state) (decoded_value true z) read.code in
-          let R : ℕ → Type 0 = λ i. Progress earlier r i bits next rest in
-          subst R longer_new (run_level earlier r some s n (zero_new more) ((progress_new more).fresh) run.fits
-          (skipped_new more) index next run.run run.spelled
-          (inr (and_right _ _ (level_new more))) bits left read.code rest inside (level_new more) (subst P state (subst Q (sym difference) read.spells))
-          (progress_new more)
-          (run.begins ∙ ap (λ l. run.run ++ l) read.begins));
-      states_are = λ more k h.
-          let r = residuals_of (plane_of width coding (new ++ more)) in
-          let s = length old in
-          let in_it : is_in_run r (s + n) ≡ true = in_run_to earlier r some s n (zero_new more) ((progress_new more).fresh) run.fits (skipped_new more) n
-          (omega arith) inside in
-          let level : is_zero (r.difference (s + n)) ≡ false = level_new more in
-          let coded : is_coded r (s + n) ≡ true = rw (in_it, level) refl in
-          let value : value_at r (s + n) ≡ decoded_value true read.difference =
-          ap (λ l. decoded_value l (r.difference (s + n))) in_it ∙ ap (decoded_value true) (ap r.difference (sym longer_mid) ∙ read.is_difference more) in
-          let small = within_before states after read.context k _ h read.stepped in
-          let step = states_step earlier r (s + n) read.context k states (decoded_value true read.difference) read.below coded
-          (ap (context_number r) (sym longer_mid) ∙ read.is_context more) value (states_new more) small in
-          ap (λ l. get_or l k start_state) read.stepped ∙ step ∙ ap (λ i. state_before earlier r k i) longer_new;
-    }
+    run_level_read column column_is =
+        let last : suc (x + n) ≡ column = omega arith in
+        record {
+          place = let place = place_new in omega (arith, ap length read.pushed, length_push mid read.sample);
+          progress = λ more.
+              let r = residuals_of (plane_of width coding (new ++ more)) start.row in
+              let state : get_or states read.context start_state ≡ state_before start.earlier r (context_number r (x + n)) (x + n) =
+              states_new more read.context read.below ∙ ap (λ k. state_before start.earlier r k (x + n)) (sym (context_new more)) in
+              let P : ContextState → Type 0 = λ z. SpellsValue coding.depth z (decoded_value true (r.difference (x + n))) read.code in
+              let Q : ℤ → Type 0 = λ z. SpellsValue coding.depth (get_or states read.context start_state) (decoded_value true z) read.code in
+              let R : ℕ → Type 0 = λ i. Progress start r i bits next rest in
+              subst R last (run_level start r x n inside (zero_new more) (fresh_new more) run.fits (skipped_new more) index next run.run run.spelled
+              (inr (and_right _ _ (level_new more))) bits left read.code rest within (level_new more)
+              (subst P state (subst Q (sym (difference_new more)) read.spells)) (progress_new more) (run.begins ∙ ap (λ l. run.run ++ l) read.begins));
+          states_are = λ more k h.
+              let r = residuals_of (plane_of width coding (new ++ more)) start.row in
+              let in_it : is_in_run r (x + n) ≡ true = in_run_to start r x n inside (zero_new more) (fresh_new more) run.fits (skipped_new more) n
+              (omega arith) within in
+              let level : is_zero (r.difference (x + n)) ≡ false = level_new more in
+              let coded : is_coded r (x + n) ≡ true = rw (in_it, level) refl in
+              let value : value_at r (x + n) ≡ decoded_value true read.difference =
+              ap (λ l. decoded_value l (r.difference (x + n))) in_it ∙ ap (decoded_value true) (difference_new more) in
+              let small = within_before states after read.context k _ h read.stepped in
+              let step = states_step start.earlier r (x + n) read.context k states (decoded_value true read.difference) read.below coded
+              (context_new more) value (states_new more) small in
+              ap (λ l. get_or l k start_state) read.stepped ∙ step ∙ ap (λ i. state_before start.earlier r k i) last;
+        }
 
--- ---- the whole plane
+-- ---- rows
 
-pub whole_plane : (earlier : ℕ → List ℤ) (width : ℕ) (coding : Coding) (bits left : List Bool) (samples : List ℕ) (index : ℕ) (states : List ContextState)
-    → IsReadTo earlier width coding bits samples index states left
-    → (front : List Bool) × (bits ≡ front ++ left) × PlaneSpells earlier (plane_of width coding samples) front
-    × AreStatesAfter coding.depth (values_after earlier (plane_of width coding samples)) states
-unfolding residuals_of
-whole_plane earlier width coding bits left samples index states read =
-    let P : List ℕ → Type 0 = λ l. Progress earlier (residuals_of (plane_of width coding l)) (length samples) bits index left in
-    let p : Progress earlier (residuals_of (plane_of width coding samples)) (length samples) bits index left = subst P (append-nil samples) (read.progress []) in
-    let Q : List ℕ → Type 0 = λ l. (k : ℕ) → k < length states → get_or states k start_state ≡ state_before earlier (residuals_of (plane_of width coding l)) k
-    (length samples) in
-    (p.front, p.begins, (index, p.spells), subst Q (append-nil samples) (read.states_are []))
-
-pub no_samples : (earlier : ℕ → List ℤ) (width : ℕ) (coding : Coding) (bits : List Bool) (states : List ContextState) → AreStatesAfter coding.depth earlier states
-    → IsReadTo earlier width coding bits [] 0 states bits
-unfolding SamplesSpell follows_skipped samples_before residuals_of
-no_samples earlier width coding bits states fresh = record {
-  progress = λ more. record { front = []; begins = refl; spells = (refl, refl); fresh = refl };
-  states_are = λ more k h. fresh k h ∙ ap (state_after coding.depth) (sym (append-nil (earlier k)));
+-- no sample of a row is read
+pub row_begun : (start : RowStart) (width : ℕ) (coding : Coding) (bits : List Bool) (samples : List ℕ) (states : List ContextState)
+    → length samples ≡ start.row * width → AreStatesAfter coding.depth start.earlier states
+    → IsReadTo start width coding bits samples 0 start.first states bits
+unfolding SamplesSpell follows_skipped columns_before residuals_of
+row_begun start width coding bits samples states whole fresh = record {
+  place = omega arith;
+  progress = λ more. record { front = []; begins = refl; spells = (refl, refl); fresh = λ less. refl };
+  states_are = λ more k h. fresh k h ∙ ap (state_after coding.depth) (sym (append-nil (start.earlier k)));
 }
+
+-- the first rows, and one more
+pub rows_more : (earlier : ℕ → List ℤ) (width : ℕ) (coding : Coding) (bits mid left : List Bool) (old new : List ℕ) (rows index next : ℕ)
+    (before states : List ContextState) → length old ≡ rows * width → IsContinued old new
+    → ((more : List ℕ) → AreRowsRead earlier (plane_of width coding (old ++ more)) rows bits index before mid)
+    → ((start : RowStart) (whole : List Bool) → IsReadTo start width coding whole old 0 index before mid
+    → IsReadTo start width coding whole new width next states left)
+    → (more : List ℕ) → AreRowsRead earlier (plane_of width coding (new ++ more)) (rows + 1) bits next states left
+unfolding RowsSpell values_after_rows residuals_of
+rows_more earlier width coding bits mid left old new rows index next before states whole continued read row more =
+    let p = plane_of width coding (new ++ more) in
+    let lists : old ++ (continued.0 ++ more) ≡ new ++ more = sym (append_assoc old continued.0 more) ∙ ap (λ l. l ++ more) (sym continued.1) in
+    let P : List ℕ → Type 0 = λ l. AreRowsRead earlier (plane_of width coding l) rows bits index before mid in
+    let above = subst P lists (read (continued.0 ++ more)) in
+    let start : RowStart = record { row = rows; earlier = values_after_rows earlier p rows; first = index } in
+    let all = row start mid (row_begun start width coding mid old before whole above.states_are) in
+    let there = all.progress more in
+    let count : suc rows ≡ rows + 1 = omega arith in
+    let Q : ℕ → Type 0 = λ k. AreRowsRead earlier p k bits next states left in
+    subst Q count (record {
+      front = above.front ++ there.front;
+      begins = above.begins ∙ ap (λ l. above.front ++ l) there.begins ∙ sym (append_assoc above.front there.front left);
+      spells = (above.front, there.front, index, refl, above.spells, there.spells);
+      states_are = all.states_are more;
+    })
 
 -- ---- one skipped sample further
 
@@ -289,7 +338,6 @@ none_skipped width coding old = record { samples = []; pushed = sym (append-nil 
 
 pub skip_more : (width : ℕ) (coding : Coding) (old mid new : List ℕ) (n x : ℕ) (near : SamplesAbout) → 1 ≤ width → IsCodedDepth coding.depth → AreSkipped width coding old mid n
     → near ≡ neighbours_at width mid (length mid) → x ≡ prediction_of near → new ≡ mid ++ x ∷ [] → AreSkipped width coding old new (n + 1)
-unfolding residuals_of
 skip_more width coding old mid new n x near some deep skips near_is x_is pushed =
     let longer : length mid ≡ length old + n = omega (arith, ap length skips.pushed, length-append old skips.samples, skips.count) in
     let around = λ (more : List ℕ). neighbours_same width (length mid) some ((mid ++ x ∷ []) ++ more) mid (same_before mid more x) ∙ sym near_is in
@@ -300,7 +348,7 @@ skip_more width coding old mid new n x near some deep skips near_is x_is pushed 
       zero_differences = λ more j h. ⊎_elim
           (λ less.
           let lists : mid ++ (x ∷ more) ≡ new ++ more = sym (append_assoc mid (x ∷ []) more) ∙ ap (λ l. l ++ more) (sym pushed) in
-          let P : List ℕ → Type 0 = λ l. is_zero ((residuals_of (plane_of width coding l)).difference (length old + j)) ≡ true in
+          let P : List ℕ → Type 0 = λ l. is_zero (difference_at (plane_of width coding l) (length old + j)) ≡ true in
           subst P lists (skips.zero_differences (x ∷ more) j less))
           (λ most.
           let place : length mid ≡ length old + j = omega (arith, longer) in
@@ -311,7 +359,7 @@ skip_more width coding old mid new n x near some deep skips near_is x_is pushed 
           ∙ ap (λ z. difference_of coding.depth (context_of coding.entry z) (prediction_of z) (get_or ((mid ++ x ∷ []) ++ more) (length mid) 0)) (around more)
           ∙ ap (λ y. difference_of coding.depth (context_of coding.entry near) (prediction_of near) y) (this_one mid more x ∙ x_is)
           ∙ same_zero _ _ _ deep in
-          let P : ℕ → Type 0 = λ i. is_zero ((residuals_of (plane_of width coding (new ++ more))).difference i) ≡ true in
+          let P : ℕ → Type 0 = λ i. is_zero (difference_at (plane_of width coding (new ++ more)) i) ≡ true in
           subst P place (ap is_zero here))
           (cases_lt j n);
     }
@@ -328,11 +376,11 @@ skip_on width coding old mid new n m first second =
       zero_differences = λ more j h. ⊎_elim
           (λ less.
           let lists : mid ++ (second.samples ++ more) ≡ new ++ more = sym (append_assoc mid second.samples more) ∙ ap (λ l. l ++ more) (sym second.pushed) in
-          let P : List ℕ → Type 0 = λ l. is_zero ((residuals_of (plane_of width coding l)).difference (length old + j)) ≡ true in
+          let P : List ℕ → Type 0 = λ l. is_zero (difference_at (plane_of width coding l) (length old + j)) ≡ true in
           subst P lists (first.zero_differences (second.samples ++ more) j less))
           (λ later.
           let place : length mid + (j - n) ≡ length old + j = omega (arith, longer) in
-          let P : ℕ → Type 0 = λ i. is_zero ((residuals_of (plane_of width coding (new ++ more))).difference i) ≡ true in
+          let P : ℕ → Type 0 = λ i. is_zero (difference_at (plane_of width coding (new ++ more)) i) ≡ true in
           subst P place (second.zero_differences more (j - n) (omega arith)))
           (cases_lt j n);
     }
@@ -362,28 +410,27 @@ some_abs (negsuc n) h = omega arith
 -- ---- the same two steps, by what the code looked at
 
 pub context_here : (width : ℕ) (coding : Coding) (old more : List ℕ) (near : SamplesAbout) → 1 ≤ width → near ≡ neighbours_at width old (length old)
-    → (residuals_of (plane_of width coding (old ++ more))).context (length old) ≡ context_of coding.entry near
-unfolding residuals_of
+    → context_at (plane_of width coding (old ++ more)) (length old) ≡ context_of coding.entry near
 context_here width coding old more near some near_is =
     ap (context_of coding.entry) (neighbours_same width (length old) some (old ++ more) old (λ j h. get_or_append_left old more 0 j h) ∙ sym near_is)
 
 pub zero_here : (width : ℕ) (coding : Coding) (old : List ℕ) (near : SamplesAbout) (context : ℤ) → 1 ≤ width → near ≡ neighbours_at width old (length old)
     → context ≡ context_of coding.entry near → context ≡ pos 0
-    → (more : List ℕ) → is_zero ((residuals_of (plane_of width coding (old ++ more))).context (length old)) ≡ true
+    → (more : List ℕ) → is_zero (context_at (plane_of width coding (old ++ more)) (length old)) ≡ true
 zero_here width coding old near context some near_is context_is zero_is more =
     ap is_zero (context_here width coding old more near some near_is ∙ sym context_is ∙ zero_is)
 
-pub scalar_read_at : (earlier : ℕ → List ℤ) (width : ℕ) (coding : Coding) (old new : List ℕ) (index : ℕ) (states after : List ContextState)
-    (left rest : List Bool) (near : SamplesAbout) (context : ℤ) → 1 ≤ width → near ≡ neighbours_at width old (length old)
+pub scalar_read_at : (start : RowStart) (width : ℕ) (coding : Coding) (old new : List ℕ) (x next index : ℕ) (states after : List ContextState)
+    (left rest : List Bool) (near : SamplesAbout) (context : ℤ) → x < width → next ≡ x + 1 → near ≡ neighbours_at width old (length old)
     → context ≡ context_of coding.entry near → context ≢ pos 0 → IsSampleRead width coding false old states left new after rest
-    → (bits : List Bool) → IsReadTo earlier width coding bits old index states left → IsReadTo earlier width coding bits new index after rest
-scalar_read_at earlier width coding old new index states after left rest near context some near_is context_is not_zero read bits so_far =
+    → (bits : List Bool) → IsReadTo start width coding bits old x index states left → IsReadTo start width coding bits new next index after rest
+scalar_read_at start width coding old new x next index states after left rest near context inside next_is near_is context_is not_zero read bits so_far =
     let lists : new ++ [] ≡ old ++ (read.sample ∷ []) = append-nil new ∙ read.pushed in
     let given : nat_abs context ≡ read.context =
-    ap nat_abs (context_is ∙ sym (context_here width coding old (read.sample ∷ []) near some near_is))
-    ∙ ap (λ l. context_number (residuals_of (plane_of width coding l)) (length old)) (sym lists) ∙ read.is_context [] in
+    ap nat_abs (context_is ∙ sym (context_here width coding old (read.sample ∷ []) near (omega arith) near_is))
+    ∙ ap (λ l. nat_abs (context_at (plane_of width coding l) (length old))) (sym lists) ∙ read.is_context [] in
     let large : 0 < nat_abs context = some_abs context not_zero in
-    scalar_read earlier width coding bits left rest old new index states after so_far read (omega (arith, given, large))
+    scalar_read start width coding bits left rest old new x next index states after inside next_is so_far read (omega (arith, given, large))
 
 -- where the code can't be read under the state that stood there
 pub code_halted_at : (width : ℕ) (coding : Coding) (level : Bool) (samples : List ℕ) (states : List ContextState) (bits : List Bool) (near : SamplesAbout)

@@ -1,5 +1,5 @@
--- Every plane and every picture has a spelling, whatever stands before it.
-use Rattle.std.proofs.Common.{◌≡◌, ℕ, zero, suc, ◌+◌, ◌-◌, ◌*◌, ◌^◌, ◌<◌, ◌≤◌, Bool, true, false, cond, List, [], ◌∷◌, ◌++◌, fold, length, refl, sym, subst, arith, append_assoc, ⊎_elim, ◌⊎◌, ℤ}
+-- Every row has a spelling, whatever stands before it.
+use Rattle.std.proofs.Common.{◌≡◌, ℕ, zero, suc, ◌+◌, ◌-◌, ◌*◌, ◌^◌, ◌<◌, ◌≤◌, Bool, true, false, cond, List, [], ◌∷◌, ◌++◌, fold, refl, sym, subst, arith, append_assoc, ⊎_elim, ◌⊎◌, ℤ}
 use Rattle.std.proofs.lemmas.Bool.{cases_lt, cases_eq, cases_Bool}
 use Rattle.std.proofs.lemmas.List.{append-nil}
 use Rattle.std.proofs.Math.Nat.{mul-le-mul_right}
@@ -9,8 +9,7 @@ use Rattle.ffv1_rice.specs.States.{ContextState, IsParameter, start_state, corre
 use Rattle.ffv1_rice.specs.Codes.{SpellsValue, code_bits}
 use Rattle.ffv1_rice.specs.Runs.{SpellsRun, line_end, whole, rest, over_end, run_exponent, whole_length}
 use Rattle.ffv1_rice.proofs.OneRun.{whole_length_pos}
-use Rattle.ffv1_plane.specs.Samples.{Plane}
-use Rattle.ffv1_plane.specs.Spelling.{Residuals, residuals_of, is_skipped, is_coded, starts_run, left_in_line, skipped_among, run_length, value_at, context_number, state_after, values_before, state_before, SampleSpells, SamplesSpell, PlaneSpells}
+use Rattle.ffv1_plane.specs.Spelling.{Residuals, is_skipped, is_coded, starts_run, left_in_line, skipped_among, run_length, value_at, context_number, state_after, values_before, state_before, SampleSpells, SamplesSpell, RowSpells}
 
 -- ---- codes
 
@@ -127,31 +126,31 @@ sample_of earlier r s index = ⊎_elim
     (λ no. let all = past_run earlier r s index index [] (λ h. absurd (differ h no)) (λ h. (refl, refl)) in ([] ++ all.0, index, all.1))
     (cases_Bool (starts_run r s))
 
-pub spells_on : (earlier : ℕ → List ℤ) (r : Residuals) (count n : ℕ) (front : List Bool) (index : ℕ) → n ≤ count → SamplesSpell earlier r n front index
-    → (back : List Bool) × (last : ℕ) × SamplesSpell earlier r count (front ++ back) last
+pub spells_on : (earlier : ℕ → List ℤ) (r : Residuals) (first count n : ℕ) (front : List Bool) (index : ℕ) → n ≤ count → SamplesSpell earlier r first n front index
+    → (back : List Bool) × (last : ℕ) × SamplesSpell earlier r first count (front ++ back) last
 unfolding SamplesSpell
-spells_on earlier r zero n front index low h =
+spells_on earlier r first zero n front index low h =
     let none : n ≡ zero = omega arith in (
       [],
       index,
-      subst (λ (l : List Bool). SamplesSpell earlier r zero l index) (sym (append-nil front))
-          (subst (λ (k : ℕ). SamplesSpell earlier r k front index) none h),
+      subst (λ (l : List Bool). SamplesSpell earlier r first zero l index) (sym (append-nil front))
+          (subst (λ (k : ℕ). SamplesSpell earlier r first k front index) none h),
     )
-spells_on earlier r (suc count) n front index low h = ⊎_elim
+spells_on earlier r first (suc count) n front index low h = ⊎_elim
     (λ same. (
       [],
       index,
-      subst (λ (l : List Bool). SamplesSpell earlier r (suc count) l index) (sym (append-nil front))
-          (subst (λ (k : ℕ). SamplesSpell earlier r k front index) same h),
+      subst (λ (l : List Bool). SamplesSpell earlier r first (suc count) l index) (sym (append-nil front))
+          (subst (λ (k : ℕ). SamplesSpell earlier r first k front index) same h),
     ))
     (λ other.
-    let before = spells_on earlier r count n front index (omega arith) h in
+    let before = spells_on earlier r first count n front index (omega arith) h in
     let portion = sample_of earlier r count before.1 in
     (before.0 ++ portion.0, portion.1, (front ++ before.0, portion.0, before.1, sym (append_assoc front before.0 portion.0), before.2, portion.2)))
     (cases_eq n (suc count))
 
--- ---- planes
+-- ---- rows
 
-pub plane_bits : (earlier : ℕ → List ℤ) (p : Plane) → (bits : List Bool) × PlaneSpells earlier p bits
+pub row_bits : (earlier : ℕ → List ℤ) (r : Residuals) (first : ℕ) → (bits : List Bool) × (next : ℕ) × RowSpells earlier r first bits next
 unfolding SamplesSpell
-plane_bits earlier p = let all = spells_on earlier (residuals_of p) (length p.samples) zero [] 0 (omega arith) (refl, refl) in ([] ++ all.0, (all.1, all.2))
+row_bits earlier r first = let all = spells_on earlier r first r.width zero [] first (omega arith) (refl, refl) in ([] ++ all.0, all.1, all.2)

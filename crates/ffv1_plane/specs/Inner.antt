@@ -1,7 +1,9 @@
 -- Definitions that no contract of a public call reaches: what loops and private calls keep, so that those contracts can be proved.
 pub mod Groups
 pub mod Halts
+pub mod PlaneRows
 pub mod Readers
+pub mod RowOrder
 pub mod Rows
 pub mod Sums
 pub mod Progress

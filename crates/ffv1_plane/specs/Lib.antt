@@ -1,6 +1,7 @@
 pub mod Samples
 pub mod SetTables
 pub mod Spelling
+pub mod Lines
 pub mod Progress
 pub mod Picture
 pub mod Views

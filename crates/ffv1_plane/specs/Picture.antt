@@ -1,5 +1,5 @@
 -- A tile's picture, and the content of a slice that spells it (RFC 9043, sections 3.8.2 and 4.5 to 4.8).
-use Rattle.std.specs.Prelude.{◌≡◌, ℕ, zero, suc, ◌<◌, ◌==◌, Bool, List, [], ◌∷◌, ◌++◌, length, map, drop, ℤ, slice_index_or, if◌then◌else◌}
+use Rattle.std.specs.Prelude.{◌≡◌, ℕ, zero, suc, ◌<◌, ◌==◌, Bool, List, [], ◌++◌, length, drop, ℤ, slice_index_or}
 use Rattle.ffv1_bits.specs.Bits.{bits_of}
 use Rattle.ffv1_range.specs.Header.{IsHeadOf, header_limits}
 use Rattle.ffv1_range.specs.Setup.{SetupValue, IsInProfile, set_entry}
@@ -7,7 +7,7 @@ use Rattle.ffv1_range.specs.Tiles.{grid_of, plane_count, plane_rect, tile_count}
 use Rattle.ffv1_range.specs.declared.grid.TileRect.{TileRect}
 use Rattle.ffv1_range.specs.declared.head.SliceHead.{SliceHead}
 use Rattle.ffv1_plane.specs.Samples.{Plane, plane_of, coding_at, IsPlaneOfSize}
-use Rattle.ffv1_plane.specs.Spelling.{PlaneSpells, values_after}
+use Rattle.ffv1_plane.specs.Lines.{Line, CodedPlanes, plane_after_plane, LinesSpell}
 
 -- The planes Y, or Y, Cb and Cr, each row by row, and how many bits stand after the last code.
 pub record PictureValue : Type 0 where
@@ -42,29 +42,29 @@ tile_plane setup head planes plane = shaped_plane setup head plane (samples_of p
 
 -- ---- the bits of a picture
 
--- the planes that share adaptive states: Y has its own, Cb and Cr have some together
-abbrev pub plane_groups : Bool → List (List ℕ)
-plane_groups has_chroma = if has_chroma then (0 ∷ []) ∷ (1 ∷ 2 ∷ []) ∷ [] else (0 ∷ []) ∷ []
+-- the planes that share adaptive states: Y has its own, Cb and Cr have some together (section 3.8.2.4)
+abbrev pub plane_group : ℕ → ℕ
+plane_group zero = 0
+plane_group (suc plane) = 1
+
+-- The planes of a picture, as they are coded together: the run index starts anew at the first row of each.
+abbrev pub picture_planes : SetupValue → SliceHead → List (List ℕ) → CodedPlanes
+picture_planes setup head planes = record { plane = tile_plane setup head planes; group = plane_group; is_anew = λ line. line.row == 0 }
+
+abbrev pub plane_height : SetupValue → ℕ → ℕ → ℕ
+plane_height setup tile plane = (plane_rect (grid_of setup) tile plane).h
+
+-- the lines of a picture in coded order: plane after plane
+abbrev pub picture_lines : SetupValue → ℕ → List Line
+picture_lines setup tile = plane_after_plane (plane_height setup tile) (plane_count (grid_of setup))
 
 -- no values were coded yet
 abbrev pub no_values : ℕ → List ℤ
 no_values context = []
 
--- the bits of some planes that share states, one plane after the other, after earlier values
-abbrev pub PlanesSpell : (ℕ → List ℤ) → List Plane → List Bool → Type 0
-PlanesSpell earlier [] bits = bits ≡ []
-PlanesSpell earlier (plane ∷ planes) bits =
-    (front : List Bool) × (back : List Bool) × (bits ≡ front ++ back) × PlaneSpells earlier plane front × PlanesSpell (values_after earlier plane) planes back
-
--- the bits of some groups, whose states start anew
-abbrev pub GroupsSpell : List (List Plane) → List Bool → Type 0
-GroupsSpell [] bits = bits ≡ []
-GroupsSpell (group ∷ groups) bits =
-    (front : List Bool) × (back : List Bool) × (bits ≡ front ++ back) × PlanesSpell no_values group front × GroupsSpell groups back
-
 -- the bits of a whole picture: the states start anew in each slice
 abbrev pub PictureSpells : SetupValue → SliceHead → List (List ℕ) → List Bool → Type 0
-PictureSpells setup head planes bits = GroupsSpell (map (map (tile_plane setup head planes)) (plane_groups setup.has_chroma)) bits
+PictureSpells setup head planes bits = (last : ℕ) × LinesSpell (picture_planes setup head planes) (λ group. no_values) 0 (picture_lines setup head.tile) bits last
 
 -- The picture of a tile that the content of its slice spells: a header of that tile, the payload's first where the tile is
 -- 0, then the bits of the planes, and then spare bits.

@@ -1,6 +1,6 @@
 -- Where the content of a slice can't be read on (RFC 9043, section 3.8.2). As in Spelling, all is said of a whole picture
 -- and its bits: those of its words that start before a sample are there, and a word that is due at the sample isn't.
-use Rattle.std.specs.Prelude.{◌≡◌, ℕ, zero, suc, ◌+◌, ◌*◌, ◌<◌, ◌≤◌, ◌==◌, ◌⊎◌, Bool, true, false, List, [], ◌∷◌, ◌++◌, drop, ℤ, if◌then◌else◌}
+use Rattle.std.specs.Prelude.{◌≡◌, ℕ, ◌+◌, ◌<◌, ◌≤◌, ◌==◌, ◌⊎◌, Bool, true, false, List, [], ◌∷◌, ◌++◌, drop, ℤ}
 use Rattle.ffv1_bits.specs.Bits.{bits_of}
 use Rattle.ffv1_range.specs.Header.{IsHeadOf, header_limits}
 use Rattle.ffv1_range.specs.Setup.{SetupValue}
@@ -10,8 +10,9 @@ use Rattle.ffv1_rice.specs.Codes.{IsCodeFault}
 use Rattle.ffv1_rice.specs.Runs.{whole_length, SpellsRun, IsShortWord}
 use Rattle.ffv1_rice.specs.declared.code.CodeFault.{CodeFault}
 use Rattle.ffv1_rice.specs.declared.code.CodeFault.TheVariants.{Truncated}
-use Rattle.ffv1_plane.specs.Spelling.{Residuals, residuals_of, is_in_run, is_coded, starts_run, left_in_line, run_length, context_number, state_before, SamplesSpell, PlaneSpells, values_after}
-use Rattle.ffv1_plane.specs.Picture.{ArePlanesOf, tile_plane, no_values, PictureSpells}
+use Rattle.ffv1_plane.specs.Spelling.{Residuals, residuals_of, is_in_run, is_coded, starts_run, left_in_line, run_length, context_number, state_before, SamplesSpell}
+use Rattle.ffv1_plane.specs.Lines.{Line, line_at, first_index, values_after_lines, LinesSpell}
+use Rattle.ffv1_plane.specs.Picture.{ArePlanesOf, tile_plane, picture_planes, picture_lines, no_values, PictureSpells}
 
 -- ---- the words before a word of a run
 
@@ -24,64 +25,55 @@ pub data SpellsFront : ℕ → ℕ → List Bool → ℕ → Type 0 where
   one_word : {n i next : ℕ} {bits : List Bool} (m : ℕ) (others : List Bool) → n ≡ whole_length i + m → bits ≡ true ∷ others
       → SpellsFront m (i + 1) others next → SpellsFront n i bits next
 
--- A word of a run is due at sample s, at a run index. Each word starts at the first sample not yet skipped: words of the
--- run have skipped those from its start up to s, which lies in its line. The bits are those of the words before s.
-pub record IsRunWordDue (earlier : ℕ → List ℤ) (r : Residuals) (s : ℕ) (bits : List Bool) (index : ℕ) : Type 0 where
+-- A word of a run is due at column x of a row, at a run index. Each word starts at the first sample not yet skipped:
+-- words of the run have skipped those from its start up to x, which lies in the row. The bits are those of the row's words
+-- before x.
+pub record IsRunWordDue (earlier : ℕ → List ℤ) (r : Residuals) (first x : ℕ) (bits : List Bool) (index : ℕ) : Type 0 where
   pub start : ℕ
   pub skipped : ℕ
-  pub place : s ≡ start + skipped
+  pub place : x ≡ start + skipped
   pub starts : starts_run r start ≡ true
   pub in_run : skipped ≤ run_length r start
   pub in_line : skipped < left_in_line r start
   pub before : List Bool
   pub begun : ℕ
-  pub spells : SamplesSpell earlier r start before begun
+  pub spells : SamplesSpell earlier r first start before begun
   pub words : List Bool
   pub front : SpellsFront skipped begun words index
   pub joined : bits ≡ before ++ words
 
 -- ---- the words before a code
 
--- A code is due at sample s, which is coded. The bits are those of the words before the code: all words that start before
--- s, and for a level those of its run.
-pub record IsCodeDue (earlier : ℕ → List ℤ) (r : Residuals) (s : ℕ) (bits : List Bool) : Type 0 where
-  pub coded : is_coded r s ≡ true
+-- A code is due at column x, whose sample is coded. The bits are those of the row's words before the code: all words that
+-- start before x, and for a level those of its run.
+pub record IsCodeDue (earlier : ℕ → List ℤ) (r : Residuals) (first x : ℕ) (bits : List Bool) : Type 0 where
+  pub coded : is_coded r x ≡ true
   pub before : List Bool
   pub index : ℕ
-  pub spells : SamplesSpell earlier r s before index
+  pub spells : SamplesSpell earlier r first x before index
   pub run : List Bool
   pub next : ℕ
-  pub run_starts : starts_run r s ≡ true → SpellsRun (run_length r s) (left_in_line r s) index run next
-  pub no_run_starts : starts_run r s ≡ false → (run ≡ []) × (next ≡ index)
+  pub run_starts : starts_run r x ≡ true → SpellsRun (run_length r x) (left_in_line r x) index run next
+  pub no_run_starts : starts_run r x ≡ false → (run ≡ []) × (next ≡ index)
   pub joined : bits ≡ before ++ run
 
 -- ---- words that can't be read
 
--- After these bits a word of a run is due at sample s, and the others end within it.
-abbrev pub IsRunWordShort : (ℕ → List ℤ) → Residuals → ℕ → List Bool → List Bool → Type 0
-IsRunWordShort earlier r s bits others = (index : ℕ) × IsRunWordDue earlier r s bits index × IsShortWord index others
+-- After these bits of a row a word of a run is due at column x, and the others end within it.
+abbrev pub IsRunWordShort : (ℕ → List ℤ) → Residuals → ℕ → ℕ → List Bool → List Bool → Type 0
+IsRunWordShort earlier r first x bits others = (index : ℕ) × IsRunWordDue earlier r first x bits index × IsShortWord index others
 
--- After these bits a code is due at sample s, and the others end within it or begin with what no sample has.
-abbrev pub IsCodeRefused : (ℕ → List ℤ) → Residuals → ℕ → List Bool → List Bool → CodeFault → Type 0
-IsCodeRefused earlier r s bits others fault =
-    IsCodeDue earlier r s bits × IsCodeFault r.depth (state_before earlier r (context_number r s) s) (is_in_run r s) others fault
+-- After these bits of a row a code is due at column x, and the others end within it or begin with what no sample has.
+abbrev pub IsCodeRefused : (ℕ → List ℤ) → Residuals → ℕ → ℕ → List Bool → List Bool → CodeFault → Type 0
+IsCodeRefused earlier r first x bits others fault =
+    IsCodeDue earlier r first x bits × IsCodeFault r.depth (state_before earlier r (context_number r x) x) (is_in_run r x) others fault
 
--- After these bits no word of sample s can be read, for this fault.
-abbrev pub IsWordRefused : (ℕ → List ℤ) → Residuals → ℕ → List Bool → List Bool → CodeFault → Type 0
-IsWordRefused earlier r s bits others fault = ((fault ≡ Truncated) × IsRunWordShort earlier r s bits others) ⊎ IsCodeRefused earlier r s bits others fault
+-- After these bits of a row, which begins with a run index, no word of column x can be read, for this fault.
+abbrev pub IsWordRefused : (ℕ → List ℤ) → Residuals → ℕ → ℕ → List Bool → List Bool → CodeFault → Type 0
+IsWordRefused earlier r first x bits others fault =
+    ((fault ≡ Truncated) × IsRunWordShort earlier r first x bits others) ⊎ IsCodeRefused earlier r first x bits others fault
 
 -- ---- whole pictures
-
--- the values after which a plane is coded: Cr goes on with the states of Cb
-abbrev pub values_before_plane : SetupValue → SliceHead → List (List ℕ) → ℕ → (ℕ → List ℤ)
-values_before_plane setup head planes plane = if plane == 2 then values_after no_values (tile_plane setup head planes 1) else no_values
-
--- the bits of the planes below a number
-unfoldable pub PlanesBelow : SetupValue → SliceHead → List (List ℕ) → ℕ → List Bool → Type 0
-PlanesBelow setup head planes zero bits = bits ≡ []
-PlanesBelow setup head planes (suc plane) bits =
-    (front : List Bool) × (back : List Bool) × (bits ≡ front ++ back)
-    × PlanesBelow setup head planes plane front × PlaneSpells (values_before_plane setup head planes plane) (tile_plane setup head planes plane) back
 
 -- The place of a fault: a sample of a plane of a tile, by its row and its column.
 pub record IsPlaceIn (setup : SetupValue) (tile plane y x : ℕ) : Type 0 where
@@ -89,34 +81,35 @@ pub record IsPlaceIn (setup : SetupValue) (tile plane y x : ℕ) : Type 0 where
   pub row_there : y < (plane_rect (grid_of setup) tile plane).h
   pub column_there : x < (plane_rect (grid_of setup) tile plane).w
 
--- its number in scan order
-abbrev pub scan_place : SetupValue → ℕ → ℕ → ℕ → ℕ → ℕ
-scan_place setup tile plane y x = y * (plane_rect (grid_of setup) tile plane).w + x
-
--- The bits begin with the planes below a number and with those words of the next plane that start before a sample, and
+-- The bits begin with the lines before row y of a plane and with those words of that row that start before column x, and
 -- then no word of that sample can be read, for this fault. `front` is what stands before it.
 pub record AreBitsStuck (setup : SetupValue) (head : SliceHead) (planes : List (List ℕ)) (bits : List Bool) (fault : CodeFault) (plane y x : ℕ)
     (front : List Bool) : Type 0 where
   pub place : IsPlaceIn setup head.tile plane y x
+  pub before : List Line
+  pub later : List Line
+  pub lines : picture_lines setup head.tile ≡ before ++ line_at plane y ∷ later
   pub whole : List Bool
-  pub below : PlanesBelow setup head planes plane whole
+  pub index : ℕ
+  pub spells : LinesSpell (picture_planes setup head planes) (λ group. no_values) 0 before whole index
   pub part : List Bool
   pub joined : front ≡ whole ++ part
   pub others : List Bool
   pub begins : bits ≡ front ++ others
-  pub refused : IsWordRefused (values_before_plane setup head planes plane) (residuals_of (tile_plane setup head planes plane))
-      (scan_place setup head.tile plane y x) part others fault
+  pub refused : let c = picture_planes setup head planes in
+      IsWordRefused (values_after_lines c (λ group. no_values) before (c.group plane)) (residuals_of (tile_plane setup head planes plane) y)
+      (first_index c index (line_at plane y)) x part others fault
 
--- A content that is stuck at sample s of a plane, from its first byte on, and which definition says what of it:
+-- A content that is stuck at column x of a row, from its first byte on, and which definition says what of it:
 --
---     header | planes below the plane | words of the plane that start before s | a word that can't be read
---            | ------- whole -------- | ---------------- part ---------------- | others
---            | ------------------------- front -----------------------------   |
+--     header | lines before the row | words of the row that start before x | a word that can't be read
+--            | ------ whole ------- | --------------- part --------------- | others
+--            | ------------------------ front ----------------------------   |
 --
 --     IsStuckAt          the header, and that `front` begins the bits of a picture
---     AreBitsStuck       `whole`, by PlanesBelow, and then `part`
+--     AreBitsStuck       `whole`, by LinesSpell, and then `part`
 --     IsWordRefused      `others`: a word of a run that ends too early (IsRunWordShort), or a code that is refused (IsCodeRefused)
---     IsRunWordDue,      `part`: which word is due at s after it
+--     IsRunWordDue,      `part`: which word is due at x after it
 --     IsCodeDue
 
 -- The content of a slice is stuck at a sample of a tile: it has a header of the tile, and for some picture of the tile and

@@ -1,12 +1,12 @@
 //! A plane, sample by sample and run by run (RFC 9043, sections 3.8.2 and 4.8).
 //!
 //! A `PlaneReader` has a state for each context of its tables.
-ghost use Rattle.std.specs.Prelude.{◌≡◌, ℕ, ◌<◌, ◌≤◌, ◌+◌, ◌*◌, ◌%◌, ◌^◌, length, slice_index, List, Bool, OnOk, IfOk, IfErr, nat_abs, ℤ, true};
+ghost use Rattle.std.specs.Prelude.{◌≡◌, ℕ, ◌<◌, ◌≤◌, ◌+◌, ◌^◌, length, slice_index, List, Bool, OnOk, IfOk, IfErr, nat_abs, true};
 ghost use Rattle.ffv1_bits.specs.Limits.{greatest_side};
 ghost use Rattle.ffv1_range.specs.Setup.{set_contexts, set_entry};
 ghost use Rattle.ffv1_rice.specs.States.{IsCodedDepth};
 ghost use Rattle.ffv1_plane.specs.Samples.{IsPlaneOfSize, coding_at, neighbours_at, context_of};
-ghost use Rattle.ffv1_plane.specs.Inner.Progress.{IsSampleRead, IsPlaneRead};
+ghost use Rattle.ffv1_plane.specs.Inner.Progress.{IsContinued, RowStart, IsSampleRead, IsPlaneRead};
 ghost use Rattle.ffv1_plane.specs.Inner.Halts.{IsSampleHalted, IsDecodingHalted};
 ghost use Rattle.ffv1_plane.specs.Inner.Rows.{left_of, IsLeftOfNext};
 ghost use Rattle.ffv1_plane.specs.Inner.Readers.{coding_of, HasStates, IsSamePlane, HasRead, IsHaltedAt};
@@ -112,7 +112,8 @@ impl PlaneReader<'_, '_, '_> {
         requires left { left ≡ left_of self.old.lines }
         ensures same { IsSamePlane self.old self.new }
         ensures left { IfOk result (IsLeftOfNext self.new.lines) }
-        ensures read { OnOk result ((earlier : ℕ → List ℤ) (whole : List Bool) → HasRead earlier whole self.old → HasRead earlier whole self.new) }
+        ensures read { OnOk result ((start : RowStart) (whole : List Bool) → HasRead start whole self.old → HasRead start whole self.new) }
+        ensures continued { OnOk result (IsContinued self.old.lines.samples self.new.lines.samples) }
         ensures more { OnOk result (self.old.lines.x < self.new.lines.x) }
         ensures count { OnOk result (length self.new.lines.samples + self.old.lines.x ≡ length self.old.lines.samples + self.new.lines.x) }
         ensures err { IfErr result (IsHaltedAt self.old) }
@@ -145,9 +146,9 @@ impl PlaneReader<'_, '_, '_> {
         requires states { HasStates self.old }
         requires depth { depth ≡ self.old.lines.depth }
         requires start { self.old.lines.x ≡ 0 }
-        requires whole { length self.old.lines.samples % self.old.lines.width ≡ 0 }
         ensures same { IsSamePlane self.old self.new }
-        ensures read { OnOk result ((earlier : ℕ → List ℤ) (whole : List Bool) → HasRead earlier whole self.old → HasRead earlier whole self.new) }
+        ensures read { OnOk result ((start : RowStart) (whole : List Bool) → HasRead start whole self.old → HasRead start whole self.new) }
+        ensures continued { OnOk result (IsContinued self.old.lines.samples self.new.lines.samples) }
         ensures full { OnOk result (self.new.lines.x ≡ self.new.lines.width) }
         ensures count { OnOk result (length self.new.lines.samples ≡ length self.old.lines.samples + self.old.lines.width) }
         ensures small { OnOk result ((s : ℕ) → slice_index self.new.lines.samples s < 2 ^ self.old.lines.depth) }

@@ -1,5 +1,5 @@
--- How the parts of the decoder stop at a word that can't be read: a run, a sample, a line, a plane and the planes of a tile.
-use Rattle.std.specs.Prelude.{◌≡◌, ℕ, ◌+◌, ◌-◌, ◌*◌, ◌%◌, ◌<◌, ◌≤◌, ◌⊎◌, Bool, List, ◌++◌, length, get_or, ℤ, nat_abs, ◌^◌}
+-- How the parts of the decoder stop at a word that can't be read: a run, a sample, a row, a plane and the planes of a tile.
+use Rattle.std.specs.Prelude.{◌≡◌, ℕ, ◌+◌, ◌/◌, ◌%◌, ◌<◌, ◌≤◌, ◌⊎◌, Bool, List, ◌++◌, length, get_or, ℤ, nat_abs, ◌^◌}
 use Rattle.ffv1_range.specs.Setup.{SetupValue, set_entry}
 use Rattle.ffv1_range.specs.Tiles.{grid_of, plane_rect}
 use Rattle.ffv1_range.specs.declared.head.SliceHead.{SliceHead}
@@ -8,10 +8,11 @@ use Rattle.ffv1_rice.specs.Codes.{IsCodeFault}
 use Rattle.ffv1_rice.specs.Runs.{IsShortWord}
 use Rattle.ffv1_rice.specs.declared.code.CodeFault.{CodeFault}
 use Rattle.ffv1_plane.specs.Samples.{plane_of, neighbours_at, context_of, IsPlaneOfSize, Coding, coding_at}
-use Rattle.ffv1_plane.specs.Spelling.{Residuals, residuals_of, PlaneSpells, values_after}
-use Rattle.ffv1_plane.specs.Picture.{ArePlanesOf, IsPlaneIn, plane_set, shaped_plane, no_values}
+use Rattle.ffv1_plane.specs.Spelling.{Residuals, residuals_of}
+use Rattle.ffv1_plane.specs.Picture.{ArePlanesOf, IsPlaneIn, plane_set, plane_height, shaped_plane, no_values}
 use Rattle.ffv1_plane.specs.Progress.{AreStatesAfter}
-use Rattle.ffv1_plane.specs.Inner.Progress.{IsReadTo}
+use Rattle.ffv1_plane.specs.Inner.PlaneRows.{values_after_rows, RowsSpell, PlaneSpells}
+use Rattle.ffv1_plane.specs.Inner.Progress.{IsContinued, RowStart, IsReadTo}
 use Rattle.ffv1_plane.specs.Stuck.{SpellsFront, IsWordRefused, AreBitsStuck}
 use Rattle.ffv1_plane.specs.declared.plane.PlaneFault.{PlaneFault}
 use Rattle.ffv1_plane.specs.declared.plane.PlaneFault.TheVariants as plane_faults
@@ -45,50 +46,60 @@ abbrev pub IsSampleHalted : ℕ → Coding → Bool → List ℕ → List Contex
 IsSampleHalted width coding level samples states bits (plane_faults.Code fault sample) = IsCodeHalted width coding level samples states bits fault sample
 IsSampleHalted width coding level samples states bits plane_faults.Memory = Unit {0}
 
--- ---- a line and a plane
+-- ---- a row and a plane
 
--- After the words before it, no word of a sample can be read.
-pub record IsHalted (earlier : ℕ → List ℤ) (r : Residuals) (bits : List Bool) (fault : CodeFault) (sample : ℕ) : Type 0 where
+-- After the words before it, no word of a column can be read.
+pub record IsHalted (earlier : ℕ → List ℤ) (r : Residuals) (first : ℕ) (bits : List Bool) (fault : CodeFault) (x : ℕ) : Type 0 where
   pub part : List Bool
   pub others : List Bool
   pub begins : bits ≡ part ++ others
-  pub refused : IsWordRefused earlier r sample part others fault
+  pub refused : IsWordRefused earlier r first x part others fault
 
--- That sample is in the rest of the line, and all is said of every plane that begins with these samples.
-pub record IsLineHalted (earlier : ℕ → List ℤ) (width : ℕ) (coding : Coding) (old : List ℕ) (bits : List Bool) (fault : CodeFault) (sample : ℕ) : Type 0 where
+-- No word of a sample in the rest of the row can be read. All is said of every plane that begins with these samples,
+-- wherever the row began.
+pub record IsRowHalted (width : ℕ) (coding : Coding) (old : List ℕ) (x index : ℕ) (states : List ContextState) (left : List Bool) (fault : CodeFault)
+    (sample : ℕ) : Type 0 where
   pub samples : List ℕ
+  pub continued : IsContinued old samples
   pub small : (s : ℕ) → get_or samples s 0 < 2 ^ coding.depth
-  pub inside : sample < length samples
-  pub in_line : length samples ≤ length old + (width - length old % width)
-  pub halted : (more : List ℕ) → IsHalted earlier (residuals_of (plane_of width coding (samples ++ more))) bits fault sample
+  pub skipped : ℕ
+  pub place : sample ≡ length old + skipped
+  pub inside : x + skipped < width
+  pub fits : length samples + x ≤ length old + width
+  pub halted : (start : RowStart) (bits : List Bool) → IsReadTo start width coding bits old x index states left → (more : List ℕ)
+      → IsHalted start.earlier (residuals_of (plane_of width coding (samples ++ more)) start.row) start.first bits fault (x + skipped)
 
-abbrev pub IsNextHalted : ℕ → Coding → List ℕ → ℕ → List ContextState → List Bool → PlaneFault → Type 0
-IsNextHalted width coding old index states left (plane_faults.Code fault sample) =
-    (earlier : ℕ → List ℤ) (bits : List Bool) → ((s : ℕ) → get_or old s 0 < 2 ^ coding.depth) → IsReadTo earlier width coding bits old index states left
-    → IsLineHalted earlier width coding old bits fault sample
-IsNextHalted width coding old index states left plane_faults.Memory = Unit {0}
+abbrev pub IsNextHalted : ℕ → Coding → List ℕ → ℕ → ℕ → List ContextState → List Bool → PlaneFault → Type 0
+IsNextHalted width coding old x index states left (plane_faults.Code fault sample) =
+    ((s : ℕ) → get_or old s 0 < 2 ^ coding.depth) → IsRowHalted width coding old x index states left fault sample
+IsNextHalted width coding old x index states left plane_faults.Memory = Unit {0}
 
--- For some plane of this size no word of a sample can be read.
-pub record IsPlaneHalted (earlier : ℕ → List ℤ) (width height : ℕ) (coding : Coding) (bits : List Bool) (fault : CodeFault) (sample : ℕ) : Type 0 where
+-- For some plane of this size the rows above row y are read, and no word of its column x can be.
+pub record IsPlaneHalted (earlier : ℕ → List ℤ) (width height : ℕ) (coding : Coding) (bits : List Bool) (fault : CodeFault) (y x : ℕ) : Type 0 where
   pub samples : List ℕ
   pub size : IsPlaneOfSize coding.depth width height samples
-  pub inside : sample < width * height
-  pub halted : IsHalted earlier (residuals_of (plane_of width coding samples)) bits fault sample
+  pub row_there : y < height
+  pub column_there : x < width
+  pub above : List Bool
+  pub index : ℕ
+  pub spells : RowsSpell earlier (plane_of width coding samples) y above index
+  pub rest : List Bool
+  pub begins : bits ≡ above ++ rest
+  pub halted : IsHalted (values_after_rows earlier (plane_of width coding samples) y) (residuals_of (plane_of width coding samples) y) index rest fault x
 
 abbrev pub IsDecodingHalted : ℕ → ℕ → Coding → List ContextState → List Bool → PlaneFault → Type 0
 IsDecodingHalted width height coding states bits (plane_faults.Code fault sample) =
-    (earlier : ℕ → List ℤ) → AreStatesAfter coding.depth earlier states → IsPlaneHalted earlier width height coding bits fault sample
+    (earlier : ℕ → List ℤ) → AreStatesAfter coding.depth earlier states
+    → IsPlaneHalted earlier width height coding bits fault (sample / width) (sample % width)
 IsDecodingHalted width height coding states bits plane_faults.Memory = Unit {0}
 
 -- ---- the planes of a tile
 
--- The place of a sample of a plane of a tile, after earlier values.
-pub record IsTilePlaneHalted (setup : SetupValue) (head : SliceHead) (plane : ℕ) (earlier : ℕ → List ℤ) (bits : List Bool) (fault : CodeFault)
-    (y x : ℕ) : Type 0 where
-  pub row_there : y < (plane_rect (grid_of setup) head.tile plane).h
-  pub column_there : x < (plane_rect (grid_of setup) head.tile plane).w
-  pub halted : IsPlaneHalted earlier (plane_rect (grid_of setup) head.tile plane).w (plane_rect (grid_of setup) head.tile plane).h
-      (coding_at 8 (set_entry setup (plane_set head plane))) bits fault (y * (plane_rect (grid_of setup) head.tile plane).w + x)
+-- No word of a sample of a plane of a tile can be read, after earlier values.
+abbrev pub IsTilePlaneHalted : SetupValue → SliceHead → ℕ → (ℕ → List ℤ) → List Bool → CodeFault → ℕ → ℕ → Type 0
+IsTilePlaneHalted setup head plane earlier bits fault y x =
+    IsPlaneHalted earlier (plane_rect (grid_of setup) head.tile plane).w (plane_rect (grid_of setup) head.tile plane).h
+    (coding_at 8 (set_entry setup (plane_set head plane))) bits fault y x
 
 abbrev pub IsPlaneOfHalted : SetupValue → SliceHead → ℕ → List ContextState → List Bool → TileFault → Type 0
 IsPlaneOfHalted setup head plane states bits (Code fault level y x) = (level ≡ plane)
@@ -108,8 +119,8 @@ pub record IsCrHalted (setup : SetupValue) (head : SliceHead) (bits : List Bool)
   pub front : List Bool
   pub rest : List Bool
   pub begins : bits ≡ front ++ rest
-  pub spells : PlaneSpells no_values (shaped_plane setup head 1 cb) front
-  pub halted : IsTilePlaneHalted setup head 2 (values_after no_values (shaped_plane setup head 1 cb)) rest fault y x
+  pub spells : PlaneSpells no_values (shaped_plane setup head 1 cb) (plane_height setup head.tile 1) front
+  pub halted : IsTilePlaneHalted setup head 2 (values_after_rows no_values (shaped_plane setup head 1 cb) (plane_height setup head.tile 1)) rest fault y x
 
 abbrev pub IsChromaHalted : SetupValue → SliceHead → List Bool → TileFault → Type 0
 IsChromaHalted setup head bits (Code fault level y x) =

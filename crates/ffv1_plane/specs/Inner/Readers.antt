@@ -1,8 +1,8 @@
 -- How far a reader of a plane has come, and how it halts: the notions of Progress and Halts at a reader.
-use Rattle.std.specs.Prelude.{◌≡◌, ℕ, Bool, List, length, ℤ}
+use Rattle.std.specs.Prelude.{◌≡◌, Bool, List, length}
 use Rattle.ffv1_plane.specs.Samples.{Coding, coding_at}
 use Rattle.ffv1_range.specs.Setup.{set_contexts, set_entry}
-use Rattle.ffv1_plane.specs.Inner.Progress.{IsReadTo}
+use Rattle.ffv1_plane.specs.Inner.Progress.{RowStart, IsReadTo}
 use Rattle.ffv1_plane.specs.Inner.Halts.{IsNextHalted}
 use Rattle.ffv1_plane.specs.declared.plane.PlaneReader.{PlaneReader}
 use Rattle.ffv1_plane.specs.declared.plane.PlaneFault.{PlaneFault}
@@ -22,10 +22,12 @@ pub record IsSamePlane (old new : PlaneReader) : Type 0 where
   pub tables : new.tables.now ≡ old.tables.now
   pub states : length new.states.items ≡ length old.states.items
 
--- Its samples are read from bits, up to those that are left.
-abbrev pub HasRead : (ℕ → List ℤ) → List Bool → PlaneReader → Type 0
-HasRead earlier bits reader = IsReadTo earlier reader.lines.width (coding_of reader) bits reader.lines.samples reader.index reader.states.items reader.bits.left
+-- The samples of its row are read from bits, up to those that are left.
+abbrev pub HasRead : RowStart → List Bool → PlaneReader → Type 0
+HasRead start bits reader =
+    IsReadTo start reader.lines.width (coding_of reader) bits reader.lines.samples reader.lines.x reader.index reader.states.items reader.bits.left
 
 -- No word of the next samples of its row can be read.
 abbrev pub IsHaltedAt : PlaneReader → PlaneFault → Type 0
-IsHaltedAt reader fault = IsNextHalted reader.lines.width (coding_of reader) reader.lines.samples reader.index reader.states.items reader.bits.left fault
+IsHaltedAt reader fault =
+    IsNextHalted reader.lines.width (coding_of reader) reader.lines.samples reader.lines.x reader.index reader.states.items reader.bits.left fault

@@ -1,4 +1,4 @@
-use Rattle.std.proofs.Common.{◌≡◌, ◌/◌, ◌%◌, sym, ap, subst, ◌∙◌}
+use Rattle.std.proofs.Common.{◌≡◌, ◌/◌, ◌%◌, refl, sym, ap, subst, ◌∙◌}
 use Rattle.ffv1_range.specs.Setup.{set_entry}
 use Rattle.ffv1_range.specs.Tiles.{grid_of, plane_rect}
 use Rattle.ffv1_range.specs.declared.grid.TileRect.{TileRect}
@@ -9,8 +9,7 @@ use Rattle.ffv1_plane.specs.SetTables.{SetTables}
 use Rattle.ffv1_plane.specs.declared.plane.PlaneFault.{PlaneFault}
 use Rattle.ffv1_plane.specs.declared.plane.PlaneFault.TheVariants as plane_faults
 use Rattle.ffv1_plane.specs.declared.tile.TileFault.TheVariants.{Code}
-use Rattle.ffv1_plane.proofs.Pictures.{plane_within, plane_within_is}
-use Rattle.ffv1_plane.proofs.Stops.{tile_plane_stops}
+use Rattle.ffv1_plane.proofs.Pictures.{plane_within_is}
 use Rattle.ffv1_plane.proofs.tile.decode_samples_of.Goals as goal
 
 pub plane_rect-rect-requires : goal.plane_rect-rect-requires
@@ -56,7 +55,6 @@ returns-in-Err-Memory c = record { len = tt; size = tt; read = tt; err = tt }
 
 pub returns-in-Err-Code : goal.returns-in-Err-Code
 returns-in-Err-Code c =
-    let within = plane_within c.args.setup.now c.args.head.now.tile c.args.plane c.requires.profile c.requires.tile in
     let rect : c.plane_rect-rect.result ≡ plane_rect (grid_of c.args.setup.now) c.args.head.now.tile c.args.plane =
     c.plane_rect-rect.ensures ∙ ap (λ g. plane_rect g c.args.head.now.tile c.args.plane) c.grid.ensures in
     let R : TileRect → SetTables → PlaneFault → Type 0 = λ r t fault.
@@ -66,8 +64,6 @@ returns-in-Err-Code c =
     let there = subst (λ (t : SetTables). R (plane_rect (grid_of c.args.setup.now) c.args.head.now.tile c.args.plane) t
     (plane_faults.Code c.in-Err-Code.fault c.in-Err-Code.sample)) c.requires.tables
     (subst (λ (r : TileRect). R r c.args.tables.now (plane_faults.Code c.in-Err-Code.fault c.in-Err-Code.sample)) rect given) in
-    let all = tile_plane_stops c.args.setup.now c.args.head.now c.args.plane c.args.states.items c.args.bits.now.left c.in-Err-Code.fault
-    c.in-Err-Code.sample within.some_columns there in
     let S : TileRect → Type 0 = λ r. IsPlaneOfHalted c.args.setup.now c.args.head.now c.args.plane c.args.states.items c.args.bits.now.left
     (Code c.in-Err-Code.fault c.args.plane (c.in-Err-Code.sample / r.w) (c.in-Err-Code.sample % r.w)) in
-    record { len = tt; size = tt; read = tt; err = subst S (sym rect) all }
+    record { len = tt; size = tt; read = tt; err = subst S (sym rect) (refl, there) }

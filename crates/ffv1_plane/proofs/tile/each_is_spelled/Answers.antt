@@ -1,5 +1,3 @@
-use Rattle.std.proofs.Common.{ℕ, subst, sym}
-use Rattle.ffv1_plane.specs.Picture.{ArePlanesOf}
 use Rattle.ffv1_plane.proofs.Fronts.{each_is_spelled, stuck_on}
 use Rattle.ffv1_plane.proofs.tile.each_is_spelled.Goals as goal
 
@@ -8,7 +6,7 @@ returns-clause-spelled c = λ setup head planes sizes. each_is_spelled setup hea
 
 pub returns-clause-fronts : goal.returns-clause-fronts
 returns-clause-fronts c = λ setup tile content head place planes fault plane y x front profile inside is_head of_tile sizes stuck.
-    let all = stuck_on setup head planes _ fault plane y x front (subst (λ (t : ℕ). ArePlanesOf setup t planes) (sym of_tile) sizes) stuck in
+    let all = stuck_on setup head planes _ fault plane y x front stuck in
     record {
       head = head;
       place = place;
