@@ -21,6 +21,8 @@ mod plane;
 #[cfg(test)]
 mod range;
 #[cfg(test)]
+mod range_planes;
+#[cfg(test)]
 mod recorded;
 #[cfg(test)]
 mod recordings;

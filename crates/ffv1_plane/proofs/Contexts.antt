@@ -4,12 +4,12 @@ use mir.Val.{SFits, to_z, of_z}
 use Rattle.std.proofs.lemmas.Int.{ints}
 use Rattle.std.proofs.lemmas.Bool.{cases_lt}
 use Rattle.ffv1_range.specs.Tables.{SetValue, HasContexts, HaveContexts}
-use Rattle.ffv1_range.specs.Setup.{SetupValue, IsInProfile, no_set, set_entry, set_contexts}
+use Rattle.ffv1_range.specs.Setup.{SetupValue, no_set, set_entry, set_contexts}
 use Rattle.ffv1_plane.specs.Samples.{SamplesAbout, context_of, modular_difference}
 
-has_contexts : (setup : SetupValue) (set : ℕ) → IsInProfile setup → set < length setup.sets → HasContexts (slice_index_or setup.sets set no_set)
+has_contexts : (setup : SetupValue) (set : ℕ) → HaveContexts setup.sets → set < length setup.sets → HasContexts (slice_index_or setup.sets set no_set)
 unfolding HaveContexts
-has_contexts setup set h less = h.contexts set no_set less
+has_contexts setup set h less = h set no_set less
 
 low_of : (z : ℤ) (m n : ℕ) → nat_abs z ≤ m → m ≤ n → neg_ℤ (pos n) ≤ℤ z
 low_of (pos k) m n h l = omega (arith, ints)
@@ -27,13 +27,13 @@ greatest_low set h (suc (suc (suc zero))) l = omega (arith, h.enough, h.few)
 greatest_low set h (suc (suc (suc (suc zero)))) l = omega (arith, h.enough, h.few)
 greatest_low set h (suc (suc (suc (suc (suc n))))) l = absurd (omega arith)
 
-pub entry_low : (setup : SetupValue) (set table i : ℕ) → IsInProfile setup → set < length setup.sets → table < 5
+pub entry_low : (setup : SetupValue) (set table i : ℕ) → HaveContexts setup.sets → set < length setup.sets → table < 5
     → neg_ℤ (pos 32767) ≤ℤ set_entry setup set table i
 entry_low setup set table i h less few =
     let c = has_contexts setup set h less in
     low_of (set_entry setup set table i) (c.greatest table) 32767 (c.within table i) (greatest_low _ c table few)
 
-pub entry_high : (setup : SetupValue) (set table i : ℕ) → IsInProfile setup → set < length setup.sets → table < 5 → set_entry setup set table i ≤ℤ pos 32767
+pub entry_high : (setup : SetupValue) (set table i : ℕ) → HaveContexts setup.sets → set < length setup.sets → table < 5 → set_entry setup set table i ≤ℤ pos 32767
 entry_high setup set table i h less few =
     let c = has_contexts setup set h less in
     high_of (set_entry setup set table i) (c.greatest table) 32767 (c.within table i) (greatest_low _ c table few)
@@ -56,7 +56,7 @@ sum_of_five a b c d e i j k l m p q r s t =
     sum_of_two (a +ℤ b +ℤ c +ℤ d) e (i + j + k + l) m (sum_of_two (a +ℤ b +ℤ c) d (i + j + k) l
     (sum_of_two (a +ℤ b) c (i + j) k (sum_of_two a b i j p q) r) s) t
 
-pub context_fits : (setup : SetupValue) (set : ℕ) (n : SamplesAbout) → IsInProfile setup → set < length setup.sets
+pub context_fits : (setup : SetupValue) (set : ℕ) (n : SamplesAbout) → HaveContexts setup.sets → set < length setup.sets
     → nat_abs (context_of (set_entry setup set) n) < set_contexts setup set
 unfolding context_of
 context_fits setup set n h less =

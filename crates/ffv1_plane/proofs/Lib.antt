@@ -12,11 +12,16 @@ pub mod OneStuck
 pub mod Medians
 pub mod Pictures
 pub mod Prefixes
+pub mod RangeRows
+pub mod LineRuns
+pub mod RangeSlices
+pub mod PlaneRows
 pub mod Readers
 pub mod Reading
 pub mod Refused
 pub mod Rows
 pub mod Runs
+pub mod SignedMedians
 pub mod Steps
 pub mod Stops
 pub mod Totals

@@ -4,8 +4,7 @@ use Rattle.std.specs.Prelude.{◌==◌, if◌then◌else◌}
 use Rattle.ffv1_rice.specs.Runs.{whole_length, run_exponent, line_end, whole}
 use Rattle.ffv1_plane.specs.Samples.{sample_inside, sample_at, neighbours_at, prediction_of, context_of, difference_of, plane_of, context_at, difference_at, coding_at}
 use Rattle.ffv1_plane.specs.Spelling.{Residuals, residuals_of, is_in_run, follows_skipped, skipped_among, run_length, columns_before, values_after, SamplesSpell, RowSpells}
-use Rattle.ffv1_plane.specs.Lines.{Line, line_at, lines_of_plane, plane_after_plane, CodedPlanes, first_index, values_after_line, LinesSpell}
-use Rattle.ffv1_plane.specs.Inner.RowOrder.{lines_of_row, row_after_row}
+use Rattle.ffv1_plane.specs.Lines.{Line, line_at, lines_of_plane, plane_after_plane, CodedPlanes, first_index, values_after_line, LinesSpell, lines_of_row, row_after_row}
 
 -- a first table of runs 1 and 127, and four of one run
 abbrev two_contexts : ℕ → ℕ → ℤ

@@ -2,8 +2,10 @@
 pub mod Groups
 pub mod Halts
 pub mod PlaneRows
+pub mod RangeRows
+pub mod RangeLines
+pub mod Planes
 pub mod Readers
-pub mod RowOrder
 pub mod Rows
 pub mod Sums
 pub mod Progress

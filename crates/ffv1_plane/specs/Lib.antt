@@ -7,4 +7,8 @@ pub mod Picture
 pub mod Views
 pub mod Stuck
 pub mod StuckLaws
+pub mod RangeRows
+pub mod RangeLines
+pub mod RangeSlices
+pub mod RangeReading
 pub mod Inner

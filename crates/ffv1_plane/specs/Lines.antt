@@ -24,6 +24,16 @@ unfoldable pub plane_after_plane : (ℕ → ℕ) → ℕ → List Line
 plane_after_plane height zero = []
 plane_after_plane height (suc count) = plane_after_plane height count ++ lines_of_plane count (height count)
 
+-- one row of each of the first count planes
+unfoldable pub lines_of_row : ℕ → ℕ → List Line
+lines_of_row row zero = []
+lines_of_row row (suc count) = lines_of_row row count ++ line_at count row ∷ []
+
+-- the first height rows of as many planes, each row in all planes before the next
+unfoldable pub row_after_row : ℕ → ℕ → List Line
+row_after_row count zero = []
+row_after_row count (suc height) = row_after_row count height ++ lines_of_row height count
+
 -- ---- the bits of lines
 
 -- Planes that are coded together. Those of one group share adaptive states. The run index starts anew at some lines, and

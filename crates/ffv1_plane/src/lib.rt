@@ -4,11 +4,15 @@
 mod lines;
 mod neighbours;
 mod plane;
+mod planes;
+mod range_rows;
 mod run;
 mod tables;
 mod tile;
 
 pub use neighbours::Neighbours;
+pub use planes::{LinesFault, PlaneSize, RangeLines, read_range_planes};
+pub use range_rows::DifferenceFault;
 pub use tables::Tables;
 pub use tile::{
     TileFault, TilePicture, decode_tile, each_is_spelled, one_fault, one_reading, start_states,

@@ -4,13 +4,13 @@ ghost use Rattle.ffv1_range.specs.Setup.{set_contexts, set_entry};
 ghost use Rattle.ffv1_plane.specs.Samples.{context_of, modular_difference};
 
 use crate::neighbours::Neighbours;
-use ffv1_range::Setup;
+use ffv1_range::Recording;
 use std::marker::Model;
 
-/// The tables of one set of a setup. Each has an entry for each difference of two samples modulo 256.
+/// The tables of one set of a recording. Each has an entry for each difference of two samples modulo 256.
 #[derive(Drop)]
 pub struct Tables<'s> {
-    setup: &'s Setup,
+    recording: &'s Recording,
     set: usize,
     entries: [[i16; 256]; 5],
     /// Whether all entries of the tables 3 and 4 are 0.
@@ -22,25 +22,25 @@ impl<'s> Model for Tables<'s> {
 
     ghost Value = { SetTables };
 
-    ghost view = { λ t. record { setup = t.setup.now; set = t.set } };
+    ghost view = { λ t. record { setup = t.recording.now.setup; set = t.set } };
 
-    ghost invariant = { λ t. AreSetTables t.setup.now t.set t.entries t.is_near };
+    ghost invariant = { λ t. AreSetTables t.recording.now.setup t.set t.entries t.is_near };
 }
 
 impl<'s> Tables<'s> {
     /// The tables of a set.
-    pub fn of(setup: &'s Setup, set: usize) -> Tables<'s>
-        requires { set < length setup.now.sets }
-        ensures { result ≡ record { setup = setup.now; set = set } }
+    pub fn of(recording: &'s Recording, set: usize) -> Tables<'s>
+        requires { set < length recording.now.setup.sets }
+        ensures { result ≡ record { setup = recording.now.setup; set = set } }
     {
-        setup.keeps_profile();
+        recording.keeps_version_3();
         let mut entries = [[0; 256]; 5];
         for table in 0..5usize {
-            entries[table] = table_of(setup, set, table);
+            entries[table] = table_of(recording, set, table);
         }
         let is_near = is_zero(&entries[3]) && is_zero(&entries[4]);
         Tables {
-            setup,
+            recording,
             set,
             entries,
             is_near,
@@ -99,15 +99,15 @@ impl<'s> Tables<'s> {
 }
 
 /// All entries of one table. They fit 16 bits.
-fn table_of(setup: &Setup, set: usize, table: usize) -> [i16; 256]
-    requires set { set < length setup.now.sets }
+fn table_of(recording: &Recording, set: usize, table: usize) -> [i16; 256]
+    requires set { set < length recording.now.setup.sets }
     requires table { table < 5 }
-    ensures { (k : ℕ) → k < 256 → slice_index_or result k (pos 0) ≡ set_entry setup.now set table k }
+    ensures { (k : ℕ) → k < 256 → slice_index_or result k (pos 0) ≡ set_entry recording.now.setup set table k }
 {
-    setup.keeps_profile();
+    recording.keeps_version_3();
     let mut entries = [0; 256];
     for index in 0..256usize {
-        entries[index] = setup.entry(set, table, index) as i16;
+        entries[index] = recording.entry(set, table, index) as i16;
     }
     entries
 }

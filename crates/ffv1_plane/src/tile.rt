@@ -176,7 +176,7 @@ fn decode_luma(
     ensures ok { IfOk result (λ samples. IsLumaRead setup.now head.now bits.old.left samples.items bits.new.left) }
     ensures err { IfErr result (IsLumaHalted setup.now head.now bits.old.left) }
 {
-    let tables = Tables::of(setup, head.table_y);
+    let tables = Tables::of(setup.recording(), head.table_y);
     let states = start_states(alloc, setup, head.table_y)?;
     let (samples, _) = decode_plane_of(alloc, setup, head, 0, &tables, states, bits)?;
     Ok(samples)
@@ -197,7 +197,7 @@ fn decode_chroma(
     ensures ok { IfOk result (λ planes. IsChromaRead setup.now head.now bits.old.left planes.0.items planes.1.items bits.new.left) }
     ensures err { IfErr result (IsChromaHalted setup.now head.now bits.old.left) }
 {
-    let tables = Tables::of(setup, head.table_c);
+    let tables = Tables::of(setup.recording(), head.table_c);
     let states = start_states(alloc, setup, head.table_c)?;
     let (cb, states) = decode_plane_of(alloc, setup, head, 1, &tables, states, bits)?;
     let (cr, _) = decode_plane_of(alloc, setup, head, 2, &tables, states, bits)?;

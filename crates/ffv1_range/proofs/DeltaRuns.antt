@@ -1,5 +1,5 @@
 -- Deltas are read where they are coded, and nowhere else.
-use Rattle.std.proofs.Common.{◌≡◌, ◌≢◌, ℕ, suc, zero, ◌+◌, ◌<◌, Bool, true, false, List, [], ◌∷◌, ◌++◌, length, map, set, append-nil, append_assoc, Result, Ok, Option, Some, None, refl, sym, ap, ◌∙◌, subst, arith, get_or-set_same, get_or-set_other, inl, inr}
+use Rattle.std.proofs.Common.{lit≤, ◌≡◌, ◌≢◌, ℕ, suc, zero, ◌+◌, ◌<◌, Bool, true, false, List, [], ◌∷◌, ◌++◌, length, map, set, append-nil, append_assoc, Result, Ok, Option, Some, None, refl, sym, ap, ◌∙◌, subst, arith, get_or-set_same, get_or-set_other, inl, inr}
 use Rattle.std.proofs.lemmas.Bool.{cases_eq}
 use Rattle.std.specs.Prelude.{ℤ, slice_index_or, unsigned_abs, if◌then◌else◌}
 use Rattle.std.specs.List.{All, flat_map}
@@ -87,7 +87,7 @@ delta-found : (mode : Mode) (k : ℕ) (c : Coder) (deltas : List (List ℕ)) (y 
 delta-found mode k c deltas y h g =
     let row : List ℕ = slice_index_or deltas k [] in
     let x = bind_is_ok (lifted Range signed_symbol_form mode (place_of c row)) (λ x. Ok (x.0, place_of x.1.coder (set deltas k x.1.states))) y g in
-    let spelled = (signed_symbol_is_spelled mode (place_of c row) x.0.1 x.0.0).0 (lifted_ok Range (signed_symbol_form mode (place_of c row)) x.0 x.1) in
+    let spelled = (signed_symbol_is_spelled 32 (lit≤ tt) mode (place_of c row) x.0.1 x.0.0).0 (lifted_ok Range (signed_symbol_form mode (place_of c row)) x.0 x.1) in
     let pair = same_ok (x.0.0, place_of x.0.1.coder (set deltas k x.0.1.states)) y x.2 in
     subst (λ z. DeltaAt mode k c deltas z) pair
     (record {
@@ -105,7 +105,7 @@ delta-run : (mode : Mode) (k : ℕ) (delta : ℤ) (c : Coder) (deltas : List (Li
 delta-run mode k delta c deltas q small run =
     let row : List ℕ = slice_index_or deltas k [] in
     bind_ok (lifted Range signed_symbol_form mode (place_of c row)) (λ x. Ok (x.0, place_of x.1.coder (set deltas k x.1.states))) (delta, q)
-    (ap (lifted_result Range) ((signed_symbol_is_spelled mode (place_of c row) q delta).1 (small, run)))
+    (ap (lifted_result Range) ((signed_symbol_is_spelled 32 (lit≤ tt) mode (place_of c row) q delta).1 (small, run)))
 
 -- ---- the deltas of a context
 

@@ -1,5 +1,5 @@
 -- Fields that are read one by one, each judged as soon as it was read, are read where they are coded, and nowhere else.
-use Rattle.std.proofs.Common.{◌≡◌, ℕ, zero, suc, ◌++◌, length, map, append-nil, append_assoc, sym, subst, arith, ◌+◌, ◌*◌, Bool, true, false, List, [], ◌∷◌, Result, Ok, Err, refl, ap, ◌∙◌}
+use Rattle.std.proofs.Common.{lit≤, ◌≡◌, ℕ, zero, suc, ◌++◌, length, map, append-nil, append_assoc, sym, subst, arith, ◌+◌, ◌*◌, Bool, true, false, List, [], ◌∷◌, Result, Ok, Err, refl, ap, ◌∙◌}
 use Rattle.std.proofs.Math.Path.{fun_ext}
 use Rattle.std.specs.Prelude.{nat_le, ◌==◌, ◌&&◌, if◌then◌else◌}
 use Rattle.ffv1_bits.specs.Limits.{most_tiles}
@@ -65,7 +65,7 @@ deltas-found mode zero done p y h =
     ([], refl, All-nil (λ delta. IsSymbol (unsigned_abs delta)), sym (ap (λ z. z.0) pair) ∙ sym (append-nil done), ap (λ z. z.1) pair)
 deltas-found mode (suc n) done p y h =
     let x = bind_is_ok (lifted Range signed_symbol_form mode p) (λ x. deltas_onto n (done ++ delta_byte x.0 ∷ []) mode x.1) y h in
-    let s = (signed_symbol_is_spelled mode p x.0.1 x.0.0).0 (lifted_ok Range (signed_symbol_form mode p) x.0 x.1) in
+    let s = (signed_symbol_is_spelled 32 (lit≤ tt) mode p x.0.1 x.0.0).0 (lifted_ok Range (signed_symbol_form mode p) x.0 x.1) in
     let r = deltas-found mode n (done ++ delta_byte x.0.0 ∷ []) x.0.1 y x.2 in (
       x.0.0 ∷ r.0,
       ap suc r.1,
@@ -85,7 +85,7 @@ deltas-run mode (suc n) done (delta ∷ deltas) p q size small run =
     let s = run_split mode (signed_symbol_bits delta) (fields_bits (map signed deltas)) p q run in
     let first = All-head (λ delta. IsSymbol (unsigned_abs delta)) delta deltas small in
     bind_ok (lifted Range signed_symbol_form mode p) (λ x. deltas_onto n (done ++ delta_byte x.0 ∷ []) mode x.1) (delta, s.0)
-    (ap (lifted_result Range) ((signed_symbol_is_spelled mode p s.0 delta).1 (first, s.1)))
+    (ap (lifted_result Range) ((signed_symbol_is_spelled 32 (lit≤ tt) mode p s.0 delta).1 (first, s.1)))
     ∙ deltas-run mode n (done ++ delta_byte delta ∷ []) deltas s.0 q (omega arith) (All-tail (λ delta. IsSymbol (unsigned_abs delta)) delta deltas small) s.2
     ∙ ap (λ z. Ok (z, q)) (append_assoc done (delta_byte delta ∷ []) (map delta_byte deltas))
 

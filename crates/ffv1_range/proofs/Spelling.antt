@@ -1,5 +1,5 @@
 -- A symbol is read where its bits are coded, and nowhere else.
-use Rattle.std.proofs.Common.{◌≡◌, ℕ, suc, zero, ◌+◌, ◌*◌, ◌/◌, ◌%◌, ◌^◌, ◌<◌, ◌≤◌, Bool, true, false, cond, eqb, List, ◌∷◌, ◌++◌, Result, Ok, Err, refl, sym, ap, ◌∙◌, subst, arith, min, add-one, inl, inr, lit≤, lit<, []}
+use Rattle.std.proofs.Common.{◌≡◌, ℕ, suc, zero, ◌+◌, ◌*◌, ◌/◌, ◌%◌, ◌^◌, ◌<◌, ◌≤◌, Bool, true, false, cond, eqb, List, ◌∷◌, ◌++◌, Result, Ok, Err, refl, sym, ap, ◌∙◌, subst, arith, min, add-one, inl, inr, lit≤, []}
 use Rattle.std.proofs.Math.Nat.{pow-suc, pow-le-pow_right}
 use Rattle.std.proofs.lemmas.Nat.{pow_pos, shr-shr, leading_top, le-div, div_below, div-add-mod', mod_below}
 use Rattle.std.proofs.lemmas.Bool.{cond_both, eqb-true, eqb-false, eq-eqb, ne_eqb, cases_order}
@@ -8,7 +8,7 @@ use Rattle.ffv1_range.specs.Results.{◌>>>◌}
 use Rattle.ffv1_range.specs.Coding.{Mode, Place, slot_at, IsRangeRun}
 use Rattle.ffv1_range.specs.Symbols.{symbol_bits, signed_symbol_bits, counting_ones, low_slots, exponent_of}
 use Rattle.ffv1_range.specs.Forms.{Form, ◌>>=◌, giving}
-use Rattle.ffv1_range.specs.Reading.{exponent_form, low_form, symbol_form, signed_symbol_form, SymbolIsSpelled, SignedSymbolIsSpelled}
+use Rattle.ffv1_range.specs.Reading.{exponent_form, low_form, symbol_form, signed_form_within, SymbolIsSpelled, SignedSymbolIsSpelled}
 use Rattle.ffv1_range.specs.declared.coding.RangeFault.{RangeFault}
 use Rattle.std.specs.Prelude.{ℤ, pos, negsuc, unsigned_abs}
 use Rattle.ffv1_range.proofs.Forms.{bind_ok}
@@ -55,30 +55,46 @@ ones_run mode (suc n) (suc k) e t rest p q l s h =
       r.2,
     )
 
-exponent_is : (a : ℕ) → 0 < a → a < 2 ^ 32 → (exponent_of a < 32) × (a / 2 ^ exponent_of a ≡ 1)
-exponent_is a h k =
-    let top = leading_top 32 a h k in
+power_below : (j e : ℕ) → j < e → 2 ^ suc j ≤ 2 ^ e
+power_below j e h = pow-le-pow_right (lit≤ tt) h
+
+-- 2 ^ n at most 2 ^ 32
+power_fits : (n : ℕ) → n ≤ 32 → 2 ^ n ≤ 2 ^ 32
+power_fits n h = pow-le-pow_right (lit≤ tt) h
+
+exponent_is : (n a : ℕ) → n ≤ 32 → 0 < a → a < 2 ^ n → (exponent_of a < n) × (a / 2 ^ exponent_of a ≡ 1)
+exponent_is n a few h k =
+    let top = leading_top 32 a h (omega (arith, k, power_fits n few)) in
+    let less : top.0 < n =
+    elim (cases_order top.0 n) [
+      | inl same ↦ absurd (omega (arith, top.2, k, ap (λ z. 2 ^ z) same))
+      | inr apart ↦ elim apart [
+        | inl less ↦ less
+        | inr more ↦ absurd (omega (arith, top.2, k, power_below n top.0 more, pow-suc 2 n))
+      ]
+    ] in
     let e : exponent_of a ≡ top.0 = omega (arith, top.1) in
     let one : 1 ≤ a / 2 ^ top.0 = le-div 1 a (2 ^ top.0) (pow_pos top.0) (omega (arith, top.2)) in
     let two : a / 2 ^ top.0 < 2 = div_below a (2 ^ top.0) 2 (pow_pos top.0) (omega (arith, top.3, pow-suc 2 top.0)) in
-    (omega arith, ap (λ z. a / 2 ^ z) e ∙ omega arith)
+    (omega (arith, e, less), ap (λ z. a / 2 ^ z) e ∙ omega arith)
 
 large_form : Form (List ℕ) ℕ RangeFault
 large_form = exponent_form 32 0 >>= λ e. low_form e 1
 
 -- Where the bits of a symbol other than 0 are coded, its exponent and its magnitude are read.
-pub record IsLargeAt (mode : Mode) (a : ℕ) (p q : Place) : Type 0 where
+pub record IsLargeAt (mode : Mode) (n a : ℕ) (p q : Place) : Type 0 where
   pub first : Place
   pub not_zero : slot_at mode p 0 ≡ Ok (false, first)
   pub counted : Place
-  pub exponent : exponent_form 32 0 mode first ≡ Ok (exponent_of a, counted)
+  pub exponent : exponent_form n 0 mode first ≡ Ok (exponent_of a, counted)
   pub magnitude : low_form (exponent_of a) 1 mode counted ≡ Ok (a, q)
 
-large_run : (mode : Mode) (n : ℕ) (p q : Place) → suc n < 2 ^ 32 → IsRangeRun mode p (symbol_bits (suc n)) q → IsLargeAt mode (suc n) p q
+large_run : (mode : Mode) (k n : ℕ) (p q : Place) → k ≤ 32 → suc n < 2 ^ k → IsRangeRun mode p (symbol_bits (suc n)) q
+    → IsLargeAt mode k (suc n) p q
 unfolding IsRangeRun symbol_bits
-large_run mode n p q l h =
-    let e = exponent_is (suc n) (omega arith) l in
-    let r = ones_run mode (exponent_of (suc n)) 32 0 (exponent_of (suc n)) (low_slots (exponent_of (suc n)) (suc n)) h.0 q e.0 (omega arith) h.2 in
+large_run mode k n p q few l h =
+    let e = exponent_is k (suc n) few (omega arith) l in
+    let r = ones_run mode (exponent_of (suc n)) k 0 (exponent_of (suc n)) (low_slots (exponent_of (suc n)) (suc n)) h.0 q e.0 (omega arith) h.2 in
     record {
       first = h.0;
       not_zero = h.1;
@@ -94,7 +110,7 @@ symbol_run mode zero p q l h =
     bind_ok (slot_at mode p 0) (λ x. cond x.0 (giving 0) large_form mode x.1) (true, h.0) h.1
     ∙ ap (λ z. Ok (0, z)) h.2
 symbol_run mode (suc a) p q l h =
-    let r = large_run mode a p q l h in
+    let r = large_run mode 32 a p q (lit≤ tt) l h in
     bind_ok (slot_at mode p 0) (λ x. cond x.0 (giving 0) large_form mode x.1) (false, r.first) r.not_zero
     ∙ bind_ok (exponent_form 32 0 mode r.first) (λ e. low_form e.0 1 mode e.1) (exponent_of (suc a), r.counted) r.exponent
     ∙ r.magnitude
@@ -112,29 +128,29 @@ run_split mode [] ys p q h = (p, refl, h)
 run_split mode (x ∷ xs) ys p q h = let r = run_split mode xs ys h.0 q h.2 in (r.0, (h.0, h.1, r.1), r.2)
 
 -- a magnitude and its sign
-signed_large_run : (mode : Mode) (n : ℕ) (is_negative : Bool) (p q : Place) → suc n < 2 ^ 32
+signed_large_run : (mode : Mode) (k n : ℕ) (is_negative : Bool) (p q : Place) → k ≤ 32 → suc n < 2 ^ k
     → IsRangeRun mode p (symbol_bits (suc n) ++ (11 + min (exponent_of (suc n)) 10, is_negative) ∷ []) q
-    → signed_symbol_form mode p ≡ sign_rest (suc n) is_negative mode q
-unfolding IsRangeRun signed_symbol_form signed_rest signed_exponent_rest magnitude_rest sign_rest
-signed_large_run mode n is_negative p q l h =
+    → signed_form_within k mode p ≡ sign_rest (suc n) is_negative mode q
+unfolding IsRangeRun signed_form_within signed_rest signed_exponent_rest magnitude_rest sign_rest
+signed_large_run mode k n is_negative p q few l h =
     let s = run_split mode (symbol_bits (suc n)) ((11 + min (exponent_of (suc n)) 10, is_negative) ∷ []) p q h in
-    let r = large_run mode n p s.0 l s.1 in
+    let r = large_run mode k n p s.0 few l s.1 in
     let sign : (m : Place) × (slot_at mode s.0 (11 + min (exponent_of (suc n)) 10) ≡ Ok (is_negative, m)) × (m ≡ q) = s.2 in
-    bind_ok (slot_at mode p 0) (λ x. signed_rest x.0 mode x.1) (false, r.first) r.not_zero
-    ∙ bind_ok (exponent_form 32 0 mode r.first) (λ x. signed_exponent_rest x.0 mode x.1) (exponent_of (suc n), r.counted) r.exponent
+    bind_ok (slot_at mode p 0) (λ x. signed_rest k x.0 mode x.1) (false, r.first) r.not_zero
+    ∙ bind_ok (exponent_form k 0 mode r.first) (λ x. signed_exponent_rest x.0 mode x.1) (exponent_of (suc n), r.counted) r.exponent
     ∙ bind_ok (low_form (exponent_of (suc n)) 1 mode r.counted) (λ x. magnitude_rest (exponent_of (suc n)) x.0 mode x.1) (suc n, s.0) r.magnitude
     ∙ bind_ok (slot_at mode s.0 (11 + min (exponent_of (suc n)) 10)) (λ x. sign_rest (suc n) x.0 mode x.1) (is_negative, sign.0) sign.1
     ∙ ap (λ z. sign_rest (suc n) is_negative mode z) sign.2
 
 -- Where a signed symbol's bits are coded, it is read.
-signed_run : (mode : Mode) (z : ℤ) (p q : Place) → unsigned_abs z < 2 ^ 32 → IsRangeRun mode p (signed_symbol_bits z) q
-    → signed_symbol_form mode p ≡ Ok (z, q)
-unfolding IsRangeRun symbol_bits signed_symbol_bits signed_symbol_form sign_rest signed_rest signed_exponent_rest magnitude_rest
-signed_run mode (pos zero) p q l h =
-    bind_ok (slot_at mode p 0) (λ x. signed_rest x.0 mode x.1) (true, h.0) h.1
+signed_run : (mode : Mode) (k : ℕ) (z : ℤ) (p q : Place) → k ≤ 32 → unsigned_abs z < 2 ^ k → IsRangeRun mode p (signed_symbol_bits z) q
+    → signed_form_within k mode p ≡ Ok (z, q)
+unfolding IsRangeRun symbol_bits signed_symbol_bits signed_form_within sign_rest signed_rest signed_exponent_rest magnitude_rest
+signed_run mode k (pos zero) p q few l h =
+    bind_ok (slot_at mode p 0) (λ x. signed_rest k x.0 mode x.1) (true, h.0) h.1
     ∙ ap (λ z. Ok (pos 0, z)) h.2
-signed_run mode (pos (suc n)) p q l h = signed_large_run mode n false p q l h
-signed_run mode (negsuc n) p q l h = signed_large_run mode n true p q l h
+signed_run mode k (pos (suc n)) p q few l h = signed_large_run mode k n false p q few l h
+signed_run mode k (negsuc n) p q few l h = signed_large_run mode k n true p q few l h
 
 -- ---- and where it is read, its bits are coded
 
@@ -205,14 +221,11 @@ spans a e one =
     let small : a % 2 ^ e < 2 ^ e = mod_below a (2 ^ e) (pow_pos e) in
     (omega arith, omega (arith, pow-suc 2 e))
 
-power_below : (j e : ℕ) → j < e → 2 ^ suc j ≤ 2 ^ e
-power_below j e h = pow-le-pow_right (lit≤ tt) h
-
-same_exponent : (a e : ℕ) → e < 32 → a / 2 ^ e ≡ 1 → (a < 2 ^ 32) × (exponent_of a ≡ e)
-same_exponent a e h one =
+same_exponent : (n a e : ℕ) → n ≤ 32 → e < n → a / 2 ^ e ≡ 1 → (a < 2 ^ n) × (exponent_of a ≡ e)
+same_exponent n a e few h one =
     let s = spans a e one in
-    let small : a < 2 ^ 32 = omega (arith, s.1, power_below e 32 h) in
-    let top = leading_top 32 a (omega (arith, s.0, pow_pos e)) small in
+    let small : a < 2 ^ n = omega (arith, s.1, power_below e n h) in
+    let top = leading_top 32 a (omega (arith, s.0, pow_pos e)) (omega (arith, small, power_fits n few)) in
     let same : top.0 ≡ e =
     elim (cases_order top.0 e) [
       | inl same ↦ same
@@ -223,13 +236,13 @@ same_exponent a e h one =
     ] in
     (small, omega (arith, top.1))
 
-large_found : (mode : Mode) (a e n : ℕ) (p o q : Place) → slot_at mode p 0 ≡ Ok (false, o) → e < 32 → e ≡ n → a / 2 ^ e ≡ 1
+large_found : (mode : Mode) (k a e n : ℕ) (p o q : Place) → k ≤ 32 → slot_at mode p 0 ≡ Ok (false, o) → e < k → e ≡ n → a / 2 ^ e ≡ 1
     → IsRangeRun mode o (counting_ones n 0 ++ (1 + min e 9, false) ∷ low_slots e a) q
-    → (a < 2 ^ 32) × (0 < a) × (exponent_of a ≡ e) × IsRangeRun mode p (symbol_bits a) q
+    → (a < 2 ^ k) × (0 < a) × (exponent_of a ≡ e) × IsRangeRun mode p (symbol_bits a) q
 unfolding IsRangeRun symbol_bits
-large_found mode zero e n p o q s l same one run = absurd (omega (arith, (spans 0 e one).0, pow_pos e))
-large_found mode (suc a) e n p o q s l same one run =
-    let x = same_exponent (suc a) e l one in (
+large_found mode k zero e n p o q few s l same one run = absurd (omega (arith, (spans 0 e one).0, pow_pos e))
+large_found mode k (suc a) e n p o q few s l same one run =
+    let x = same_exponent k (suc a) e few l one in (
       x.0,
       omega arith,
       x.1,
@@ -241,13 +254,13 @@ large_found mode (suc a) e n p o q s l same one run =
       ),
     )
 
-large_read : (mode : Mode) (a e : ℕ) (p o m q : Place) → slot_at mode p 0 ≡ Ok (false, o) → exponent_form 32 0 mode o ≡ Ok (e, m)
+large_read : (mode : Mode) (k a e : ℕ) (p o m q : Place) → k ≤ 32 → slot_at mode p 0 ≡ Ok (false, o) → exponent_form k 0 mode o ≡ Ok (e, m)
     → low_form e 1 mode m ≡ Ok (a, q)
-    → (a < 2 ^ 32) × (0 < a) × (exponent_of a ≡ e) × IsRangeRun mode p (symbol_bits a) q
-large_read mode a e p o m q s f g =
-    let ones = ones_found mode 32 0 e o m f in
+    → (a < 2 ^ k) × (0 < a) × (exponent_of a ≡ e) × IsRangeRun mode p (symbol_bits a) q
+large_read mode k a e p o m q few s f g =
+    let ones = ones_found mode k 0 e o m f in
     let low = low_found mode e 1 a m q g in
-    large_found mode a e ones.0 p o q s (omega (arith, ones.1, ones.2)) (omega (arith, ones.1)) low.0 (ones.3 (low_slots e a) q low.1)
+    large_found mode k a e ones.0 p o q few s (omega (arith, ones.1, ones.2)) (omega (arith, ones.1)) low.0 (ones.3 (low_slots e a) q low.1)
 
 first_found : (mode : Mode) (a : ℕ) (p q : Place) (bit : Bool) (o : Place) → slot_at mode p 0 ≡ Ok (bit, o)
     → cond bit (giving 0) large_form mode o ≡ Ok (a, q) → (a < 2 ^ 32) × IsRangeRun mode p (symbol_bits a) q
@@ -258,7 +271,7 @@ first_found mode a p q true o s g =
     (omega arith, subst (λ z. IsRangeRun mode p (symbol_bits z) q) value (o, s, ap (λ z. z.1) pair))
 first_found mode a p q false o s g =
     let e = bind_is_ok (exponent_form 32 0 mode o) (λ e. low_form e.0 1 mode e.1) (a, q) g in
-    let r = large_read mode a e.0.0 p o e.0.1 q s e.1 e.2 in
+    let r = large_read mode 32 a e.0.0 p o e.0.1 q (lit≤ tt) s e.1 e.2 in
     (r.0, r.3)
 
 -- What is read as a symbol is coded there.
@@ -268,51 +281,52 @@ symbol_found mode a p q h =
     let x = bind_is_ok (slot_at mode p 0) (λ x. cond x.0 (giving 0) large_form mode x.1) (a, q) h in
     first_found mode a p q x.0.0 x.0.1 x.1 x.2
 
-abbrev IsSpelled : Mode → ℤ → Place → Place → Type 0
-IsSpelled mode z p q = (unsigned_abs z < 2 ^ 32) × IsRangeRun mode p (signed_symbol_bits z) q
+abbrev IsSpelled : Mode → ℕ → ℤ → Place → Place → Type 0
+IsSpelled mode k z p q = (unsigned_abs z < 2 ^ k) × IsRangeRun mode p (signed_symbol_bits z) q
 
-sign_found : (mode : Mode) (a e : ℕ) (is_negative : Bool) (p m o q : Place) (z : ℤ) → a < 2 ^ 32 → 0 < a → exponent_of a ≡ e
+sign_found : (mode : Mode) (k a e : ℕ) (is_negative : Bool) (p m o q : Place) (z : ℤ) → a < 2 ^ k → 0 < a → exponent_of a ≡ e
     → IsRangeRun mode p (symbol_bits a) m → slot_at mode m (11 + min e 10) ≡ Ok (is_negative, o) → sign_rest a is_negative mode o ≡ Ok (z, q)
-    → IsSpelled mode z p q
+    → IsSpelled mode k z p q
 unfolding IsRangeRun signed_symbol_bits sign_rest
-sign_found mode zero e is_negative p m o q z l positive x run s g = absurd (omega arith)
-sign_found mode (suc n) e false p m o q z l positive x run s g =
+sign_found mode k zero e is_negative p m o q z l positive x run s g = absurd (omega arith)
+sign_found mode k (suc n) e false p m o q z l positive x run s g =
     let pair : ◌≡◌ {A = ℤ × Place} (pos (suc n), o) (z, q) = same_ok (pos (suc n), o) (z, q) g in
-    subst (λ y. IsSpelled mode y p q) (ap (λ y. y.0) pair) (
+    subst (λ y. IsSpelled mode k y p q) (ap (λ y. y.0) pair) (
       l,
       run_append mode (symbol_bits (suc n)) ((11 + min (exponent_of (suc n)) 10, false) ∷ []) p m q run
           (o, subst (λ y. slot_at mode m (11 + min y 10) ≡ Ok (false, o)) (sym x) s, ap (λ y. y.1) pair),
     )
-sign_found mode (suc n) e true p m o q z l positive x run s g =
+sign_found mode k (suc n) e true p m o q z l positive x run s g =
     let pair : ◌≡◌ {A = ℤ × Place} (negsuc n, o) (z, q) = same_ok (negsuc n, o) (z, q) g in
-    subst (λ y. IsSpelled mode y p q) (ap (λ y. y.0) pair) (
+    subst (λ y. IsSpelled mode k y p q) (ap (λ y. y.0) pair) (
       l,
       run_append mode (symbol_bits (suc n)) ((11 + min (exponent_of (suc n)) 10, true) ∷ []) p m q run
           (o, subst (λ y. slot_at mode m (11 + min y 10) ≡ Ok (true, o)) (sym x) s, ap (λ y. y.1) pair),
     )
 
-signed_first_found : (mode : Mode) (z : ℤ) (p q : Place) (bit : Bool) (o : Place) → slot_at mode p 0 ≡ Ok (bit, o) → signed_rest bit mode o ≡ Ok (z, q)
-    → IsSpelled mode z p q
+signed_first_found : (mode : Mode) (k : ℕ) (z : ℤ) (p q : Place) (bit : Bool) (o : Place) → k ≤ 32 → slot_at mode p 0 ≡ Ok (bit, o)
+    → signed_rest k bit mode o ≡ Ok (z, q)
+    → IsSpelled mode k z p q
 unfolding IsRangeRun symbol_bits signed_symbol_bits signed_rest signed_exponent_rest magnitude_rest
-signed_first_found mode z p q true o s g =
+signed_first_found mode k z p q true o few s g =
     let pair : ◌≡◌ {A = ℤ × Place} (pos 0, o) (z, q) = same_ok (pos 0, o) (z, q) g in
-    subst (λ y. IsSpelled mode y p q) (ap (λ y. y.0) pair) (lit< tt, (o, s, ap (λ y. y.1) pair))
-signed_first_found mode z p q false o s g =
-    let e = bind_is_ok (exponent_form 32 0 mode o) (λ x. signed_exponent_rest x.0 mode x.1) (z, q) g in
+    subst (λ y. IsSpelled mode k y p q) (ap (λ y. y.0) pair) (pow_pos k, (o, s, ap (λ y. y.1) pair))
+signed_first_found mode k z p q false o few s g =
+    let e = bind_is_ok (exponent_form k 0 mode o) (λ x. signed_exponent_rest x.0 mode x.1) (z, q) g in
     let a = bind_is_ok (low_form e.0.0 1 mode e.0.1) (λ x. magnitude_rest e.0.0 x.0 mode x.1) (z, q) e.2 in
     let n = bind_is_ok (slot_at mode a.0.1 (11 + min e.0.0 10)) (λ x. sign_rest a.0.0 x.0 mode x.1) (z, q) a.2 in
-    let r = large_read mode a.0.0 e.0.0 p o e.0.1 a.0.1 s e.1 a.1 in
-    sign_found mode a.0.0 e.0.0 n.0.0 p a.0.1 n.0.1 q z r.0 r.1 r.2 r.3 n.1 n.2
+    let r = large_read mode k a.0.0 e.0.0 p o e.0.1 a.0.1 few s e.1 a.1 in
+    sign_found mode k a.0.0 e.0.0 n.0.0 p a.0.1 n.0.1 q z r.0 r.1 r.2 r.3 n.1 n.2
 
 -- What is read as a signed symbol is coded there.
-signed_found : (mode : Mode) (z : ℤ) (p q : Place) → signed_symbol_form mode p ≡ Ok (z, q) → IsSpelled mode z p q
-unfolding signed_symbol_form signed_rest signed_exponent_rest magnitude_rest sign_rest
-signed_found mode z p q h =
-    let x = bind_is_ok (slot_at mode p 0) (λ x. signed_rest x.0 mode x.1) (z, q) h in
-    signed_first_found mode z p q x.0.0 x.0.1 x.1 x.2
+signed_found : (mode : Mode) (k : ℕ) (z : ℤ) (p q : Place) → k ≤ 32 → signed_form_within k mode p ≡ Ok (z, q) → IsSpelled mode k z p q
+unfolding signed_form_within signed_rest signed_exponent_rest magnitude_rest sign_rest
+signed_found mode k z p q few h =
+    let x = bind_is_ok (slot_at mode p 0) (λ x. signed_rest k x.0 mode x.1) (z, q) h in
+    signed_first_found mode k z p q x.0.0 x.0.1 few x.1 x.2
 
 pub symbol_is_spelled : SymbolIsSpelled
 symbol_is_spelled mode p q a = (symbol_found mode a p q, λ h. symbol_run mode a p q h.0 h.1)
 
 pub signed_symbol_is_spelled : SignedSymbolIsSpelled
-signed_symbol_is_spelled mode p q z = (signed_found mode z p q, λ h. signed_run mode z p q h.0 h.1)
+signed_symbol_is_spelled n few mode p q z = (signed_found mode n z p q few, λ h. signed_run mode n z p q few h.0 h.1)

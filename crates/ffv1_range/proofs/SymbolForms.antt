@@ -21,36 +21,36 @@ exponent_rest n e more = if more then exponent_form n (e + 1) else giving e
 
 -- one turn of the loop that counts ones
 
-pub exponent_turn : (k n e slot : ℕ) (bit : Bool) (q r s : Reader) (start row states : List ℕ) → k ≡ suc n → slot ≡ 1 + min e 9 → bit ≡ true
-    → Continues same_fault (exponent_form 32 0) q start (exponent_form k e) r row → ReadsForm same_fault (slot_form slot) r row (Ok bit) s states
-    → Continues same_fault (exponent_form 32 0) q start (exponent_form n (e + 1)) s states
+pub exponent_turn : (limit k n e slot : ℕ) (bit : Bool) (q r s : Reader) (start row states : List ℕ) → k ≡ suc n → slot ≡ 1 + min e 9 → bit ≡ true
+    → Continues same_fault (exponent_form limit 0) q start (exponent_form k e) r row → ReadsForm same_fault (slot_form slot) r row (Ok bit) s states
+    → Continues same_fault (exponent_form limit 0) q start (exponent_form n (e + 1)) s states
 unfolding exponent_form exponent_rest
-exponent_turn k n e slot bit q r s start row states l m b so h =
-    continue_both same_fault (exponent_form 32 0) (exponent_form k e) (exponent_form n (e + 1)) q r s start row states so
+exponent_turn limit k n e slot bit q r s start row states l m b so h =
+    continue_both same_fault (exponent_form limit 0) (exponent_form k e) (exponent_form n (e + 1)) q r s start row states so
     (subst (λ z. Continues same_fault (exponent_form z e) r row (exponent_form n (e + 1)) s states) (sym l)
     (continue_step same_fault (slot_form (1 + min e 9)) (exponent_rest n e) r s row states true
     (subst (λ z. ReadsForm same_fault (slot_form z) r row (Ok true) s states) m (subst (λ z. ReadsForm same_fault (slot_form slot) r row (Ok z) s states) b h))))
 
-pub exponent_found : (k n e slot : ℕ) (bit : Bool) (q r s : Reader) (start row states : List ℕ) → k ≡ suc n → slot ≡ 1 + min e 9 → bit ≡ false
-    → Continues same_fault (exponent_form 32 0) q start (exponent_form k e) r row → ReadsForm same_fault (slot_form slot) r row (Ok bit) s states
-    → ReadsForm same_fault (exponent_form 32 0) q start (Ok e) s states
+pub exponent_found : (limit k n e slot : ℕ) (bit : Bool) (q r s : Reader) (start row states : List ℕ) → k ≡ suc n → slot ≡ 1 + min e 9 → bit ≡ false
+    → Continues same_fault (exponent_form limit 0) q start (exponent_form k e) r row → ReadsForm same_fault (slot_form slot) r row (Ok bit) s states
+    → ReadsForm same_fault (exponent_form limit 0) q start (Ok e) s states
 unfolding exponent_form exponent_rest
-exponent_found k n e slot bit q r s start row states l m b so h =
+exponent_found limit k n e slot bit q r s start row states l m b so h =
     let read : ReadsForm same_fault (slot_form (1 + min e 9)) r row (Ok false) s states =
     subst (λ z. ReadsForm same_fault (slot_form z) r row (Ok false) s states) m (subst (λ z. ReadsForm same_fault (slot_form slot) r row (Ok z) s states) b h) in
     let step : Continues same_fault (exponent_form k e) r row (exponent_rest n e false) s states =
     subst (λ z. Continues same_fault (exponent_form z e) r row (exponent_rest n e false) s states) (sym l)
     (continue_step same_fault (slot_form (1 + min e 9)) (exponent_rest n e) r s row states false read) in
-    continue_end same_fault (exponent_form 32 0) (exponent_rest n e false) q s s start states states (Ok e)
-    (continue_both same_fault (exponent_form 32 0) (exponent_form k e) (exponent_rest n e false) q r s start row states so step)
+    continue_end same_fault (exponent_form limit 0) (exponent_rest n e false) q s s start states states (Ok e)
+    (continue_both same_fault (exponent_form limit 0) (exponent_form k e) (exponent_rest n e false) q r s start row states so step)
     (continue_give same_fault s read.0 states e (exponent_rest n e false) (ap (λ z. z.at) read.2) refl)
 
-pub exponent_fails : (k n e slot : ℕ) (f : RangeFault) (q r s : Reader) (start row states : List ℕ) → k ≡ suc n → slot ≡ 1 + min e 9
-    → Continues same_fault (exponent_form 32 0) q start (exponent_form k e) r row → ReadsForm same_fault (slot_form slot) r row (Err f) s states
-    → ReadsForm same_fault (exponent_form 32 0) q start (Err f) s states
+pub exponent_fails : (limit k n e slot : ℕ) (f : RangeFault) (q r s : Reader) (start row states : List ℕ) → k ≡ suc n → slot ≡ 1 + min e 9
+    → Continues same_fault (exponent_form limit 0) q start (exponent_form k e) r row → ReadsForm same_fault (slot_form slot) r row (Err f) s states
+    → ReadsForm same_fault (exponent_form limit 0) q start (Err f) s states
 unfolding exponent_form exponent_rest
-exponent_fails k n e slot f q r s start row states l m so h =
-    continue_end same_fault (exponent_form 32 0) (exponent_form k e) q r s start row states (Err f) so
+exponent_fails limit k n e slot f q r s start row states l m so h =
+    continue_end same_fault (exponent_form limit 0) (exponent_form k e) q r s start row states (Err f) so
     (subst (λ z. ReadsForm same_fault (exponent_form z e) r row (Err f) s states) (sym l)
     (stop same_fault (slot_form (1 + min e 9)) (exponent_rest n e) r s row states f
     (subst (λ z. ReadsForm same_fault (slot_form z) r row (Err f) s states) m h)))
@@ -126,5 +126,5 @@ magnitude_rest e a = slot_form (11 + min e 10) >>= sign_rest a
 unfoldable pub signed_exponent_rest : ℕ → Form (List ℕ) ℤ RangeFault
 signed_exponent_rest e = low_form e 1 >>= magnitude_rest e
 
-unfoldable pub signed_rest : Bool → Form (List ℕ) ℤ RangeFault
-signed_rest is_zero = if is_zero then giving (pos 0) else (exponent_form 32 0 >>= signed_exponent_rest)
+unfoldable pub signed_rest : ℕ → Bool → Form (List ℕ) ℤ RangeFault
+signed_rest n is_zero = if is_zero then giving (pos 0) else (exponent_form n 0 >>= signed_exponent_rest)

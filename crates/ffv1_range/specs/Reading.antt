@@ -1,5 +1,5 @@
 -- Symbols read from left to right, with the first fault that is met (RFC 9043, section 3.8.1.2).
-use Rattle.std.specs.Prelude.{◌≡◌, ◌↔◌, ◌<◌, ◌^◌, ℕ, zero, suc, ◌+◌, ◌*◌, List, Ok, min, ℤ, pos, neg_ℤ, unsigned_abs, if◌then◌else◌}
+use Rattle.std.specs.Prelude.{◌≡◌, ◌↔◌, ◌<◌, ◌≤◌, ◌^◌, ℕ, zero, suc, ◌+◌, ◌*◌, List, Ok, min, ℤ, pos, neg_ℤ, unsigned_abs, if◌then◌else◌}
 use Rattle.ffv1_bits.specs.Bits.{bit_value}
 use Rattle.ffv1_range.specs.Coding.{Mode, Place, IsRangeRun}
 use Rattle.ffv1_range.specs.Forms.{Form, ◌>>=◌, giving, refusing, slot_form}
@@ -21,12 +21,16 @@ low_form (suc n) a = slot_form (22 + min n 9) >>= λ bit. low_form n (2 * a + bi
 unfoldable pub symbol_form : Form (List ℕ) ℕ RangeFault
 symbol_form = slot_form 0 >>= λ is_zero. if is_zero then giving 0 else (exponent_form 32 0 >>= λ e. low_form e 1)
 
--- a signed symbol
-unfoldable pub signed_symbol_form : Form (List ℕ) ℤ RangeFault
-signed_symbol_form =
+-- a signed symbol whose magnitude has at most n bits: its exponent stays under n
+unfoldable pub signed_form_within : ℕ → Form (List ℕ) ℤ RangeFault
+signed_form_within n =
     slot_form 0 >>= λ is_zero. if is_zero then giving (pos 0) else (
-    exponent_form 32 0 >>= λ e. low_form e 1 >>= λ a. slot_form (11 + min e 10) >>= λ is_negative.
+    exponent_form n 0 >>= λ e. low_form e 1 >>= λ a. slot_form (11 + min e 10) >>= λ is_negative.
     giving (if is_negative then neg_ℤ (pos a) else pos a))
+
+-- a signed symbol of any magnitude
+abbrev pub signed_symbol_form : Form (List ℕ) ℤ RangeFault
+signed_symbol_form = signed_form_within 32
 
 -- ---- laws
 
@@ -37,5 +41,5 @@ SymbolIsSpelled =
 
 abbrev pub SignedSymbolIsSpelled : Type 0
 SignedSymbolIsSpelled =
-    (mode : Mode) (p q : Place) (z : ℤ)
-    → (signed_symbol_form mode p ≡ Ok (z, q)) ↔ ((unsigned_abs z < 2 ^ 32) × IsRangeRun mode p (signed_symbol_bits z) q)
+    (n : ℕ) → n ≤ 32 → (mode : Mode) (p q : Place) (z : ℤ)
+    → (signed_form_within n mode p ≡ Ok (z, q)) ↔ ((unsigned_abs z < 2 ^ n) × IsRangeRun mode p (signed_symbol_bits z) q)

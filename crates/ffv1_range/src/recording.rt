@@ -119,6 +119,13 @@ impl Recording {
         self.depth() + u32::from(self.is_rgb())
     }
 
+    /// Each recording is of version 3, and its tables keep within its contexts.
+    pub fn keeps_version_3(&self)
+        ensures { IsInVersion3 self.now }
+    {
+        let _shape = &self.shape;
+    }
+
     /// Whether a plane of alpha follows the others.
     pub fn has_alpha(&self) -> bool
         ensures { result ≡ self.now.has_alpha }

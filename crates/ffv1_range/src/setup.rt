@@ -56,6 +56,13 @@ impl Setup {
         Ok(Setup { recording })
     }
 
+    /// The same as a recording.
+    pub fn recording(&self) -> &Recording
+        ensures { result.now.setup ≡ self.now }
+    {
+        &self.recording
+    }
+
     /// micro_version, 4 or greater.
     pub fn micro(&self) -> u32
         ensures { result ≡ self.now.micro }

@@ -208,7 +208,7 @@ fn write_group(
     requires set { set < length setup.now.sets }
     requires planes { first + length planes.now ≤ plane_count (grid_of setup.now) }
 {
-    let tables = Tables::of(setup, set);
+    let tables = Tables::of(setup.recording(), set);
     let mut states = start_states(alloc, setup, set)?;
     for (place, samples) in planes.iter().enumerate() {
         write_tile_plane(

@@ -4,6 +4,6 @@ use Rattle.ffv1_plane.proofs.tables.table_of.Given as goal
 
 abbrev pub invariant-loop-index : goal.invariant-loop-index
 invariant-loop-index l = record {
-  kept : (k : ℕ) → k < l.index → get_or l.entries k (pos 0) ≡ set_entry l.setup l.set l.table k;
+  kept : (k : ℕ) → k < l.index → get_or l.entries k (pos 0) ≡ set_entry l.recording.setup l.set l.table k;
   long : length l.entries ≡ 256;
 }

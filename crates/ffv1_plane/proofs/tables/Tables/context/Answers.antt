@@ -8,4 +8,4 @@ pub returns-clause-bound : goal.returns-clause-bound
 returns-clause-bound c =
     let fits : SFits w32 c.sum.result = search rules in
     rw (to_z-of_z w32 c.sum.result fits, c.sum.ensures) (rw (← c.self.view_is)
-    (context_fits c.self.inside.setup.now c.self.inside.set c.args.near.now c.self.invariant.profile c.self.invariant.there))
+    (context_fits c.self.inside.recording.now.setup c.self.inside.set c.args.near.now c.self.invariant.contexts c.self.invariant.there))

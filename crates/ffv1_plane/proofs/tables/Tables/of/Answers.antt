@@ -30,7 +30,7 @@ pub loop-table-preserved : goal.loop-table-preserved
 loop-table-preserved c = record {
   long = length-set c.loop-table.entries c.loop-table.table c.table_of.result ∙ c.loop-table.invariant.long;
   kept =
-      one_more c.loop-table.entries c.table_of.result (set_entry c.args.setup.now c.args.set) c.loop-table.table
+      one_more c.loop-table.entries c.table_of.result (set_entry c.args.recording.now.setup c.args.set) c.loop-table.table
       (omega (arith, c.loop-table.invariant.long, c.loop-table-test.true)) c.loop-table.invariant.kept c.table_of.ensures;
 }
 
@@ -38,7 +38,7 @@ pub invariant_of-result : goal.invariant_of-result
 invariant_of-result c =
     let all : 5 ≤ c.loop-table.table = c.loop-table-test.false in
     record {
-      profile = c.keeps_profile.ensures;
+      contexts = c.keeps_version_3.ensures.contexts;
       there = c.requires;
       are_entries = λ table k few less. c.loop-table.invariant.kept table (among_five table _ few all) k less;
       near = λ is k inside. elim c.if-is_zero.branch [

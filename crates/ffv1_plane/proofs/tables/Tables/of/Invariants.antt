@@ -4,6 +4,6 @@ use Rattle.ffv1_plane.proofs.tables.Tables.of.Given as goal
 
 abbrev pub invariant-loop-table : goal.invariant-loop-table
 invariant-loop-table l = record {
-  kept : (t : ℕ) → t < l.table → (k : ℕ) → k < 256 → get_or (get_or l.entries t []) k (pos 0) ≡ set_entry l.setup l.set t k;
+  kept : (t : ℕ) → t < l.table → (k : ℕ) → k < 256 → get_or (get_or l.entries t []) k (pos 0) ≡ set_entry l.recording.setup l.set t k;
   long : length l.entries ≡ 5;
 }

@@ -7,6 +7,6 @@ use Rattle.ffv1_range.proofs.coding.RangeDecoder.exponent.Given as goal
 abbrev pub invariant-loop-exponent : goal.invariant-loop-exponent
 invariant-loop-exponent l =
     record {
-      going : Continues same_fault (exponent_form 32 0) l.fn.self l.fn.states (exponent_form (32 - l.exponent) l.exponent) l.self l.states;
+      going : Continues same_fault (exponent_form l.fn.limit 0) l.fn.self l.fn.states (exponent_form (l.fn.limit - l.exponent) l.exponent) l.self l.states;
       alive : 0 < l.exponent → IsAtPlace l.self;
     }
