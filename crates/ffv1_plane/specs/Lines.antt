@@ -43,7 +43,7 @@ pub record CodedPlanes : Type 0 where
   pub group : ℕ → ℕ
   pub is_anew : Line → Bool
 
--- the run index that a line begins with
+-- the run index at which a line begins, after others that leave it at a number
 abbrev pub first_index : CodedPlanes → ℕ → Line → ℕ
 first_index c index line = if c.is_anew line then 0 else index
 

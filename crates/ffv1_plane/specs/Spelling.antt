@@ -105,7 +105,7 @@ pub record SampleSpells (earlier : ℕ → List ℤ) (r : Residuals) (x : ℕ) (
   pub coded : is_coded r x ≡ true → SpellsValue r.depth (state_before earlier r (context_number r x) x) (value_at r x) code
   pub not_coded : is_coded r x ≡ false → code ≡ []
 
--- the bits of the first count samples, from the run index that the row begins with
+-- the bits of the first count samples of a row that begins at run index `first`
 unfoldable pub SamplesSpell : (ℕ → List ℤ) → Residuals → ℕ → ℕ → List Bool → ℕ → Type 0
 SamplesSpell earlier r first zero bits next = (bits ≡ []) × (next ≡ first)
 SamplesSpell earlier r first (suc count) bits next =

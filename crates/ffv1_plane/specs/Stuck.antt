@@ -25,9 +25,9 @@ pub data SpellsFront : ℕ → ℕ → List Bool → ℕ → Type 0 where
   one_word : {n i next : ℕ} {bits : List Bool} (m : ℕ) (others : List Bool) → n ≡ whole_length i + m → bits ≡ true ∷ others
       → SpellsFront m (i + 1) others next → SpellsFront n i bits next
 
--- A word of a run is due at column x of a row, at a run index. Each word starts at the first sample not yet skipped:
--- words of the run have skipped those from its start up to x, which lies in the row. The bits are those of the row's words
--- before x.
+-- A word of a run is due at column x, at a run index, in a row that begins at run index `first`. Each word starts at the
+-- first sample not yet skipped: words of the run have skipped those from its start up to x, which lies in the row. The bits
+-- are those of the row's words before x.
 pub record IsRunWordDue (earlier : ℕ → List ℤ) (r : Residuals) (first x : ℕ) (bits : List Bool) (index : ℕ) : Type 0 where
   pub start : ℕ
   pub skipped : ℕ
@@ -44,8 +44,8 @@ pub record IsRunWordDue (earlier : ℕ → List ℤ) (r : Residuals) (first x : 
 
 -- ---- the words before a code
 
--- A code is due at column x, whose sample is coded. The bits are those of the row's words before the code: all words that
--- start before x, and for a level those of its run.
+-- A code is due at column x, whose sample is coded, in a row that begins at run index `first`. The bits are those of the
+-- row's words before the code: all words that start before x, and for a level those of its run.
 pub record IsCodeDue (earlier : ℕ → List ℤ) (r : Residuals) (first x : ℕ) (bits : List Bool) : Type 0 where
   pub coded : is_coded r x ≡ true
   pub before : List Bool
@@ -68,7 +68,7 @@ abbrev pub IsCodeRefused : (ℕ → List ℤ) → Residuals → ℕ → ℕ → 
 IsCodeRefused earlier r first x bits others fault =
     IsCodeDue earlier r first x bits × IsCodeFault r.depth (state_before earlier r (context_number r x) x) (is_in_run r x) others fault
 
--- After these bits of a row, which begins with a run index, no word of column x can be read, for this fault.
+-- After these bits of a row no word of column x can be read, for this fault.
 abbrev pub IsWordRefused : (ℕ → List ℤ) → Residuals → ℕ → ℕ → List Bool → List Bool → CodeFault → Type 0
 IsWordRefused earlier r first x bits others fault =
     ((fault ≡ Truncated) × IsRunWordShort earlier r first x bits others) ⊎ IsCodeRefused earlier r first x bits others fault
