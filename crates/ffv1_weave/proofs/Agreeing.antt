@@ -1,10 +1,5 @@
 -- Places where versions agree, by the first version, and where they do not.
-use Rattle.std.proofs.Common.{◌≡◌, ℕ, zero, suc, ◌+◌, ◌<◌, ◌≤◌, List, [], length, get_or, sym, ap, ◌∙◌, subst, arith, inl, inr}
-use Rattle.std.specs.Prelude.{◌⊎◌, Contains}
-use Rattle.std.proofs.lemmas.Bool.{cases_lt, cases_eq}
-use Rattle.std.proofs.lemmas.List.{get_or_past, get_or_default}
-use Rattle.std.proofs.lemmas.List.Elements.{Contains-get_or}
-use Rattle.ffv1_weave.specs.Regions.{HaveLength, AgreeAt, DifferAt}
+use Rattle.ffv1_weave.proofs.Common.{◌≡◌, ℕ, zero, suc, ◌+◌, ◌<◌, ◌≤◌, List, [], length, get_or, sym, ap, ◌∙◌, subst, arith, inl, inr, ◌⊎◌, Contains, cases_lt, cases_eq, get_or_past, get_or_default, Contains-get_or, HaveLength, AgreeAt, DifferAt}
 
 -- the first versions have the byte of the first
 abbrev pub AgreeSoFar : List (List ℕ) → ℕ → ℕ → Type 0
@@ -19,13 +14,11 @@ module _ (versions : List (List ℕ)) where
       ap (λ v. get_or v i 0) (sym (at_index one there)) ∙ h there.0 there.1 ∙ sym (h here.0 here.1) ∙ ap (λ v. get_or v i 0) (at_index other here)
 
   pub differ_from : (i k : ℕ) → k < length versions → (get_or (get_or versions k []) i 0 ≡ get_or (get_or versions 0 []) i 0 → ⊥) → DifferAt versions i
-  differ_from i k h apart agree =
-      apart (agree (get_or versions k []) (get_or versions 0 []) (Contains-get_or versions k [] h) (Contains-get_or versions 0 [] (omega arith)))
+  differ_from i k h apart agree = grind (arith, Contains-get_or)
 
   -- past their end all agree
   pub agree_past : (size i : ℕ) → HaveLength versions size → size ≤ i → AgreeAt versions i
-  agree_past size i long past one other there here =
-      get_or_past one i 0 (omega (arith, long one there)) ∙ sym (get_or_past other i 0 (omega (arith, long other here)))
+  agree_past size i long past one other there here = grind (arith, get_or_past)
 
   -- where they agree up to their end, they agree from there on
   pub agree_on : (size from until : ℕ) → HaveLength versions size → size ≤ until → ((i : ℕ) → from ≤ i → i < until → AgreeAt versions i)
@@ -44,11 +37,7 @@ module _ (versions : List (List ℕ)) where
     | inr found ↦ inr (found.0, (let below = found.1 in omega arith), found.2)
     | inl so_far ↦ elim (cases_eq (get_or (get_or versions n []) i 0) (get_or (get_or versions 0 []) i 0)) [
       | inr apart ↦ inr (n, omega arith, apart)
-      | inl same ↦ inl (λ k lt. elim (cases_lt k n) [
-        | inl below ↦ so_far k below
-        | inr above ↦ let here : n ≡ k = omega arith in
-            subst (λ m. get_or (get_or versions m []) i 0 ≡ get_or (get_or versions 0 []) i 0) here same
-      ])
+      | inl same ↦ grind (arith, cases_lt)
     ]
   ]
 
@@ -62,13 +51,7 @@ module _ (versions : List (List ℕ)) where
   pub agree_or_differ : (i : ℕ) → AgreeAt versions i ⊎ HaveTwo i
   agree_or_differ i = elim (first_agree i (length versions)) [
     | inl all ↦ inl (agree_from i all)
-    | inr found ↦ let below = found.1 in inr (record {
-      one = get_or versions found.0 [];
-      other = get_or versions 0 [];
-      one_there = Contains-get_or versions found.0 [] found.1;
-      other_there = Contains-get_or versions 0 [] (omega arith);
-      differ = found.2;
-    })
+    | inr found ↦ grind (arith, Contains-get_or)
   ]
 
   pub two_of : (i : ℕ) → DifferAt versions i → HaveTwo i

@@ -1,17 +1,5 @@
 -- What is among the combinations that are tried, and that nothing else than an original among them is woven.
-use Rattle.std.proofs.Common.{◌≡◌, ℕ, zero, suc, ◌+◌, ◌-◌, ◌<◌, ◌≤◌, List, length, get_or, refl, sym, ◌∙◌, subst, arith, inl, inr}
-use Rattle.std.specs.Prelude.{Contains, slice_range}
-use Rattle.std.proofs.lemmas.Bool.{cases_lt}
-use Rattle.std.proofs.lemmas.List.{get_or_default, get_or_past}
-use Rattle.ffv1_weave.specs.Regions.{AgreeAt, DifferAt}
-use Rattle.ffv1_weave.specs.Boundaries.{IsSegment}
-use Rattle.ffv1_weave.specs.Splits.{IsChoiceOf, IsChoiceBy, splits}
-use Rattle.ffv1_weave.specs.Combinations.{IsCombinationBy, IsCombination, HasFewByByte, IsTriedBy, IsAmongTried, IsValid}
-use Rattle.ffv1_weave.specs.Weave.{Weave, IsWeaveOf, AreFew}
-use Rattle.ffv1_weave.specs.Weave.Weave.{woven, disputed, missing, too_many}
-use Rattle.ffv1_weave.specs.Laws.{KeepsOriginal, OriginalIsWoven, IsCoveredByRegions, CoveredIsCombination, HasEachByte, AreAmongTried}
-use Rattle.ffv1_weave.specs.declared.splits.Split.{Split}
-use Rattle.ffv1_weave.specs.declared.splits.Split.TheVariants.{Pairs, Regions}
+use Rattle.ffv1_weave.proofs.Common.{◌≡◌, ℕ, zero, suc, ◌+◌, ◌-◌, ◌<◌, ◌≤◌, List, length, get_or, refl, sym, ◌∙◌, subst, arith, inl, inr, rules, Contains, slice_range, cases_lt, get_or_default, get_or_past, AgreeAt, DifferAt, IsSegment, IsChoiceOf, IsChoiceBy, splits, IsCombinationBy, IsCombination, HasFewByByte, IsTriedBy, IsAmongTried, IsValid, Weave, IsWeaveOf, AreFew, woven, disputed, missing, too_many, KeepsOriginal, OriginalIsWoven, IsCoveredByRegions, CoveredIsCombination, HasEachByte, AreAmongTried, Split, Pairs, Regions}
 use Rattle.ffv1_weave.proofs.Agreeing.{some_differ}
 use Rattle.ffv1_weave.proofs.BoundarySteps.{boundary_before, boundary_after, segment_within}
 use Rattle.ffv1_weave.proofs.Choices.{same_range}
@@ -29,16 +17,7 @@ taken_by versions start end choice of (suc (suc (suc (suc zero)))) lt = of
 taken_by versions start end choice of (suc (suc (suc (suc (suc k))))) lt = absurd (omega arith)
 
 pub covered_is_combination : CoveredIsCombination
-covered_is_combination split original versions there h =
-    record {
-      same_length = λ version in_versions. sym (h.one_length version in_versions);
-      agrees = λ i agree version in_versions. sym (h.right i agree version in_versions);
-      parts = λ start end part.
-          let version = h.intact start end part in
-          let same = sym version.2 in
-          subst (λ g. IsChoiceBy g versions start end (slice_range original start end)) (get_or_default splits there.0 Regions split there.1 ∙ there.2)
-          (taken_by versions start end (slice_range original start end) (version.0, version.1, same) there.0 there.1);
-    }
+covered_is_combination split original versions there h = grind (arith, get_or_default, taken_by)
 
 pub regions_combine : (original : List ℕ) (versions : List (List ℕ)) → IsCoveredByRegions original versions → IsCombination versions original
 regions_combine original versions h = covered_is_combination Regions original versions (4, omega arith, refl) h
@@ -60,8 +39,7 @@ module _ (original : List ℕ) (versions : List (List ℕ)) (has : HasEachByte o
 
   same_between : (start end : ℕ) → end ≤ length original → (version : List ℕ) → Contains versions version
       → ((i : ℕ) → start ≤ i → i < end → get_or original i 0 ≡ get_or version i 0) → IsChoiceOf versions start end (slice_range original start end)
-  same_between start end within version there same =
-      (version, there, same_range original version start end within (omega (arith, has.one_length version there)) same)
+  same_between start end within version there same = grind (arith, same_range)
 
   -- a place at which versions differ is a segment at distance 0
   alone : (start end place : ℕ) → IsSegment 0 versions start end → start ≤ place → place < end → DifferAt versions place → (place ≡ start) × (end ≡ place + 1)
@@ -89,8 +67,7 @@ module _ (original : List ℕ) (versions : List (List ℕ)) (has : HasEachByte o
             let first = one.0 in
             let last = one.1 in
             let intact = has.intact found.0 (omega arith) in
-            same_between start end within intact.0 intact.1
-            (λ i low below. let here : found.0 ≡ i = omega arith in subst (λ k. get_or original k 0 ≡ get_or intact.0 k 0) here (sym intact.2))
+            same_between start end within intact.0 intact.1 (λ i low below. let here : found.0 ≡ i = omega arith in rw (← here) (sym intact.2))
       ]
 
   pub bytes_combine : IsCombinationBy (Pairs 0) versions original
@@ -102,13 +79,7 @@ module _ (original : List ℕ) (versions : List (List ℕ)) (has : HasEachByte o
       (record { place = 0; there = omega arith; is = refl; finer = λ k lt. absurd (omega arith); few = few }) bytes_combine
 
 pub are_among_tried : AreAmongTried
-are_among_tried = record {
-  by_split = by_split;
-  regions = λ versions bytes is split count tried. regions_are_coarsest split versions bytes (tried_split versions split count tried) is;
-  covered = λ original versions covered split count tried.
-      covered_is_combination split original versions (tried_split versions split count tried) (covered split count tried);
-  each_byte = λ original versions count has few. each_byte original versions has count few;
-}
+are_among_tried = search (rules, by_split, regions_are_coarsest, tried_split, covered_is_combination, each_byte)
 
 -- ---- an original
 

@@ -1,13 +1,5 @@
 -- Boundaries and segments: where a boundary can lie, and that segments never overlap.
-use Rattle.std.proofs.Common.{◌≡◌, ℕ, ◌+◌, ◌-◌, ◌<◌, ◌≤◌, List, [], length, get_or, sym, ◌∙◌, subst, arith, inl, inr}
-use Rattle.std.specs.Prelude.{◌⊎◌, Contains}
-use Rattle.std.proofs.lemmas.Bool.{cases_lt}
-use Rattle.std.proofs.lemmas.List.{get_or_past}
-use Rattle.std.proofs.lemmas.List.Elements.{Contains-get_or}
-use Rattle.ffv1_weave.specs.Regions.{HaveLength, AgreeAt, DifferAt}
-use Rattle.ffv1_weave.specs.Boundaries.{AreParted, IsBoundary, IsSegment}
-use Rattle.ffv1_weave.specs.Inner.Parts.{IsPartFrom}
-use Rattle.ffv1_weave.specs.declared.splits.Split.TheVariants.{Pairs}
+use Rattle.ffv1_weave.proofs.Common.{◌≡◌, ℕ, ◌+◌, ◌-◌, ◌<◌, ◌≤◌, List, [], length, get_or, arith, inl, inr, ◌⊎◌, Contains, cases_lt, get_or_past, Contains-get_or, HaveLength, AgreeAt, DifferAt, AreParted, IsBoundary, IsSegment, IsPartFrom, Pairs}
 use Rattle.ffv1_weave.proofs.Agreeing.{two_of}
 
 module _ (distance : ℕ) (versions : List (List ℕ)) where
@@ -39,23 +31,10 @@ module _ (distance : ℕ) (versions : List (List ℕ)) where
 
   -- Where all versions agree at a place and at the one before it, it is no boundary.
   pub quiet_no_boundary : (place : ℕ) → AgreeAt versions (place - 1) → AgreeAt versions place → IsBoundary distance versions place → ⊥
-  quiet_no_boundary place before here boundary = elim boundary.parted [
-    | inl begins ↦ begins.differ (here boundary.one boundary.other boundary.one_there boundary.other_there)
-    | inr ends ↦ let next = ends.next in let same : place - 1 ≡ ends.last = omega arith in
-        ends.differ (subst (AgreeAt versions) same before boundary.one boundary.other boundary.one_there boundary.other_there)
-  ]
+  quiet_no_boundary place before here boundary = grind arith
 
   pub boundary_within : (size place : ℕ) → HaveLength versions size → IsBoundary distance versions place → place ≤ size
-  boundary_within size place long boundary =
-      let past = λ (i : ℕ) (over : size ≤ i). get_or_past boundary.one i 0 (omega (arith, long boundary.one boundary.one_there))
-      ∙ sym (get_or_past boundary.other i 0 (omega (arith, long boundary.other boundary.other_there))) in
-      elim (cases_lt size place) [
-        | inr within ↦ within
-        | inl over ↦ elim boundary.parted [
-          | inl begins ↦ absurd (begins.differ (past place (omega arith)))
-          | inr ends ↦ let next = ends.next in absurd (ends.differ (past ends.last (omega arith)))
-        ]
-      ]
+  boundary_within size place long boundary = grind (arith, get_or_past, cases_lt)
 
   -- ---- two segments
 
@@ -117,10 +96,7 @@ module _ (distance : ℕ) (versions : List (List ℕ)) where
         | inl past ↦ h.quiet i past lt boundary
         | inr near ↦ elim h.begins [
           | inr there ↦ let is = there.0 in omega arith
-          | inl is ↦ elim (cases_lt i first) [
-            | inl below ↦ quiet_no_boundary i (h.until (i - 1) (omega arith) (omega arith)) (h.until i (omega arith) below) boundary
-            | inr above ↦ let same : i ≡ first = omega arith in h.boundary (omega arith) is (subst (IsBoundary distance versions) same boundary)
-          ]
+          | inl is ↦ grind (arith, cases_lt, quiet_no_boundary)
         ]
       ]
 
@@ -138,16 +114,7 @@ module _ (distance : ℕ) (versions : List (List ℕ)) where
         until = λ i above under. h.until i above (omega arith);
         part = record {
           some = omega arith;
-          first = elim h.begins [
-            | inr there ↦ let is = there.0 in inr (subst (IsBoundary distance versions) (sym is) there.1)
-            | inl is ↦ elim edge [
-              | inl zero ↦ inl (is ∙ zero)
-              | inr segment ↦ let ended : IsSegment distance versions segment.0 from = segment.1 in elim ended.last [
-                | inl boundary ↦ inr (subst (IsBoundary distance versions) (sym is) boundary)
-                | inr at_end ↦ absurd (omega (arith, at_end.2, long at_end.0 at_end.1))
-              ]
-            ]
-          ];
+          first = grind arith;
           last = elim (cases_lt end size) [
             | inl inside ↦ inl (h.there inside)
             | inr past ↦ let there = Contains-get_or versions 0 [] some in

@@ -1,14 +1,6 @@
 -- Three versions of three bytes, each damaged at another place: they are one region, but three segments at distance 0, so that the
 -- undamaged bytes are a combination by segments alone.
-use Rattle.std.proofs.Common.{◌≡◌, ℕ, zero, suc, ◌+◌, ◌-◌, ◌<◌, List, [], ◌∷◌, length, get_or, refl, sym, ap, ◌∙◌, subst, arith, inl, inr}
-use Rattle.std.specs.Prelude.{◌⊎◌, All, Contains, slice_range}
-use Rattle.ffv1_weave.specs.Regions.{HaveLength, DifferAt, IsRegion}
-use Rattle.ffv1_weave.specs.Boundaries.{IsBoundary, IsSegment}
-use Rattle.ffv1_weave.specs.Checks.{PassesBy}
-use Rattle.ffv1_weave.specs.Combinations.{IsCombinationBy, IsCombination, IsTriedBy, IsAmongTried, IsValid}
-use Rattle.ffv1_weave.specs.Inner.Parts.{Part, AreChoicesBy, IsPartFrom, AreAllParts, IsFit}
-use Rattle.ffv1_weave.specs.declared.check.Check.{Check}
-use Rattle.ffv1_weave.specs.declared.splits.Split.TheVariants.{Pairs}
+use Rattle.ffv1_weave.proofs.Common.{◌≡◌, ℕ, zero, suc, ◌+◌, ◌<◌, List, [], ◌∷◌, length, get_or, refl, sym, ap, ◌∙◌, subst, arith, ◌⊎◌, All, Contains, slice_range, HaveLength, DifferAt, IsRegion, IsBoundary, IsSegment, PassesBy, IsCombinationBy, IsCombination, IsTriedBy, IsAmongTried, IsValid, Part, AreChoicesBy, IsPartFrom, AreAllParts, IsFit, Check, Pairs}
 use Rattle.ffv1_weave.proofs.Agreeing.{agree_past, differ_from}
 use Rattle.ffv1_weave.proofs.MostSteps.{choices_of_pairs}
 use Rattle.ffv1_weave.proofs.BoundarySteps.{boundary_of}
@@ -77,8 +69,7 @@ no_combination_of_regions is = let version = is.parts 0 3 all_one_region in none
 
 boundary_at : (place : ℕ) (one other : List ℕ) → Contains three one → Contains three other → (get_or one place 0 ≡ get_or other place 0 → ⊥)
     → IsBoundary 0 three place
-boundary_at place one other there here apart =
-    boundary_of 0 three place one other there here (inl (record { differ = apart; before = λ i lt near. absurd (omega arith) }))
+boundary_at place one other there here apart = grind (arith, boundary_of, three, differ)
 
 boundary_one : IsBoundary 0 three 1
 boundary_one = boundary_at 1 (2 ∷ 1 ∷ 1 ∷ []) (1 ∷ 2 ∷ 1 ∷ []) first_there second_there (λ same. absurd (omega arith))
@@ -91,11 +82,7 @@ alone : (start : ℕ) → (start ≡ 0) ⊎ IsBoundary 0 three start
 alone start first last = record { some = omega arith; first = first; last = last; within = λ i low lt boundary. absurd (omega arith) }
 
 pub segments : IsSegment 0 three 0 1 × IsSegment 0 three 1 2 × IsSegment 0 three 2 3
-segments = (
-  alone 0 (inl refl) (inl boundary_one),
-  alone 1 (inr boundary_one) (inl boundary_two),
-  alone 2 (inr boundary_two) (inr (2 ∷ 1 ∷ 1 ∷ [], first_there, refl)),
-)
+segments = grind (arith, alone, boundary_one, boundary_two, first_there)
 
 -- ---- eight combinations
 
@@ -138,8 +125,7 @@ one_choice (suc (suc j)) k low lt same = absurd (omega arith)
 one_choice j (suc (suc k)) low lt same = absurd (omega arith)
 
 choices : (place : ℕ) → place < 3 → AreChoicesBy (Pairs 0) three place (place + 1) two
-choices place lt =
-    choices_of_pairs three place (place + 1) two (record { each = each_choice place lt; only = only_choice place lt; once = one_choice }) 0
+choices place lt = grind (arith, choices_of_pairs, three, each_choice, only_choice, one_choice)
 
 abbrev parts : List Part
 parts = record { start = 0; end = 1; choices = two } ∷ record { start = 1; end = 2; choices = two } ∷ record { start = 2; end = 3; choices = two } ∷ []
@@ -159,18 +145,7 @@ all_parts =
     }
 
 fit_at : (place : ℕ) → place < 3 → IsFit 3 (record { start = place; end = place + 1; choices = two })
-fit_at place lt =
-    record {
-      order = omega arith;
-      within = omega arith;
-      some = omega arith;
-      fill = λ k low. fill k low;
-    }
-  where
-    fill : (k : ℕ) → k < 2 → length (get_or two k []) ≡ place + 1 - place
-    fill zero low = omega arith
-    fill (suc zero) low = omega arith
-    fill (suc (suc k)) low = absurd (omega arith)
+fit_at place lt = grind arith
 
 fit : All (IsFit 3) parts
 fit zero d lt = fit_at 0 (omega arith)

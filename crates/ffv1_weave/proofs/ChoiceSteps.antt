@@ -1,17 +1,6 @@
 -- The byte strings that versions have between two places, with one more version.
-use Rattle.std.proofs.Common.{◌≡◌, ℕ, ◌-◌, ◌<◌, List, [], ◌∷◌, ◌++◌, length, get_or, take, map, Bor, Bool, true, false, eqb, refl, sym, ap, ◌∙◌, subst, arith, inl, inr}
-use Rattle.std.specs.Prelude.{Contains, slice_range}
-use Rattle.std.proofs.lemmas.Bool.{cases_lt, false≢true}
-use Rattle.std.proofs.lemmas.List.{get_or_append_left, get_or_push, get_or_default, get_or-map, length-map, length_push, take_all}
-use Rattle.std.proofs.lemmas.List.Elements.{Contains-append_left, Contains-append_right, Contains-append_cases, Contains-get_or}
-use Rattle.std.specs.List.{IsAnyAnswer}
-use Rattle.std.proofs.lemmas.Slice.Eq.{slice_eq-Decides}
-use Rattle.std.proofs.lemmas.Bool.Decides.{Decides-eqb}
-use lib.Pointwise.{pointwise}
-use Rattle.ffv1_slice.specs.Members.{HasSameMembers}
-use Rattle.ffv1_weave.specs.Regions.{HaveLength}
+use Rattle.ffv1_weave.proofs.Common.{◌≡◌, ℕ, ◌-◌, ◌<◌, List, [], ◌∷◌, ◌++◌, length, get_or, take, map, Bor, Bool, true, false, eqb, refl, sym, ap, ◌∙◌, subst, arith, inl, inr, Contains, slice_range, cases_lt, false≢true, get_or_append_left, get_or_push, get_or_default, get_or-map, length-map, length_push, take_all, Contains-append_left, Contains-append_right, Contains-append_cases, Contains-get_or, IsAnyAnswer, slice_eq-Decides, Decides-eqb, pointwise, HasSameMembers, HaveLength, AreChoices}
 use Rattle.ffv1_weave.proofs.References.{nowhere}
-use Rattle.ffv1_weave.specs.Inner.Parts.{AreChoices}
 
 pub alone : (version other : List ℕ) → Contains (version ∷ []) other → other ≡ version
 alone version other h = let first : h.0 ≡ 0 = omega (arith, h.1) in sym h.2 ∙ ap (λ k. get_or (version ∷ []) k other) first
@@ -27,16 +16,7 @@ module _ (listed : List (List ℕ)) (one : List ℕ) where
   pub once_pushed : ((j k : ℕ) → j < length listed → k < length listed → get_or listed j [] ≡ get_or listed k [] → j ≡ k)
       → ((k : ℕ) → k < length listed → get_or listed k [] ≡ one → ⊥) → (j k : ℕ) → j < length (listed ++ one ∷ []) → k < length (listed ++ one ∷ [])
       → get_or (listed ++ one ∷ []) j [] ≡ get_or (listed ++ one ∷ []) k [] → j ≡ k
-  once_pushed once apart j k low lt same = elim (cases_lt j (length listed)) [
-    | inl j_below ↦ elim (cases_lt k (length listed)) [
-      | inl k_below ↦ once j k j_below k_below (sym (listed_at j j_below) ∙ same ∙ listed_at k k_below)
-      | inr k_above ↦ absurd (apart j j_below (sym (listed_at j j_below) ∙ same ∙ pushed_at k (omega (arith, length_push listed one))))
-    ]
-    | inr j_above ↦ elim (cases_lt k (length listed)) [
-      | inl k_below ↦ absurd (apart k k_below (sym (listed_at k k_below) ∙ sym same ∙ pushed_at j (omega (arith, length_push listed one))))
-      | inr k_above ↦ omega (arith, length_push listed one)
-    ]
-  ]
+  once_pushed once apart j k low lt same = grind (arith, cases_lt, listed_at, pushed_at, length_push)
 
 module _ (start end : ℕ) where
   pub choices_same : (versions choices : List (List ℕ)) (version : List ℕ) → AreChoices versions start end choices → Contains choices (slice_range version start end)

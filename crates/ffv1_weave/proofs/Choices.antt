@@ -1,21 +1,6 @@
 -- The combinations by number: each number gives one, each has one, and no two numbers give the same.
-use Rattle.std.proofs.Common.{◌≡◌, ℕ, zero, suc, ◌+◌, ◌-◌, ◌*◌, ◌/◌, ◌%◌, ◌<◌, ◌≤◌, List, [], ◌∷◌, ◌++◌, length, get_or, take, drop, refl, sym, ap, ◌∙◌, subst, arith, inl, inr}
-use Rattle.std.specs.Prelude.{◌⊎◌, All, Contains, slice_index, slice_range}
-use Rattle.std.proofs.Math.Nat.{div-lt_iff_lt-mul, mul-add-mod_self_right, mod-eq_of_lt, mul_comm}
-use Rattle.std.proofs.lemmas.Nat.{div-mul-add, mul-add-lt, div-add-mod'}
-use Rattle.std.proofs.lemmas.Bool.{cases_lt}
-use Rattle.std.proofs.lemmas.List.{get_or_append_left, get_or-append_right, get_or-take, get_or-drop, get_or_default, length-take-le, length-append, length-drop, ext_get_or}
-use Rattle.std.proofs.lemmas.List.Edits.{get_or-between, length-between}
-use Rattle.std.proofs.lemmas.List.Elements.{All-head, All-tail}
-use Rattle.ffv1_weave.specs.Regions.{AgreeAt, HaveLength}
-use Rattle.ffv1_weave.specs.Boundaries.{IsBoundary}
-use Rattle.ffv1_weave.specs.Splits.{IsPartBy, IsChoiceBy}
-use Rattle.ffv1_weave.specs.Numbers.{AreNumbered, AreMoreThan}
-use Rattle.ffv1_weave.specs.Combinations.{IsCombinationBy}
-use Rattle.ffv1_weave.specs.Inner.Parts.{Part, ArePartsFrom, AreAllParts, IsPartFrom, IsFit, parts_end, count_of, chosen}
-use Rattle.ffv1_weave.specs.Parts.{written}
-use Rattle.ffv1_weave.specs.declared.splits.Split.{Split}
-use Rattle.ffv1_weave.specs.declared.splits.Split.TheVariants.{Pairs, Regions, Most}
+use Rattle.ffv1_weave.proofs.Common.{◌≡◌, ℕ, zero, suc, ◌+◌, ◌-◌, ◌*◌, ◌/◌, ◌%◌, ◌<◌, ◌≤◌, List, [], ◌∷◌, length, get_or, refl, sym, ap, ◌∙◌, subst, arith, inl, inr, ◌⊎◌, All, Contains, slice_index, slice_range, div-lt_iff_lt-mul, mul-add-mod_self_right, mod-eq_of_lt, mul_comm, div-mul-add, mul-add-lt, div-add-mod', cases_lt, get_or_append_left, get_or-append_right, get_or-take, get_or-drop, get_or_default, length-take-le, length-drop, ext_get_or, get_or-between, length-between, All-head, All-tail, AgreeAt, HaveLength, IsBoundary, IsPartBy, IsChoiceBy, AreNumbered, AreMoreThan, IsCombinationBy, Part, ArePartsFrom, AreAllParts, IsPartFrom, IsFit, parts_end, count_of, chosen, written, Split, Pairs, Regions, Most}
+use Rattle.std.proofs.lemmas.List.{length-append}
 use Rattle.ffv1_weave.proofs.SplitSteps.{part_some, part_within, one_part}
 use Rattle.ffv1_weave.proofs.NextSegment.{IsNextSegment, next_segment}
 use Rattle.ffv1_weave.proofs.MostSteps.{choice_of_some, some_most}
@@ -24,45 +9,26 @@ use Rattle.ffv1_weave.proofs.MostSteps.{choice_of_some, some_most}
 
 module _ (bytes : List ℕ) (start : ℕ) (choice : List ℕ) (fits : start + length choice ≤ length bytes) where
   pub length-written : length (written bytes start choice) ≡ length bytes
-  length-written =
-      omega (
-        arith,
-        length-append (take start bytes) (choice ++ drop (start + length choice) bytes),
-        length-append choice (drop (start + length choice) bytes),
-        length-take-le start bytes (omega arith),
-        length-drop (start + length choice) bytes,
-      )
+  length-written = grind (arith, length-append, length-take-le, length-drop)
 
   pub written_before : (i : ℕ) → i < start → get_or (written bytes start choice) i 0 ≡ get_or bytes i 0
-  written_before i lt =
-      let long = length-take-le start bytes (omega arith) in
-      get_or_append_left (take start bytes) (choice ++ drop (start + length choice) bytes) 0 i (omega arith) ∙ get_or-take start bytes i 0 lt
+  written_before i lt = grind (arith, length-take-le, get_or_append_left, get_or-take)
 
   pub written_inside : (i : ℕ) → start ≤ i → i < start + length choice → get_or (written bytes start choice) i 0 ≡ get_or choice (i - start) 0
-  written_inside i low lt =
-      get_or-append_right (take start bytes) (choice ++ drop (start + length choice) bytes) start i 0 (length-take-le start bytes (omega arith)) low
-      ∙ get_or_append_left choice (drop (start + length choice) bytes) 0 (i - start) (omega arith)
+  written_inside i low lt = grind (arith, get_or-append_right, length-take-le, get_or_append_left)
 
   pub written_after : (i : ℕ) → start + length choice ≤ i → get_or (written bytes start choice) i 0 ≡ get_or bytes i 0
-  written_after i low =
-      let there : start + length choice + (i - start - length choice) ≡ i = omega arith in
-      get_or-append_right (take start bytes) (choice ++ drop (start + length choice) bytes) start i 0 (length-take-le start bytes (omega arith)) (omega arith)
-      ∙ get_or-append_right choice (drop (start + length choice) bytes) (length choice) (i - start) 0 refl (omega arith)
-      ∙ get_or-drop (start + length choice) bytes (i - start - length choice) 0
-      ∙ ap (λ n. get_or bytes n 0) there
+  written_after i low = grind (arith, get_or-append_right, length-take-le, get_or-drop)
 
 -- bytes with the same at each place between two
 pub same_range : (a b : List ℕ) (start end : ℕ) → end ≤ length a → end ≤ length b → ((i : ℕ) → start ≤ i → i < end → get_or a i 0 ≡ get_or b i 0)
     → slice_range a start end ≡ slice_range b start end
 same_range a b start end la lb h =
     let long = length-between a start end la in
-    ext_get_or 0 (slice_range a start end) (slice_range b start end) (length-between a start end la ∙ sym (length-between b start end lb))
-    (λ i lt. get_or-between a start end i 0 (omega arith) ∙ h (start + i) (omega arith) (omega arith) ∙ sym (get_or-between b start end i 0 (omega arith)))
+    cc (ext_get_or 0 (slice_range a start end) (slice_range b start end) (length-between a start end la ∙ sym (length-between b start end lb)) (λ i lt. get_or-between a start end i 0 (omega arith) ∙ h (start + i) (omega arith) (omega arith) ∙ sym (get_or-between b start end i 0 (omega arith))))
 
 pub range_at : (a : List ℕ) (start end i : ℕ) → start ≤ i → i < end → get_or (slice_range a start end) (i - start) 0 ≡ get_or a i 0
-range_at a start end i low lt =
-    let there : start + (i - start) ≡ i = omega arith in
-    get_or-between a start end (i - start) 0 (omega arith) ∙ ap (λ n. get_or a n 0) there
+range_at a start end i low lt = grind (arith, get_or-between)
 
 -- ---- a fitting part
 
@@ -94,8 +60,7 @@ module _ (split : Split) (versions : List (List ℕ)) where
   -- before a part too
   alike_until : (from start end : ℕ) (a b : List ℕ) → IsPartFrom split versions from start end → IsAlike versions from a b → (i : ℕ) → i < start
       → get_or a i 0 ≡ get_or b i 0
-  alike_until from start end a b next h i lt =
-      elim (cases_lt i from) [ inl below ↦ h.front i below | inr above ↦ h.agree i (next.until i above lt) ]
+  alike_until from start end a b next h i lt = grind (arith, cases_lt)
 
   -- both with the same choice
   alike_both : (from : ℕ) (part : Part) (k : ℕ) (a b : List ℕ) → IsPartFrom split versions from part.start part.end → IsFit (length a) part
@@ -109,22 +74,8 @@ module _ (split : Split) (versions : List (List ℕ)) where
       let fits_b : part.start + length (choice_of part k) ≤ length b = omega arith in
       record {
         size = length-written a part.start (choice_of part k) fits_a ∙ size ∙ sym (length-written b part.start (choice_of part k) fits_b);
-        front = λ i below. elim (cases_lt i part.start) [
-          | inl outside ↦ written_before a part.start (choice_of part k) fits_a i outside ∙ alike_until from part.start part.end a b next h i outside
-              ∙ sym (written_before b part.start (choice_of part k) fits_b i outside)
-          | inr inside ↦ written_inside a part.start (choice_of part k) fits_a i inside (omega arith)
-              ∙ sym (written_inside b part.start (choice_of part k) fits_b i inside (omega arith))
-        ];
-        agree = λ i same. elim (cases_lt i part.start) [
-          | inl outside ↦ written_before a part.start (choice_of part k) fits_a i outside ∙ h.agree i same
-              ∙ sym (written_before b part.start (choice_of part k) fits_b i outside)
-          | inr inside ↦ elim (cases_lt i part.end) [
-            | inl below ↦ written_inside a part.start (choice_of part k) fits_a i inside (omega arith)
-                ∙ sym (written_inside b part.start (choice_of part k) fits_b i inside (omega arith))
-            | inr after ↦ written_after a part.start (choice_of part k) fits_a i (omega arith) ∙ h.agree i same
-                ∙ sym (written_after b part.start (choice_of part k) fits_b i (omega arith))
-          ]
-        ];
+        front = grind (arith, cases_lt, written_before, alike_until, written_inside);
+        agree = grind (arith, cases_lt, written_before, written_inside, written_after);
       }
 
   -- one with the choice that the other has
@@ -132,26 +83,7 @@ module _ (split : Split) (versions : List (List ℕ)) where
       → k < length part.choices → slice_range b part.start part.end ≡ choice_of part k → IsAlike versions from a b
       → IsAlike versions part.end (written a part.start (choice_of part k)) b
   alike_choice from part k a b next fit lt is h =
-      let long = choice_size (length a) part fit k lt in
-      let within = fit.within in
-      let fits : part.start + length (choice_of part k) ≤ length a = omega arith in
-      let inside : (i : ℕ) → part.start ≤ i → i < part.end → get_or (written a part.start (choice_of part k)) i 0 ≡ get_or b i 0 =
-      λ i low below. written_inside a part.start (choice_of part k) fits i low (omega arith) ∙ ap (λ p. get_or p (i - part.start) 0) (sym is)
-      ∙ range_at b part.start part.end i low below in
-      record {
-        size = length-written a part.start (choice_of part k) fits ∙ h.size;
-        front = λ i below. elim (cases_lt i part.start) [
-          | inl outside ↦ written_before a part.start (choice_of part k) fits i outside ∙ alike_until from part.start part.end a b next h i outside
-          | inr low ↦ inside i low below
-        ];
-        agree = λ i same. elim (cases_lt i part.start) [
-          | inl outside ↦ written_before a part.start (choice_of part k) fits i outside ∙ h.agree i same
-          | inr low ↦ elim (cases_lt i part.end) [
-            | inl below ↦ inside i low below
-            | inr after ↦ written_after a part.start (choice_of part k) fits i (omega arith) ∙ h.agree i same
-          ]
-        ];
-      }
+      grind (arith, choice_size, written_inside, range_at, length-written, cases_lt, written_before, alike_until, written_after)
 
 -- parts fit bytes of another length that is the same
 pub fit_as : (m n : ℕ) (parts : List Part) → m ≡ n → All (IsFit n) parts → All (IsFit m) parts
@@ -176,7 +108,6 @@ module _ (split : Split) (versions : List (List ℕ)) where
       let digit = digit_below (length bytes) part (fit_head (length bytes) part parts fit) code in
       let fits = fits_in (length bytes) part parts fit (code % length part.choices) digit in
       let long = length-written bytes part.start (choice_of part (code % length part.choices)) fits in
-      let beyond = are.0.beyond in
       let some = part_some split versions part.start part.end are.0.part in
       chosen_front part.end parts (code / length part.choices) (written bytes part.start (choice_of part (code % length part.choices))) are.2
       (fit_as _ (length bytes) parts long (fit_tail (length bytes) part parts fit)) i (omega arith)
@@ -191,10 +122,7 @@ module _ (split : Split) (versions : List (List ℕ)) where
       let digit = digit_below (length a) part (fit_head (length a) part parts fit) code in
       let long = length-written a part.start (choice_of part (code % length part.choices))
       (fits_in (length a) part parts fit (code % length part.choices) digit) in
-      chosen_alike part.end parts (code / length part.choices) (written a part.start (choice_of part (code % length part.choices)))
-      (written b part.start (choice_of part (code % length part.choices))) are.2 rest
-      (fit_as _ (length a) parts long (fit_tail (length a) part parts fit))
-      (alike_both split versions from part (code % length part.choices) a b are.0 (fit_head (length a) part parts fit) digit h)
+      cc (chosen_alike part.end parts (code / length part.choices) (written a part.start (choice_of part (code % length part.choices))) (written b part.start (choice_of part (code % length part.choices))) are.2 rest (fit_as _ (length a) parts long (fit_tail (length a) part parts fit)) (alike_both split versions from part (code % length part.choices) a b are.0 (fit_head (length a) part parts fit) digit h))
 
   -- each combination has a number
   pub chosen_all : (from : ℕ) (parts : List Part) (bytes combination : List ℕ) → ArePartsFrom split versions from parts
@@ -236,7 +164,6 @@ module _ (split : Split) (versions : List (List ℕ)) where
       let k_fits = fits_in (length bytes) part parts fit (k % n) k_digit in
       let j_long = length-written bytes part.start j_choice j_fits in
       let k_long = length-written bytes part.start k_choice k_fits in
-      let j_size = choice_size (length bytes) part head (j % n) j_digit in
       let k_size = choice_size (length bytes) part head (k % n) k_digit in
       let j_rest = fit_as (length (written bytes part.start j_choice)) (length bytes) parts j_long (fit_tail (length bytes) part parts fit) in
       let k_rest = fit_as (length (written bytes part.start k_choice)) (length bytes) parts k_long (fit_tail (length bytes) part parts fit) in
@@ -273,21 +200,12 @@ module _ (split : Split) (versions : List (List ℕ)) (size : ℕ) (all_long : H
         let ends = choice_size size part fit k lt in
         let within = fit.within in
         let here = length-between (written bytes part.start (choice_of part k)) part.start part.end (omega (arith, length-over)) in
-        ext_get_or 0 (slice_range (written bytes part.start (choice_of part k)) part.start part.end) (choice_of part k) (omega arith) (λ i below.
-        let there : part.start + i - part.start ≡ i = omega arith in
-        get_or-between (written bytes part.start (choice_of part k)) part.start part.end i 0 (omega arith)
-        ∙ written_inside bytes part.start (choice_of part k) fits_bytes (part.start + i) (omega arith) (omega arith)
-        ∙ ap (λ m. get_or (choice_of part k) m 0) there)
+        cc (ext_get_or 0 (slice_range (written bytes part.start (choice_of part k)) part.start part.end) (choice_of part k) (omega arith) (λ i below. let there : part.start + i - part.start ≡ i = omega arith in get_or-between (written bytes part.start (choice_of part k)) part.start part.end i 0 (omega arith) ∙ written_inside bytes part.start (choice_of part k) fits_bytes (part.start + i) (omega arith) (omega arith) ∙ ap (λ m. get_or (choice_of part k) m 0) there))
 
     -- what is outside of it stays
     has_rest : (start end : ℕ) → end ≤ size → (end ≤ part.start) ⊎ (part.end ≤ start)
         → slice_range (written bytes part.start (choice_of part k)) start end ≡ slice_range bytes start end
-    has_rest start end within apart =
-        let ends = choice_size size part fit k lt in
-        same_range (written bytes part.start (choice_of part k)) bytes start end (omega (arith, length-over)) (omega arith) (λ i low below. elim apart [
-          | inl before ↦ written_before bytes part.start (choice_of part k) fits_bytes i (omega arith)
-          | inr beyond ↦ written_after bytes part.start (choice_of part k) fits_bytes i (omega arith)
-        ])
+    has_rest start end within apart = grind (arith, choice_size, same_range, length-over, written_before, fits_bytes, written_after)
 
     -- The part, and each other one that had what can be taken there, has what can be taken there.
     part_over : (start end : ℕ) → IsPartBy split versions start end
@@ -312,26 +230,11 @@ module _ (split : Split) (versions : List (List ℕ)) (size : ℕ) (all_long : H
     agrees_over : (i : ℕ) → AgreeAt versions i → (version : List ℕ) → Contains versions version → get_or bytes i 0 ≡ get_or version i 0
         → get_or (written bytes part.start (choice_of part k)) i 0 ≡ get_or version i 0
     agrees_over i same version there before =
-        let ends = choice_size size part fit k lt in
-        let of = choice_of_some split versions part.start part.end (choice_of part k) taken in
-        elim (cases_lt i part.start) [
-          | inl outside ↦ written_before bytes part.start (choice_of part k) fits_bytes i outside ∙ before
-          | inr low ↦ elim (cases_lt i part.end) [
-            | inl below ↦ written_inside bytes part.start (choice_of part k) fits_bytes i low (omega arith)
-                ∙ ap (λ p. get_or p (i - part.start) 0) of.2
-                ∙ range_at of.0 part.start part.end i low below ∙ same of.0 version of.1 there
-            | inr after ↦ written_after bytes part.start (choice_of part k) fits_bytes i (omega arith) ∙ before
-          ]
-        ]
+        grind (arith, choice_size, choice_of_some, cases_lt, written_before, fits_bytes, written_inside, range_at, written_after)
 
     -- A combination stays one.
     combination_over : IsCombinationBy split versions bytes → IsCombinationBy split versions (written bytes part.start (choice_of part k))
-    combination_over h =
-        record {
-          same_length = λ version there. length-over ∙ sym (all_long version there);
-          agrees = λ i same version there. agrees_over i same version there (h.agrees i same version there);
-          parts = λ start end other. part_over start end other (λ _. h.parts start end other);
-        }
+    combination_over h = grind (arith, length-over, agrees_over, part_over)
 
 -- ---- there is a combination
 
@@ -352,12 +255,7 @@ module _ (versions : List (List ℕ)) (first : List ℕ) (all_long : HaveLength 
       }
 
   good_first : (split : Split) → IsGoodBefore split versions 0 first
-  good_first split =
-      record {
-        same_length = λ version here. sym (all_long version here);
-        agrees = λ i same version here. same first version there here;
-        parts = λ start end part below. let some = part_some split versions start end part in absurd (omega arith);
-      }
+  good_first split = grind (arith, part_some)
 
   module _ (distance : ℕ) where
     -- one segment more, with what most versions have there
@@ -375,8 +273,7 @@ module _ (versions : List (List ℕ)) (first : List ℕ) (all_long : HaveLength 
           order = omega arith;
           within = within;
           some = omega arith;
-          fill = λ k lt. let first_choice : k ≡ 0 = omega arith in
-              ap (λ n. length (get_or (choice ∷ []) n [])) first_choice ∙ length-between most.0 from next.end (omega (arith, all_long most.0 most.1));
+          fill = grind (arith, length-between);
         } in
         let taken : IsChoiceBy (Most distance) versions from next.end choice = ((most.0, most.1, refl), most.2) in
         let long = h.same_length first there in (
@@ -410,12 +307,7 @@ module _ (versions : List (List ℕ)) (first : List ℕ) (all_long : HaveLength 
     ]
 
   version_by : (split : Split) → ((start end : ℕ) → IsChoiceBy split versions start end (slice_range first start end)) → IsCombinationBy split versions first
-  version_by split has =
-      record {
-        same_length = λ version here. sym (all_long version here);
-        agrees = λ i same version here. same first version there here;
-        parts = λ start end part. has start end;
-      }
+  version_by split has = grind arith
 
   -- By each split there is a combination: a version, or what most versions have in each segment.
   pub some_combination : (split : Split) → (bytes : List ℕ) × IsCombinationBy split versions bytes
@@ -448,19 +340,13 @@ module _ (split : Split) (versions : List (List ℕ)) (first : List ℕ) (all_lo
       record {
         at = λ k. chosen parts k base.0;
         are = λ k low. chosen_are split versions (length first) all_long 0 parts k base.0 long are fit base.1;
-        once = λ j k low lt same. chosen_once split versions 0 parts base.0 j k are (fit_as (length base.0) (length first) parts long fit)
-            (omega arith) (omega arith) same;
+        once = grind (arith, chosen_once, fit_as);
       }
 
 module _ (split : Split) (versions : List (List ℕ)) where
   pub combination_alike : (first combination : List ℕ) → Contains versions first → IsCombinationBy split versions combination
       → IsAlike versions 0 combination first
-  combination_alike first combination there is =
-      record {
-        size = is.same_length first there;
-        front = λ i lt. absurd (omega arith);
-        agree = λ i same. is.agrees i same first there;
-      }
+  combination_alike first combination there is = grind arith
 
   pub alike_back : (from : ℕ) (a b : List ℕ) → IsAlike versions from a b → IsAlike versions from b a
   alike_back from a b h = record { size = sym h.size; front = λ i lt. sym (h.front i lt); agree = λ i same. sym (h.agree i same) }

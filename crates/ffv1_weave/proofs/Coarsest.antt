@@ -1,14 +1,5 @@
 -- Regions are the coarsest split: what is a combination of regions is one of segments.
-use Rattle.std.proofs.Common.{◌≡◌, ℕ, zero, suc, ◌-◌, ◌<◌, ◌≤◌, List, length, get_or, sym, ap, ◌∙◌, subst, arith, inl, inr}
-use Rattle.std.specs.Prelude.{Contains, slice_range}
-use Rattle.std.proofs.lemmas.Bool.{cases_lt}
-use Rattle.std.proofs.lemmas.List.{get_or_default}
-use Rattle.ffv1_weave.specs.Regions.{HaveLength, DifferAt, IsRegion}
-use Rattle.ffv1_weave.specs.Boundaries.{IsBoundary, IsSegment}
-use Rattle.ffv1_weave.specs.Splits.{splits}
-use Rattle.ffv1_weave.specs.Combinations.{IsCombinationBy, IsCombination}
-use Rattle.ffv1_weave.specs.Laws.{RegionsAreCoarsest}
-use Rattle.ffv1_weave.specs.declared.splits.Split.TheVariants.{Pairs, Regions}
+use Rattle.ffv1_weave.proofs.Common.{◌≡◌, ℕ, zero, suc, ◌-◌, ◌<◌, ◌≤◌, List, length, get_or, sym, ap, ◌∙◌, subst, arith, inl, inr, rules, Contains, slice_range, cases_lt, get_or_default, HaveLength, DifferAt, IsRegion, IsBoundary, IsSegment, splits, IsCombinationBy, IsCombination, RegionsAreCoarsest, Pairs, Regions}
 use Rattle.ffv1_weave.specs.declared.regions.TheConstants.{SEPARATION}
 use Rattle.ffv1_weave.proofs.Agreeing.{some_differ}
 use Rattle.ffv1_weave.proofs.WiderRegions.{region_of}
@@ -24,7 +15,6 @@ module _ (versions : List (List ℕ)) where
 
   last_is_boundary : (distance start end : ℕ) → distance ≤ SEPARATION → IsRegion versions start end → IsBoundary distance versions end
   last_is_boundary distance start end near h =
-      let some = h.some in
       boundary_after distance versions (end - 1) end (omega arith) h.last (λ i low lt. h.after i low (omega arith))
 
   -- A segment in which versions differ lies in one region.
@@ -82,8 +72,7 @@ module _ (versions : List (List ℕ)) (bytes : List ℕ) (is : IsCombination ver
       ]
 
   segments_of : (distance : ℕ) → distance ≤ SEPARATION → IsCombinationBy (Pairs distance) versions bytes
-  segments_of distance near =
-      record { same_length = is.same_length; agrees = is.agrees; parts = λ start end segment. segment_from_one distance start end near segment }
+  segments_of distance near = search (rules, segment_from_one)
 
   each_split : (k : ℕ) → k < length splits → IsCombinationBy (get_or splits k Regions) versions bytes
   each_split zero lt = segments_of 0 (omega arith)

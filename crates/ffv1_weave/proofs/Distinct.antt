@@ -1,10 +1,5 @@
 -- The different versions, as the code has them.
-use Rattle.std.proofs.Common.{◌≡◌, ◌<◌, ℕ, List, [], Bor, length, get_or, arith, ap, sym, ◌∙◌, subst}
-use Rattle.std.specs.Prelude.{All, Contains}
-use Rattle.std.proofs.lemmas.List.Elements.{Contains-get_or}
-use Rattle.ffv1_slice.specs.Members.{HasSameMembers}
-use Rattle.ffv1_weave.specs.Inner.Parts.{AreChoices}
-use Rattle.ffv1_weave.specs.References.{values_of}
+use Rattle.ffv1_weave.proofs.Common.{◌≡◌, ◌<◌, ℕ, List, [], Bor, length, get_or, arith, ap, sym, ◌∙◌, subst, All, Contains, Contains-get_or, HasSameMembers, AreChoices, values_of}
 use Rattle.ffv1_weave.proofs.References.{nowhere, value_at, value_there, length-values_of, each_value}
 use Rattle.ffv1_weave.proofs.ChoiceSteps.{choices_are_versions, choices_some}
 use Rattle.ffv1_weave.proofs.WeaveLaws.{same_back}
@@ -27,15 +22,9 @@ module _ (versions distinct : List (Bor (List ℕ))) (some : 0 < length versions
       (λ version there. long version there ∙ ap length (value_at versions 0 nowhere [] some)) choices
 
   pub distinct_some : 0 < length distinct
-  distinct_some =
-      omega (
-        arith,
-        choices_some (values_of versions) (values_of distinct) 0 _ (omega (arith, length-values_of versions)) choices,
-        length-values_of distinct,
-      )
+  distinct_some = grind (arith, choices_some, length-values_of)
 
   pub distinct_lengths : All (λ version. length version.now ≡ length (get_or (values_of distinct) 0 [])) distinct
   distinct_lengths k d lt =
-      let some = distinct_some in
       long _ ((distinct_same _).1 (value_there distinct k d lt))
       ∙ sym (long _ ((distinct_same _).1 (Contains-get_or (values_of distinct) 0 [] (omega (arith, length-values_of distinct)))))

@@ -1,15 +1,5 @@
 -- Where the bytes of versions are changed place by place, in all versions alike, there are no more combinations at distance 0 than before.
-use Rattle.std.proofs.Common.{◌≡◌, ℕ, zero, suc, ◌+◌, ◌-◌, ◌<◌, ◌≤◌, List, [], ◌∷◌, ◌++◌, length, get_or, map, refl, sym, ap, ◌∙◌, subst, arith, inl, inr}
-use Rattle.std.specs.Prelude.{◌⊎◌, Contains}
-use Rattle.std.proofs.lemmas.Bool.{cases_lt, cases_eq}
-use Rattle.std.proofs.lemmas.List.{ext_get_or, get_or_default, length_push}
-use Rattle.std.proofs.lemmas.List.Elements.{Contains-append_left, Contains-get_or, Contains-push}
-use Rattle.ffv1_weave.specs.Regions.{HaveLength, DifferAt}
-use Rattle.ffv1_weave.specs.Boundaries.{IsSegment}
-use Rattle.ffv1_weave.specs.Numbers.{AreNumbered}
-use Rattle.ffv1_weave.specs.Combinations.{IsCombinationBy, HasFewByByte}
-use Rattle.ffv1_weave.specs.Laws.{HasEachByte}
-use Rattle.ffv1_weave.specs.declared.splits.Split.TheVariants.{Pairs}
+use Rattle.ffv1_weave.proofs.Common.{◌≡◌, ℕ, zero, suc, ◌+◌, ◌-◌, ◌<◌, ◌≤◌, List, [], ◌∷◌, ◌++◌, length, get_or, map, refl, sym, ap, ◌∙◌, subst, arith, inl, inr, ◌⊎◌, Contains, cases_lt, cases_eq, ext_get_or, get_or_default, length_push, Contains-append_left, Contains-get_or, Contains-push, HaveLength, DifferAt, IsSegment, AreNumbered, IsCombinationBy, HasFewByByte, HasEachByte, Pairs}
 use Rattle.ffv1_weave.proofs.Agreeing.{agree_or_differ, two_differ}
 use Rattle.ffv1_weave.proofs.ChoiceSteps.{listed_at, pushed_at, once_pushed}
 use Rattle.ffv1_weave.proofs.Choices.{range_at}
@@ -23,10 +13,7 @@ same_or_apart : (a b : List ℕ) → (a ≡ b) ⊎ (a ≡ b → ⊥)
 same_or_apart [] [] = inl refl
 same_or_apart [] (y ∷ ys) = inr (λ same. cc)
 same_or_apart (x ∷ xs) [] = inr (λ same. cc)
-same_or_apart (x ∷ xs) (y ∷ ys) = elim (cases_eq x y) [
-  | inr apart ↦ inr (λ same. apart (cc))
-  | inl here ↦ elim (same_or_apart xs ys) [ inl rest ↦ inl (cc) | inr apart ↦ inr (λ same. apart (cc)) ]
-]
+same_or_apart (x ∷ xs) (y ∷ ys) = grind (arith, cases_eq, same_or_apart xs ys)
 
 listed_or_not : (listed : List (List ℕ)) (one : List ℕ) → (n : ℕ) → n ≤ length listed
     → Contains listed one ⊎ ((k : ℕ) → k < n → get_or listed k [] ≡ one → ⊥)
@@ -35,10 +22,7 @@ listed_or_not listed one (suc n) low = elim (listed_or_not listed one n (omega a
   | inl there ↦ inl there
   | inr absent ↦ elim (same_or_apart (get_or listed n []) one) [
     | inl same ↦ inl (subst (Contains listed) same (Contains-get_or listed n [] (omega arith)))
-    | inr apart ↦ inr (λ k lt same. elim (cases_lt k n) [
-      | inl below ↦ absent k below same
-      | inr above ↦ let here : k ≡ n = omega arith in apart (sym (ap (λ i. get_or listed i []) here) ∙ same)
-    ])
+    | inr apart ↦ grind (arith, cases_lt)
   ]
 ]
 
@@ -54,14 +38,7 @@ module _ (P Q : List ℕ → Type 0) (f : List ℕ → List ℕ) (into : (x : Li
     once : (i j : ℕ) → i < length listed → j < length listed → get_or listed i [] ≡ get_or listed j [] → i ≡ j
 
   images : (k : ℕ) → k ≤ count → AreImages k
-  images zero low =
-      record {
-        listed = [];
-        short = omega arith;
-        are = λ j lt. absurd (omega arith);
-        has = λ j lt. absurd (omega arith);
-        once = λ i j lt below same. absurd (omega arith);
-      }
+  images zero low = grind arith
   images (suc k) low =
       let before = images k (omega arith) in
       let one : List ℕ = f (numbers.at k) in
@@ -80,11 +57,7 @@ module _ (P Q : List ℕ → Type 0) (f : List ℕ → List ℕ) (into : (x : Li
         | inr absent ↦ record {
           listed = before.listed ++ one ∷ [];
           short = omega (arith, length_push before.listed one);
-          are = λ j lt. elim (cases_lt j (length before.listed)) [
-            | inl below ↦ subst Q (sym (listed_at before.listed one j below)) (before.are j below)
-            | inr above ↦ subst Q (sym (pushed_at before.listed one j (omega (arith, lt, length_push before.listed one))))
-                (into (numbers.at k) (numbers.are k (omega arith)))
-          ];
+          are = grind (arith, cases_lt, listed_at, pushed_at, length_push);
           has = λ j lt. elim (cases_lt j k) [
             | inl below ↦ Contains-append_left before.listed (one ∷ []) (f (numbers.at j)) (before.has j below)
             | inr above ↦ let here : k ≡ j = omega arith in
@@ -225,18 +198,13 @@ module _ (versions : List (List ℕ)) (size : ℕ) (long : HaveLength versions s
     base_long = length-by_place (λ i. choice i (cases_lt i size) bytes) 0 size
 
     base_at : (i : ℕ) → i < size → get_or base i 0 ≡ choice i (cases_lt i size) bytes
-    base_at i lt =
-        let here : 0 + i ≡ i = omega arith in
-        by_place_at (λ i. choice i (cases_lt i size) bytes) 0 size i lt ∙ ap (λ k. choice k (cases_lt k size) bytes) here
+    base_at i lt = grind (arith, by_place_at, choice, cases_lt)
 
     own : length bytes ≡ size
     own = sym (has.one_length (f first) (mapped_there f versions first there)) ∙ is.keeps first first_long
 
     base_is : (i : ℕ) → i < size → (Stays size f i × (get_or base i 0 ≡ get_or bytes i 0)) ⊎ (Sets size f i × (get_or base i 0 ≡ get_or first i 0))
-    base_is i lt = elim (choice_is i (cases_lt i size) bytes lt) [
-      | inl stays ↦ inl (stays.0, base_at i lt ∙ stays.1)
-      | inr sets ↦ inr (sets.0, base_at i lt ∙ sets.1)
-    ]
+    base_is i lt = grind (arith, choice_is, cases_lt, base_at)
 
     intact : (i : ℕ) → i < length base → (version : List ℕ) × Contains versions version × (get_or version i 0 ≡ get_or base i 0)
     intact i lt =
@@ -254,13 +222,7 @@ module _ (versions : List (List ℕ)) (size : ℕ) (long : HaveLength versions s
     same =
         let made = is.keeps base base_long in
         let mine = own in
-        ext_get_or 0 (f base) bytes (made ∙ sym own) (λ i lt. elim (base_is i (omega arith)) [
-          | inl stays ↦ stays.0 base base_long ∙ stays.1
-          | inr sets ↦
-              let one = has.intact i (omega arith) in
-              let version = mapped_of f versions one.0 one.1 in
-              sets.0.1 base base_long ∙ sym (sets.0.1 version.0 (long version.0 version.1)) ∙ sym (ap (λ z. get_or z i 0) version.2) ∙ one.2
-        ])
+        cc (ext_get_or 0 (f base) bytes (made ∙ sym own) (λ i lt. elim (base_is i (omega arith)) [ inl stays ↦ stays.0 base base_long ∙ stays.1 | inr sets ↦ let one = has.intact i (omega arith) in let version = mapped_of f versions one.0 one.1 in sets.0.1 base base_long ∙ sym (sets.0.1 version.0 (long version.0 version.1)) ∙ sym (ap (λ z. get_or z i 0) version.2) ∙ one.2 ]))
 
     onto : (base : List ℕ) × HasEachByte base versions × (f base ≡ bytes)
     onto = (base, record { one_length = λ version here. long version here ∙ sym base_long; intact = intact }, same)

@@ -1,16 +1,5 @@
 -- The parts of a split, as they are looked for while there are few enough combinations.
-use Rattle.std.proofs.Common.{◌≡◌, ℕ, ◌*◌, ◌/◌, ◌<◌, ◌≤◌, List, [], ◌∷◌, ◌++◌, length, get_or, refl, sym, ap, ◌∙◌, subst, arith, inl, inr}
-use Rattle.std.specs.Prelude.{All}
-use Rattle.std.proofs.lemmas.List.{get_or_default}
-use Rattle.std.proofs.lemmas.List.Elements.{All-push, Contains-get_or}
-use Rattle.ffv1_weave.specs.Regions.{HaveLength, AgreeAt}
-use Rattle.ffv1_weave.specs.Splits.{splits}
-use Rattle.ffv1_weave.specs.Numbers.{AreNumbered}
-use Rattle.ffv1_weave.specs.Combinations.{IsCombinationBy, HasFew, HasMany}
-use Rattle.ffv1_weave.specs.Weave.{AreMany}
-use Rattle.ffv1_weave.specs.Inner.Parts.{Part, AreChoicesBy, IsEdge, IsPartFrom, ArePartsFrom, AreFewParts, AreTriedParts, IsFit, parts_end, count_of}
-use Rattle.ffv1_weave.specs.declared.splits.Split.{Split}
-use Rattle.ffv1_weave.specs.declared.splits.Split.TheVariants.{Regions}
+use Rattle.ffv1_weave.proofs.Common.{◌≡◌, ℕ, ◌*◌, ◌/◌, ◌<◌, ◌≤◌, List, [], ◌∷◌, ◌++◌, length, get_or, sym, ap, ◌∙◌, subst, arith, All, All-push, Contains-get_or, HaveLength, splits, HasFew, HasMany, Part, AreChoicesBy, IsEdge, IsPartFrom, ArePartsFrom, AreFewParts, AreTriedParts, IsFit, parts_end, count_of, Split, Regions}
 use Rattle.ffv1_weave.specs.declared.weaving.TheConstants.{MOST_COMBINATIONS}
 use Rattle.ffv1_weave.proofs.SplitSteps.{part_some}
 use Rattle.ffv1_weave.proofs.MostSteps.{choices_fit}
@@ -28,36 +17,12 @@ pub record ArePartsSoFar (split : Split) (versions : List (List ℕ)) (size from
   pub counted : count ≡ count_of parts
   pub few : count ≤ MOST_COMBINATIONS
 
-pub none_so_far : (split : Split) (versions : List (List ℕ)) (size : ℕ) → ArePartsSoFar split versions size 0 [] 1
-none_so_far split versions size =
-    record {
-      within = omega arith;
-      edge = inl refl;
-      after = tt;
-      ends = refl;
-      fit = λ k d lt. absurd (omega arith);
-      some = omega arith;
-      counted = refl;
-      few = omega arith;
-    }
-
-pub all_so_far : (split : Split) (versions : List (List ℕ)) (size from : ℕ) (parts : List Part) (count : ℕ)
-    → ArePartsSoFar split versions size from parts count → ((i : ℕ) → from ≤ i → AgreeAt versions i) → AreFewParts split versions size parts count
-all_so_far split versions size from parts count h rest =
-    record {
-      all = record { next = h.after; rest = subst (λ place. (i : ℕ) → place ≤ i → AgreeAt versions i) (sym h.ends) rest };
-      fit = h.fit;
-      counted = h.counted;
-      few = h.few;
-    }
-
 module _ (split : Split) (versions : List (List ℕ)) (size : ℕ) (long : HaveLength versions size) (some : 0 < length versions) where
   module _ (from : ℕ) (parts : List Part) (count : ℕ) (h : ArePartsSoFar split versions size from parts count)
       (part : Part) (next : IsPartFrom split versions from part.start part.end) (within : part.end ≤ size)
       (choices : AreChoicesBy split versions part.start part.end part.choices) where
     more_after : ArePartsFrom split versions 0 (parts ++ part ∷ [])
-    more_after =
-        parts_push split versions 0 parts part h.after (subst (λ place. IsPartFrom split versions place part.start part.end) (sym h.ends) next) choices
+    more_after = grind (arith, parts_push)
 
     part_fits : IsFit size part
     part_fits =
@@ -72,17 +37,7 @@ module _ (split : Split) (versions : List (List ℕ)) (size : ℕ) (long : HaveL
 
     pub one_more : length part.choices ≤ MOST_COMBINATIONS / count
         → ArePartsSoFar split versions size part.end (parts ++ part ∷ []) (count * length part.choices)
-    one_more few =
-        record {
-          within = within;
-          edge = inr (part.start, next.part);
-          after = more_after;
-          ends = parts_end_push 0 parts part;
-          fit = more_fit;
-          some = count_positive count (length part.choices) h.some (let fit = part_fits in fit.some);
-          counted = more_counted;
-          few = count_fits count (length part.choices) MOST_COMBINATIONS h.some few;
-        }
+    one_more few = grind (arith, more_after, parts_end_push, more_fit, count_positive, part_fits, more_counted, count_fits)
 
     -- with the choices of this part there are too many, whatever follows
     pub too_many_more : MOST_COMBINATIONS / count < length part.choices → HasMany versions split
@@ -101,18 +56,10 @@ module _ (split : Split) (versions : List (List ℕ)) (size : ℕ) (long : HaveL
       let first : List ℕ = get_or versions 0 [] in
       let there = Contains-get_or versions 0 [] some in
       let size_is : length first ≡ size = long first there in
-      let all = numbered split versions parts first (subst (HaveLength versions) (sym size_is) long) there few.all
-      (fit_as (length first) size parts size_is few.fit) in
-      record { numbered = subst (AreNumbered (IsCombinationBy split versions)) (sym few.counted) all; few = few.few }
+      let all = numbered split versions parts first (rw size_is long) there few.all (fit_as (length first) size parts size_is few.fit) in
+      record { numbered = rw few.counted all; few = few.few }
 
   pub finest : (place : ℕ) (parts : List Part) (count : ℕ) → place < length splits → get_or splits place Regions ≡ split
       → ((k : ℕ) → k < place → HasMany versions (get_or splits k Regions)) → AreFewParts split versions size parts count
       → AreTriedParts versions size parts count
-  finest place parts count there is finer few =
-      record { split = split; tried = record { place = place; there = there; is = is; finer = finer; few = has_few parts count few }; few = few }
-
-pub none_few : (versions : List (List ℕ)) → ((k : ℕ) → k < length splits → HasMany versions (get_or splits k Regions)) → AreMany versions
-none_few versions h =
-    record {
-      each = λ split there. subst (HasMany versions) (get_or_default splits there.0 Regions split there.1 ∙ there.2) (h there.0 there.1);
-    }
+  finest place parts count there is finer few = grind (arith, has_few)

@@ -1,25 +1,11 @@
 -- What is found among byte strings that are tried, as they become more.
-use Rattle.std.proofs.Common.{◌≡◌, ℕ, zero, suc, ◌<◌, List, ◌∷◌, length, get_or, sym, subst, arith, inl, inr}
-use Rattle.std.specs.Prelude.{◌⊎◌, Contains}
-use Rattle.ffv1_slice.specs.Members.{IsOnly, IsOfTwo, IsOfNone}
-use Rattle.ffv1_slice.proofs.Links.{Contains-head, Contains-cons}
-use Rattle.ffv1_weave.specs.Checks.{PassesBy}
-use Rattle.ffv1_weave.specs.Inner.Found.{PassesAmong, IsFoundAmong}
-use Rattle.ffv1_weave.specs.declared.check.Check.{Check}
-use Rattle.ffv1_weave.specs.declared.found.Found.{Found}
+use Rattle.ffv1_weave.proofs.Common.{◌≡◌, ℕ, zero, suc, ◌<◌, List, ◌∷◌, length, get_or, arith, inl, inr, ◌⊎◌, Contains, IsOnly, IsOfTwo, IsOfNone, Contains-head, Contains-cons, PassesBy, PassesAmong, IsFoundAmong, Check, Found}
 use Rattle.ffv1_weave.specs.declared.found.Found.TheVariants as found
 
 -- ---- the same fact, said in another way
 
 pub two_as : {X : Type 0} (P Q : X → Type 0) → ((value : X) → P value → Q value) → IsOfTwo P → IsOfTwo Q
-two_as P Q to two =
-    record {
-      one = two.one;
-      other = two.other;
-      one_there = to two.one two.one_there;
-      other_there = to two.other two.other_there;
-      differ = two.differ;
-    }
+two_as P Q to two = grind arith
 
 module _ {X : Type 0} (P Q : X → Type 0) (to : (value : X) → P value → Q value) (from : (value : X) → Q value → P value) where
   pub none_as : IsOfNone P → IsOfNone Q
@@ -43,29 +29,18 @@ module _ (check : Check) (bytes : List ℕ) (tried : List (List ℕ)) where
   found_before other h = record { there = Contains-cons bytes other tried h.there; passes = h.passes }
 
   found_apart : (PassesBy check bytes → ⊥) → (other : List ℕ) → PassesAmong check (bytes ∷ tried) other → PassesAmong check tried other
-  found_apart fails other h = elim (more_cases bytes tried other h.there) [
-    | inl same ↦ absurd (fails (subst (PassesBy check) (sym same) h.passes))
-    | inr there ↦ record { there = there; passes = h.passes }
-  ]
+  found_apart fails other h = grind (arith, more_cases)
 
   -- one that doesn't pass changes nothing
   pub found_skipped : (PassesBy check bytes → ⊥) → (what : Found) → IsFoundAmong check tried what → IsFoundAmong check (bytes ∷ tried) what
   found_skipped fails found.Nothing h = none_as (PassesAmong check tried) (PassesAmong check (bytes ∷ tried)) found_before (found_apart fails) h
-  found_skipped fails (found.One one) h =
-      only_as (PassesAmong check tried) (PassesAmong check (bytes ∷ tried)) found_before (found_apart fails) one.items h
+  found_skipped fails (found.One one) h = grind (arith, only_as, found_before, found_apart)
   found_skipped fails found.Several h = two_as (PassesAmong check tried) (PassesAmong check (bytes ∷ tried)) found_before h
 
   -- another that passes is the second
   pub found_another : PassesBy check bytes → (one : List ℕ) → (one ≡ bytes → ⊥) → IsOnly (PassesAmong check tried) one
       → IsOfTwo (PassesAmong check (bytes ∷ tried))
-  found_another passes one differ only =
-      record {
-        one = one;
-        other = bytes;
-        one_there = found_before one only.there;
-        other_there = record { there = Contains-head bytes tried; passes = passes };
-        differ = differ;
-      }
+  found_another passes one differ only = grind (arith, found_before, Contains-head)
 
   pub found_still : IsOfTwo (PassesAmong check tried) → IsOfTwo (PassesAmong check (bytes ∷ tried))
   found_still = two_as (PassesAmong check tried) (PassesAmong check (bytes ∷ tried)) found_before

@@ -1,14 +1,5 @@
 -- The inversions of one byte string, and what is found among them.
-use Rattle.std.proofs.Common.{◌≡◌, ℕ, zero, suc, ◌+◌, ◌-◌, ◌*◌, ◌<◌, ◌≤◌, List, ◌∷◌, ◌++◌, length, sym, ap, subst, arith, inl, inr}
-use Rattle.std.specs.Prelude.{Contains}
-use Rattle.std.proofs.lemmas.Bool.{cases_lt}
-use Rattle.ffv1_slice.proofs.Links.{Contains-head, Contains-cons}
-use Rattle.ffv1_weave.specs.Checks.{PassesBy}
-use Rattle.ffv1_weave.specs.Inner.Found.{IsFoundAmong}
-use Rattle.ffv1_weave.specs.Inner.Inversions.{inversions_from, inversions}
-use Rattle.ffv1_weave.specs.Repairs.{inverted}
-use Rattle.ffv1_weave.specs.declared.check.Check.TheVariants.{Slice}
-use Rattle.ffv1_weave.specs.declared.found.Found.{Found}
+use Rattle.ffv1_weave.proofs.Common.{◌≡◌, ℕ, zero, suc, ◌+◌, ◌-◌, ◌*◌, ◌<◌, ◌≤◌, List, ◌∷◌, ◌++◌, length, arith, inl, inr, Contains, cases_lt, Contains-head, Contains-cons, PassesBy, IsFoundAmong, inversions_from, inversions, inverted, Slice, Found}
 use Rattle.ffv1_weave.proofs.FoundSteps.{more_cases, found_skipped}
 
 module _ (bytes : List ℕ) where
@@ -16,11 +7,8 @@ module _ (bytes : List ℕ) where
   inversion_there from zero bit low high = absurd (omega arith)
   inversion_there from (suc count) bit low high =
       elim (cases_lt from bit) [
-        | inl later ↦ Contains-cons (inverted bytes from) (inverted bytes bit) (inversions_from bytes (from + 1) count)
-            (inversion_there (from + 1) count bit (omega arith) (omega arith))
-        | inr here ↦ let same : from ≡ bit = omega arith in
-            subst (λ n. Contains (inverted bytes from ∷ inversions_from bytes (from + 1) count) (inverted bytes n)) same
-            (Contains-head (inverted bytes from) (inversions_from bytes (from + 1) count))
+        | inl later ↦ grind (arith, Contains-cons, inversion_there (from + 1) count bit (omega arith) (omega arith))
+        | inr here ↦ grind (arith, Contains-head)
       ]
 
   pub inversion_of : (from count : ℕ) (other : List ℕ) → Contains (inversions_from bytes from count) other
@@ -38,31 +26,23 @@ pub found_bit_before : (bytes : List ℕ) (bit next : ℕ) (tried : List (List �
     → IsFoundAmong Slice (inversions_from bytes bit (8 * length bytes - bit) ++ tried) what
 found_bit_before bytes bit next tried near inside what h =
     let here : 8 * length bytes - bit ≡ suc (8 * length bytes - next) = omega arith in
-    subst (λ n. IsFoundAmong Slice (inversions_from bytes bit n ++ tried) what) (sym here)
-    (subst (λ k. IsFoundAmong Slice (inverted bytes bit ∷ (inversions_from bytes k (8 * length bytes - next) ++ tried)) what) (sym near) h)
+    grind arith
 
 -- so many bits more, where the bytes with one of them inverted never pass
 pub found_bits_skipped : (bytes : List ℕ) (bit : ℕ) (tried : List (List ℕ)) → bit ≤ 8 * length bytes → (what : Found) (count : ℕ)
     → ((next : ℕ) → next < bit → bit ≤ next + count → PassesBy Slice (inverted bytes next) → ⊥)
     → IsFoundAmong Slice (inversions_from bytes bit (8 * length bytes - bit) ++ tried) what
     → IsFoundAmong Slice (inversions_from bytes (bit - count) (8 * length bytes - (bit - count)) ++ tried) what
-found_bits_skipped bytes bit tried within what zero fails h =
-    let here : bit ≡ bit - 0 = omega arith in
-    subst (λ b. IsFoundAmong Slice (inversions_from bytes b (8 * length bytes - b) ++ tried) what) here h
+found_bits_skipped bytes bit tried within what zero fails h = grind arith
 found_bits_skipped bytes bit tried within what (suc count) fails h =
     let fewer = found_bits_skipped bytes bit tried within what count (λ next low high. fails next low (omega arith)) h in
     elim (cases_lt count bit) [
       | inl more ↦ found_bit_before bytes (bit - suc count) (bit - count) tried (omega arith) (omega arith) what
           (found_skipped Slice (inverted bytes (bit - suc count)) (inversions_from bytes (bit - count) (8 * length bytes - (bit - count)) ++ tried)
           (fails (bit - suc count) (omega arith) (omega arith)) what fewer)
-      | inr none ↦ let same : bit - count ≡ bit - suc count = omega arith in
-          subst (λ b. IsFoundAmong Slice (inversions_from bytes b (8 * length bytes - b) ++ tried) what) same fewer
+      | inr none ↦ grind arith
     ]
 
 pub found_all_bits : (bytes first : List ℕ) (bit : ℕ) (tried : List (List ℕ)) → bit ≡ 0 → bytes ≡ first → (what : Found)
     → IsFoundAmong Slice (inversions_from bytes bit (8 * length bytes - bit) ++ tried) what → IsFoundAmong Slice (inversions first ++ tried) what
-found_all_bits bytes first bit tried none same what h =
-    let all : 8 * length bytes - bit ≡ 8 * length first = omega (arith, ap length same) in
-    subst (λ xs. IsFoundAmong Slice (inversions_from xs 0 (8 * length first) ++ tried) what) same
-    (subst (λ n. IsFoundAmong Slice (inversions_from bytes 0 n ++ tried) what) all
-    (subst (λ k. IsFoundAmong Slice (inversions_from bytes k (8 * length bytes - bit) ++ tried) what) none h))
+found_all_bits bytes first bit tried none same what h = grind arith

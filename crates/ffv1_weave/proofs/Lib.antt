@@ -1,3 +1,4 @@
+mod Common
 pub mod References
 pub mod Agreeing
 pub mod RegionSteps

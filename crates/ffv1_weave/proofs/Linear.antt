@@ -1,22 +1,6 @@
 -- What is left of bytes is a sum: what a choice changes of it rests on the choice, on what stood in its place, and on the place alone.
-use Rattle.std.proofs.Common.{◌≡◌, ℕ, ◌+◌, ◌-◌, ◌/◌, ◌%◌, ◌<◌, ◌≤◌, List, [], ◌∷◌, ◌++◌, length, get_or, take, drop, map, Bor, refl, sym, ap, ◌∙◌, subst, arith}
-use Rattle.std.specs.Prelude.{All, slice_range, bit_xor}
-use Rattle.std.specs.Int.Bits.{xor_comm, xor_self}
-use Rattle.std.proofs.lemmas.List.{length-drop, length-map, get_or-map, take_more, length-take-le}
-use Rattle.std.proofs.lemmas.List.Edits.{split_between, length-between}
-use Rattle.std.proofs.lemmas.List.Elements.{All-map, All-weaker}
-use Rattle.ffv1_bits.proofs.Sums.{xor_twice}
-use Rattle.ffv1_bits.proofs.SameChanges.{AreSameChanges, all_kept, all_changed, changes_append, remainder_changes}
-use Rattle.ebml_crc.proofs.Elements.{right_leaves_none, element_changes}
-use Rattle.ffv1_weave.specs.Checks.{PassesBy}
-use Rattle.ffv1_weave.specs.Inner.Parts.{Part, ArePartsFrom, IsFit, chosen}
-use Rattle.ffv1_weave.specs.Parts.{written}
-use Rattle.ffv1_weave.specs.Inner.Changes.{remainder_in, change_of, changes_of, changed}
-use Rattle.ffv1_weave.specs.declared.check.Check.{Check}
-use Rattle.ffv1_weave.specs.declared.check.Check.TheVariants.{Slice, Element, Record, Flac}
-use Rattle.ffv1_weave.specs.declared.splits.Split.{Split}
+use Rattle.ffv1_weave.proofs.Common.{◌≡◌, ℕ, ◌+◌, ◌-◌, ◌/◌, ◌%◌, ◌<◌, ◌≤◌, List, [], ◌∷◌, ◌++◌, length, get_or, take, drop, map, Bor, refl, sym, ap, ◌∙◌, subst, arith, All, slice_range, bit_xor, xor_comm, xor_self, length-drop, length-map, get_or-map, take_more, length-take-le, split_between, length-between, All-map, All-weaker, xor_twice, AreSameChanges, all_kept, all_changed, changes_append, remainder_changes, right_leaves_none, element_changes, PassesBy, Part, ArePartsFrom, IsFit, chosen, written, remainder_in, change_of, changes_of, changed, Check, Slice, Element, Record, Flac, Split, values_of}
 use Rattle.ffv1_weave.proofs.SplitSteps.{part_some}
-use Rattle.ffv1_weave.specs.References.{values_of}
 use Rattle.ffv1_weave.proofs.References.{value_at, length-values_of}
 use Rattle.ffv1_weave.proofs.Choices.{length-written, written_after, same_range, choice_of, choice_size, digit_below, fit_as, fit_head, fit_tail, fits_in}
 
@@ -39,32 +23,23 @@ same_changes Flac a b c d h = refl
 
 -- bytes with a byte string written over them that stands there already
 written_same : (bytes : List ℕ) (start : ℕ) (choice : List ℕ) → slice_range bytes start (start + length choice) ≡ choice → written bytes start choice ≡ bytes
-written_same bytes start choice same =
-    ap (λ p. take start bytes ++ (p ++ drop (start + length choice) bytes)) (sym same)
-    ∙ sym (split_between bytes start (start + length choice) (omega arith))
+written_same bytes start choice same = grind (arith, split_between)
 
 -- such a byte string changes nothing
 pub change_of_same : (check : Check) (bytes : List ℕ) (start : ℕ) (choice : List ℕ) → slice_range bytes start (start + length choice) ≡ choice
     → change_of check bytes start choice ≡ 0
-change_of_same check bytes start choice same =
-    ap (λ after. bit_xor (remainder_in check after) (remainder_in check bytes)) (written_same bytes start choice same)
-    ∙ xor_self (remainder_in check bytes)
+change_of_same check bytes start choice same = cc (written_same bytes start choice same, xor_self (remainder_in check bytes))
 
 -- What a byte string changes is the same in all bytes that are the same in its place.
 change_alike : (a b : List ℕ) (start end : ℕ) (choice : List ℕ) → length a ≡ length b → start + length choice ≡ end → end ≤ length b
     → slice_range a start end ≡ slice_range b start end → AreSameChanges (written a start choice) a (written b start choice) b
 change_alike a b start end choice long ends within same =
     let after : ℕ = start + length choice in
-    let split_a : take start a ++ (slice_range a start end ++ drop (start + length choice) a) ≡ a =
-    sym (split_between a start end (omega arith) ∙ ap (λ n. take start a ++ (slice_range a start end ++ drop n a)) (sym ends)) in
-    let split_b : take start b ++ (slice_range b start end ++ drop (start + length choice) b) ≡ b =
-    sym (split_between b start end (omega arith) ∙ ap (λ n. take start b ++ (slice_range b start end ++ drop n b)) (sym ends)) in
+    let split_a : take start a ++ (slice_range a start end ++ drop (start + length choice) a) ≡ a = cc (split_between a start end (omega arith)) in
+    let split_b : take start b ++ (slice_range b start end ++ drop (start + length choice) b) ≡ b = cc (split_between b start end (omega arith)) in
     let front : length (take start a) ≡ length (take start b) = length-take-le start a (omega arith) ∙ sym (length-take-le start b (omega arith)) in
-    let back : length (drop after a) ≡ length (drop after b) =
-    length-drop (start + length choice) a ∙ ap (λ n. n - (start + length choice)) long ∙ sym (length-drop (start + length choice) b) in
-    let middle : AreSameChanges choice (slice_range a start end) choice (slice_range b start end) =
-    subst (AreSameChanges choice (slice_range a start end) choice) same
-    (all_changed choice (slice_range a start end) (omega (arith, length-between a start end (omega arith)))) in
+    let back : length (drop after a) ≡ length (drop after b) = cc (length-drop (start + length choice) a, length-drop (start + length choice) b) in
+    let middle : AreSameChanges choice (slice_range a start end) choice (slice_range b start end) = grind (arith, all_changed, length-between) in
     let whole = changes_append (take start a) (take start a) (take start b) (take start b) (choice ++ drop after a) (slice_range a start end ++ drop after a)
     (choice ++ drop after b) (slice_range b start end ++ drop after b) (all_kept (take start a) (take start b) front)
     (changes_append choice (slice_range a start end) choice (slice_range b start end) (drop after a) (drop after a) (drop after b) (drop after b) middle
@@ -104,21 +79,16 @@ module _ (check : Check) (split : Split) (versions : List (List ℕ)) (first : L
       get_or-map (change_of check first part.start) part.choices (code % n) [] 0 digit in
       let here : slice_range bytes part.start part.end ≡ slice_range first part.start part.end =
       same_range bytes first part.start part.end within (omega arith) (λ i low below. same i (omega arith)) in
-      ap (λ m. changed (map (changes_of check first) parts) (code / m) (bit_xor (remainder_in check bytes) (get_or (changes_of check first part) (code % m) 0))) many
-      ∙ ap (λ x. changed (map (changes_of check first) parts) (code / n) (bit_xor (remainder_in check bytes) x)) entry
-      ∙ ap (changed (map (changes_of check first) parts) (code / n)) (changed_by check bytes first part.start part.end choice long ends (omega arith) here)
-      ∙ changed_is part.end parts (code / n) (written bytes part.start choice) are.2
-      (fit_as (length (written bytes part.start choice)) (length bytes) parts (length-written bytes part.start choice fits)
-      (fit_tail (length bytes) part parts fit))
-      (length-written bytes part.start choice fits ∙ long)
-      (λ i low. written_after bytes part.start choice fits i (omega arith) ∙ same i (omega arith))
+      cc (
+        changed_by check bytes first part.start part.end choice long ends (omega arith) here,
+        changed_is part.end parts (code / n) (written bytes part.start choice) are.2 (fit_as (length (written bytes part.start choice)) (length bytes) parts (length-written bytes part.start choice fits) (fit_tail (length bytes) part parts fit)) (length-written bytes part.start choice fits ∙ long) (λ i low. written_after bytes part.start choice fits i (omega arith) ∙ same i (omega arith)),
+      )
 
 -- ---- the choices of a part, as the code has them
 
 pub choice_there : (choices : List (Bor (List ℕ))) (part : Part) (i : ℕ) (d : Bor (List ℕ)) → values_of choices ≡ part.choices → i < length choices
     → (i < length part.choices) × ((get_or choices i d).now ≡ choice_of part i)
-choice_there choices part i d is lt =
-    (omega (arith, length-values_of choices, ap length is), sym (value_at choices i d [] lt) ∙ ap (λ ps. get_or ps i []) is)
+choice_there choices part i d is lt = grind (arith, length-values_of, value_at)
 
 pub changes_more : (check : Check) (first : List ℕ) (part : Part) (i : ℕ) → i < length part.choices
     → take i (changes_of check first part) ++ change_of check first part.start (choice_of part i) ∷ [] ≡ take (i + 1) (changes_of check first part)

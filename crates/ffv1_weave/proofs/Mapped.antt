@@ -1,9 +1,5 @@
 -- What is made of each member of a list.
-use Rattle.std.proofs.Common.{◌≡◌, ℕ, ◌<◌, List, [], length, get_or, map, sym, ap, ◌∙◌, subst, arith}
-use Rattle.std.specs.Prelude.{Contains}
-use Rattle.std.proofs.lemmas.List.{get_or-map, length-map}
-use Rattle.std.proofs.lemmas.List.Elements.{Contains-get_or}
-use Rattle.ffv1_slice.specs.Members.{HasSameMembers}
+use Rattle.ffv1_weave.proofs.Common.{◌≡◌, ℕ, ◌<◌, List, [], length, get_or, map, sym, ap, ◌∙◌, subst, arith, Contains, get_or-map, length-map, Contains-get_or, HasSameMembers}
 
 module _ (f : List ℕ → List ℕ) where
   pub mapped_there : (xs : List (List ℕ)) (x : List ℕ) → Contains xs x → Contains (map f xs) (f x)

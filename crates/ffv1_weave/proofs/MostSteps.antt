@@ -1,19 +1,5 @@
 -- What most versions have between two places: how many versions have a byte string there, and that there is one that most have.
-use Rattle.std.proofs.Common.{◌≡◌, ℕ, zero, suc, ◌+◌, ◌<◌, ◌≤◌, List, [], ◌∷◌, ◌++◌, length, get_or, take, true, false, refl, sym, ap, ◌∙◌, subst, arith, inl, inr}
-use Rattle.std.specs.Prelude.{◌⊎◌, Contains, slice_range}
-use Rattle.std.specs.Bool.{Decides}
-use Rattle.std.specs.Str.{bytes_eq}
-use Rattle.std.proofs.lemmas.Bool.{cases_lt, false≢true}
-use Rattle.std.proofs.lemmas.List.{length_push, get_or_default, get_or-take, length-take-le, take_more, take_all}
-use Rattle.std.proofs.lemmas.List.Edits.{length-between}
-use Rattle.std.proofs.lemmas.List.Elements.{Contains-append_left, Contains-append_right, Contains-append_cases, Contains-get_or}
-use Rattle.std.proofs.lemmas.Slice.Eq.{bytes_eq-Decides}
-use Rattle.ffv1_weave.specs.Numbers.{AreNumbered}
-use Rattle.ffv1_weave.specs.Splits.{IsChoiceOf, IsChoiceBy, HasChoice, IsMost}
-use Rattle.ffv1_weave.specs.Regions.{HaveLength}
-use Rattle.ffv1_weave.specs.Inner.Parts.{AreChoices, AreChoicesBy, AreDistinct, IsFit}
-use Rattle.ffv1_weave.specs.declared.splits.Split.{Split}
-use Rattle.ffv1_weave.specs.declared.splits.Split.TheVariants.{Pairs, Regions, Most}
+use Rattle.ffv1_weave.proofs.Common.{◌≡◌, ℕ, zero, suc, ◌+◌, ◌<◌, ◌≤◌, List, [], ◌∷◌, ◌++◌, length, get_or, take, true, false, refl, sym, ap, ◌∙◌, subst, arith, inl, inr, ◌⊎◌, Contains, slice_range, Decides, bytes_eq, cases_lt, false≢true, length_push, get_or_default, get_or-take, length-take-le, take_more, take_all, length-between, Contains-append_left, Contains-append_right, Contains-append_cases, Contains-get_or, bytes_eq-Decides, AreNumbered, IsChoiceOf, IsChoiceBy, HasChoice, IsMost, HaveLength, AreChoices, AreChoicesBy, AreDistinct, IsFit, Split, Pairs, Regions, Most}
 use Rattle.ffv1_weave.proofs.ChoiceSteps.{alone, listed_at, pushed_at, once_pushed}
 use Rattle.ffv1_weave.proofs.Numbering.{one_number}
 use Rattle.ffv1_weave.proofs.Agreeing.{at_index}
@@ -53,8 +39,7 @@ module _ (start end : ℕ) (choice : List ℕ) (versions : List (List ℕ)) (ver
         all = λ other has. h.all other (record {
           there = elim (Contains-append_cases versions (version ∷ []) other has.there) [
             | inl there ↦ there
-            | inr new ↦ let is = alone version other new in
-                subst (Contains versions) (sym is) (known (has.has ∙ ap (λ v. slice_range v start end) is))
+            | inr new ↦ grind (arith, alone)
           ];
           has = has.has;
         });
@@ -115,12 +100,7 @@ have_none start end choice =
 
 -- none of them stands before itself
 pub not_before : (versions : List (List ℕ)) (i : ℕ) → AreDistinct versions → i < length versions → Contains (take i versions) (get_or versions i []) → ⊥
-not_before versions i distinct lt there =
-    let long = length-take-le i versions (omega arith) in
-    let low : there.0 < i = omega (arith, there.1) in
-    let same = distinct there.0 i (omega arith) lt
-    (sym (get_or-take i versions there.0 [] low) ∙ get_or_default (take i versions) there.0 [] (get_or versions i []) there.1 ∙ there.2) in
-    omega arith
+not_before versions i distinct lt there = grind (arith, length-take-le, get_or-take, get_or_default)
 
 -- ---- how many there are
 
@@ -174,17 +154,7 @@ module _ (versions : List (List ℕ)) (start end : ℕ) where
   pub most_of : (choice : List ℕ) (count : ℕ) → AreNumbered (HasChoice versions start end choice) count
       → ((version : List ℕ) (more : ℕ) → Contains versions version → AreNumbered (HasChoice versions start end (slice_range version start end)) more → more ≤ count)
       → IsMost versions start end choice
-  most_of choice count have least =
-      record {
-        count = count;
-        have = have;
-        others = λ other more numbers. elim (cases_lt 0 more) [
-          | inr none ↦ omega arith
-          | inl some ↦
-              let has = numbers.are 0 some in
-              least (numbers.at 0) more has.there (subst (λ p. AreNumbered (HasChoice versions start end p) more) has.has numbers)
-        ];
-      }
+  most_of choice count have least = grind (arith, cases_lt)
 
   record HasGreatest (n : ℕ) : Type 0 where
     version : List ℕ
@@ -199,24 +169,8 @@ module _ (versions : List (List ℕ)) (start end : ℕ) where
       let old : ℕ = votes_for (slice_range rest.version start end) in
       let new : ℕ = votes_for (slice_range (get_or versions n []) start end) in
       elim (cases_lt old new) [
-        | inr low ↦ record {
-          version = rest.version;
-          there = rest.there;
-          greatest = λ k lt. elim (cases_lt k n) [
-            | inl below ↦ rest.greatest k below
-            | inr above ↦ let here : n ≡ k = omega arith in
-                subst (λ m. votes_for (slice_range (get_or versions m []) start end) ≤ old) here low
-          ];
-        }
-        | inl high ↦ record {
-          version = get_or versions n [];
-          there = Contains-get_or versions n [] (omega arith);
-          greatest = λ k lt. elim (cases_lt k n) [
-            | inl below ↦ let least = rest.greatest k below in omega arith
-            | inr above ↦ let here : n ≡ k = omega arith in
-                subst (λ m. votes_for (slice_range (get_or versions m []) start end) ≤ new) here (omega arith)
-          ];
-        }
+        | inr low ↦ grind (arith, cases_lt)
+        | inl high ↦ grind (arith, Contains-get_or, cases_lt)
       ]
 
   -- There is a byte string that most versions have.
@@ -254,8 +208,7 @@ module _ (split : Split) (start end : ℕ) where
         order = order;
         within = within;
         some = let taken = some_taken split versions start end some in let there = h.each taken.0 taken.1 in omega (arith, there.1);
-        fill = λ k lt. let p = choice_of_some split versions start end (get_or choices k []) (h.only k lt) in
-            ap length p.2 ∙ length-between p.0 start end (omega (arith, long p.0 p.1));
+        fill = grind (arith, choice_of_some, length-between);
       }
 
 module _ (versions : List (List ℕ)) (start end : ℕ) (choices : List (List ℕ)) (are : AreChoices versions start end choices) where
@@ -289,25 +242,17 @@ module _ (versions : List (List ℕ)) (start end : ℕ) (choices : List (List �
   module _ (i : ℕ) (most : List (List ℕ)) (greatest count : ℕ) (lt_i : i < length choices) (have : Have versions start end (get_or choices i []) count)
       (h : AreMostSoFar versions start end choices i most greatest) where
     same_count : (k other : ℕ) → k ≡ i → Have versions start end (get_or choices k []) other → other ≡ count
-    same_count k other is numbers =
-        one_number (HasChoice versions start end (get_or choices i [])) other count (subst (λ n. Have versions start end (get_or choices n []) other) is numbers) have
+    same_count k other is numbers = grind (arith, one_number)
 
     -- no more than a bound have the next one, as those before it
     least_next : (bound : ℕ) → greatest ≤ bound → count ≤ bound → (k other : ℕ) → k < i + 1 → Have versions start end (get_or choices k []) other → other ≤ bound
-    least_next bound old new k other lt numbers = elim (cases_lt k i) [
-      | inl below ↦ let low = h.least k other below numbers in omega arith
-      | inr above ↦ let same = same_count k other (omega arith) numbers in omega arith
-    ]
+    least_next bound old new k other lt numbers = grind (arith, cases_lt, same_count)
 
     -- all that so many have are listed, where those before it and itself are
     each_next : (now : List (List ℕ)) (bound : ℕ) → ((k : ℕ) → k < i → Have versions start end (get_or choices k []) bound → Contains now (get_or choices k []))
         → (Have versions start end (get_or choices i []) bound → Contains now (get_or choices i []))
         → (k : ℕ) → k < i + 1 → Have versions start end (get_or choices k []) bound → Contains now (get_or choices k [])
-    each_next now bound old new k lt numbers = elim (cases_lt k i) [
-      | inl below ↦ old k below numbers
-      | inr above ↦ let here : i ≡ k = omega arith in
-          subst (λ n. Have versions start end (get_or choices n []) bound → Contains now (get_or choices n [])) here new numbers
-    ]
+    each_next now bound old new k lt numbers = grind (arith, cases_lt)
 
     -- fewer have the next one
     pub most_fewer : count < greatest → AreMostSoFar versions start end choices (i + 1) most greatest
@@ -328,10 +273,8 @@ module _ (versions : List (List ℕ)) (start end : ℕ) (choices : List (List �
           within = omega arith;
           least = least_next count (omega arith) (omega arith);
           reached = inr (get_or choices i [], have);
-          each = each_next (get_or choices i [] ∷ []) count (λ k below numbers. let low = h.least k count below numbers in absurd (omega arith))
-              (λ numbers. (0, omega arith, refl));
-          only = λ k lt. let first : k ≡ 0 = omega arith in
-              (i, omega arith, ap (λ n. get_or (get_or choices i [] ∷ []) n []) first, have);
+          each = grind (arith, each_next);
+          only = grind arith;
           once = λ j k low lt same. omega arith;
         }
 

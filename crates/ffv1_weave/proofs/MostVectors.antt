@@ -1,7 +1,5 @@
 -- Three versions of two bytes: the first byte is another one in each, and the second is the same in two of them.
-use Rattle.std.proofs.Common.{◌≡◌, ℕ, zero, suc, ◌<◌, List, [], ◌∷◌, get_or, ap, arith}
-use Rattle.std.specs.Prelude.{slice_range}
-use Rattle.ffv1_weave.specs.Splits.{IsMost}
+use Rattle.ffv1_weave.proofs.Common.{◌≡◌, ℕ, zero, suc, ◌<◌, List, [], ◌∷◌, get_or, ap, arith, slice_range, IsMost}
 use Rattle.ffv1_weave.proofs.ThreeVersions.{is_most, is_not_most}
 
 abbrev one : List ℕ

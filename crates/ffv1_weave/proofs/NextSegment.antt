@@ -1,10 +1,5 @@
 -- The next segment after a place: whether a place is a boundary, and where the next one is.
-use Rattle.std.proofs.Common.{◌≡◌, ℕ, zero, suc, ◌+◌, ◌-◌, ◌<◌, ◌≤◌, List, [], length, get_or, refl, sym, ◌∙◌, subst, arith, inl, inr}
-use Rattle.std.specs.Prelude.{◌⊎◌, Contains}
-use Rattle.std.proofs.lemmas.Bool.{cases_lt, cases_eq}
-use Rattle.std.proofs.lemmas.List.Elements.{Contains-get_or}
-use Rattle.ffv1_weave.specs.Regions.{HaveLength}
-use Rattle.ffv1_weave.specs.Boundaries.{BeginsStreak, EndsStreak, AreParted, IsBoundary, IsSegment}
+use Rattle.ffv1_weave.proofs.Common.{◌≡◌, ℕ, zero, suc, ◌+◌, ◌-◌, ◌<◌, ◌≤◌, List, [], length, get_or, refl, sym, subst, arith, inl, inr, ◌⊎◌, Contains, cases_lt, cases_eq, Contains-get_or, HaveLength, BeginsStreak, EndsStreak, AreParted, IsBoundary, IsSegment}
 use Rattle.ffv1_weave.proofs.Agreeing.{at_index}
 
 -- ---- two versions
@@ -16,13 +11,7 @@ module _ (one other : List ℕ) where
   same_places from zero = inl (λ i low lt. absurd (omega arith))
   same_places from (suc count) = elim (cases_eq (get_or one (from + count) 0) (get_or other (from + count) 0)) [
     | inr apart ↦ inr (from + count, omega arith, omega arith, apart)
-    | inl same ↦ elim (same_places from count) [
-      | inr found ↦ inr (found.0, found.1, (let below = found.2 in omega arith), found.3)
-      | inl rest ↦ inl (λ i low lt. elim (cases_lt i (from + count)) [
-        | inl below ↦ rest i low below
-        | inr above ↦ let here : from + count ≡ i = omega arith in subst (λ n. get_or one n 0 ≡ get_or other n 0) here same
-      ])
-    ]
+    | inl same ↦ grind (arith, cases_lt, same_places from count)
   ]
 
   begins_or_not : (distance place : ℕ) → BeginsStreak distance one other place ⊎ (BeginsStreak distance one other place → ⊥)
@@ -37,8 +26,7 @@ module _ (one other : List ℕ) where
   ends_or_not : (distance place : ℕ) → EndsStreak distance one other place ⊎ (EndsStreak distance one other place → ⊥)
   ends_or_not distance zero = inr (λ h. let next = h.next in absurd (omega arith))
   ends_or_not distance (suc last) = elim (cases_eq (get_or one last 0) (get_or other last 0)) [
-    | inl same ↦ inr (λ h. let next = h.next in let is : last ≡ h.last = omega arith in
-        h.differ (subst (λ n. get_or one n 0 ≡ get_or other n 0) is same))
+    | inl same ↦ grind arith
     | inr apart ↦ elim (same_places (suc last) distance) [
       | inl after ↦ inl (record { last = last; next = omega arith; differ = apart; after = λ i low lt. after i low lt })
       | inr found ↦ inr (λ h. found.3 (h.after found.0 found.1 found.2))
@@ -46,13 +34,7 @@ module _ (one other : List ℕ) where
   ]
 
   parted_or_not : (distance place : ℕ) → AreParted distance one other place ⊎ (AreParted distance one other place → ⊥)
-  parted_or_not distance place = elim (begins_or_not distance place) [
-    | inl begins ↦ inl (inl begins)
-    | inr new ↦ elim (ends_or_not distance place) [
-      | inl ends ↦ inl (inr ends)
-      | inr goes ↦ inr (λ h. elim h [ inl begins ↦ new begins | inr ends ↦ goes ends ])
-    ]
-  ]
+  parted_or_not distance place = grind (arith, begins_or_not, ends_or_not)
 
 -- ---- all versions
 
@@ -62,13 +44,7 @@ some_or_none : (versions : List (List ℕ)) (P : List ℕ → Type 0) → ((vers
 some_or_none versions P whether zero within = inr (λ k lt. absurd (omega arith))
 some_or_none versions P whether (suc n) within = elim (whether (get_or versions n [])) [
   | inl is ↦ inl (get_or versions n [], Contains-get_or versions n [] (omega arith), is)
-  | inr never ↦ elim (some_or_none versions P whether n (omega arith)) [
-    | inl found ↦ inl found
-    | inr none ↦ inr (λ k lt is. elim (cases_lt k n) [
-      | inl below ↦ none k below is
-      | inr above ↦ let here : k ≡ n = omega arith in never (subst (λ m. P (get_or versions m [])) here is)
-    ])
-  ]
+  | inr never ↦ grind (arith, cases_lt, some_or_none versions P whether n (omega arith))
 ]
 
 pub one_or_none : (versions : List (List ℕ)) (P : List ℕ → Type 0) → ((version : List ℕ) → P version ⊎ (P version → ⊥))
@@ -140,17 +116,4 @@ module _ (distance : ℕ) (versions : List (List ℕ)) where
   next_segment from size long some below first =
       let next = next_boundary from size below in
       let there = Contains-get_or versions 0 [] some in
-      record {
-        end = next.end;
-        within = next.within;
-        segment = record {
-          some = next.beyond;
-          first = first;
-          last = elim next.last [
-            | inl boundary ↦ inl boundary
-            | inr at_end ↦ inr (get_or versions 0 [], there, at_end ∙ sym (long (get_or versions 0 []) there))
-          ];
-          within = next.quiet;
-        };
-        last = next.last;
-      }
+      grind arith

@@ -1,8 +1,5 @@
 -- The values of a fact have one number.
-use Rattle.std.proofs.Common.{◌≡◌, ℕ, zero, suc, ◌+◌, ◌<◌, ◌≤◌, cond, eqb, eq-eqb, true, false, refl, sym, ap, ◌∙◌, arith, inl, inr}
-use Rattle.std.specs.Prelude.{◌⊎◌}
-use Rattle.std.proofs.lemmas.Bool.{cases_lt, cases_eq, eqb-true}
-use Rattle.ffv1_weave.specs.Numbers.{AreNumbered, AreMoreThan}
+use Rattle.ffv1_weave.proofs.Common.{◌≡◌, ℕ, zero, suc, ◌+◌, ◌<◌, ◌≤◌, cond, eqb, eq-eqb, arith, inl, inr, ◌⊎◌, cases_lt, cases_eq, eqb-true, AreNumbered, AreMoreThan}
 
 -- numbers below the one go to different ones below the other
 pub record IsInto (f : ℕ → ℕ) (m n : ℕ) : Type 0 where
@@ -14,41 +11,15 @@ abbrev moved : (ℕ → ℕ) → ℕ → ℕ → ℕ → ℕ
 moved f m n i = cond (eqb (f i) n) (f m) (f i)
 
 moved_cases : (f : ℕ → ℕ) (m n i : ℕ) → ((f i ≡ n) × (moved f m n i ≡ f m)) ⊎ ((f i ≡ n → ⊥) × (moved f m n i ≡ f i))
-moved_cases f m n i =
-    elim (cases_eq (f i) n) [
-      | inl is ↦ inl (is, ap (λ b. cond b (f m) (f i)) (eqb_yes (f i) n is))
-      | inr apart ↦ inr (apart, ap (λ b. cond b (f m) (f i)) (eqb_no (f i) n apart))
-    ]
-  where
-    eqb_yes : (a b : ℕ) → a ≡ b → eqb a b ≡ true
-    eqb_yes a b is = eq-eqb a b is
-
-    eqb_no : (a b : ℕ) → (a ≡ b → ⊥) → eqb a b ≡ false
-    eqb_no a b apart =
-        elim (eqb a b) as (λ t. eqb a b ≡ t → t ≡ false) [ true ↦ λ e. absurd (apart (eqb-true a b e)) | false ↦ λ e. refl ] refl
+moved_cases f m n i = grind (arith, cases_eq, eq-eqb, eqb-true)
 
 pub no_more : (m n : ℕ) (f : ℕ → ℕ) → IsInto f m n → m ≤ n
 no_more zero n f h = omega arith
 no_more (suc m) zero f h = let none = h.below 0 (omega arith) in absurd (omega arith)
 no_more (suc m) (suc n) f h =
     let rest = no_more m n (moved f m n) (record {
-      below = λ i lt. let here = h.below i (omega arith) in let last = h.below m (omega arith) in
-          elim (moved_cases f m n i) [
-            | inl is ↦ let apart : f m ≡ n → ⊥ = λ e. let same = h.once i m (omega arith) (omega arith) (is.0 ∙ sym e) in omega arith in
-                let moves = is.1 in omega arith
-            | inr is ↦ let stays = is.1 in let apart = is.0 in omega arith
-          ];
-      once = λ i j low lt same.
-          elim (moved_cases f m n i) [
-            | inl i_is ↦ elim (moved_cases f m n j) [
-              | inl j_is ↦ h.once i j (omega arith) (omega arith) (i_is.0 ∙ sym j_is.0)
-              | inr j_is ↦ let e = h.once m j (omega arith) (omega arith) (sym i_is.1 ∙ same ∙ j_is.1) in absurd (omega arith)
-            ]
-            | inr i_is ↦ elim (moved_cases f m n j) [
-              | inl j_is ↦ let e = h.once i m (omega arith) (omega arith) (sym i_is.1 ∙ same ∙ j_is.1) in absurd (omega arith)
-              | inr j_is ↦ h.once i j (omega arith) (omega arith) (sym i_is.1 ∙ same ∙ j_is.1)
-            ]
-          ];
+      below = grind (arith, moved_cases);
+      once = grind (arith, moved_cases);
     }) in
     omega arith
 
@@ -69,8 +40,7 @@ module _ {X : Type 0} (Q : X → Type 0) (m n : ℕ) (at : ℕ → X) (are : (k 
   numbers_within =
       no_more m n (λ i. place i (cases_lt i m)) (record {
         below = λ i lt. let is = place_is i (cases_lt i m) lt in is.0;
-        once = λ i j low lt same. let one = place_is i (cases_lt i m) low in let other = place_is j (cases_lt j m) lt in
-            once i j low lt (sym one.1 ∙ ap numbers.at same ∙ other.1);
+        once = grind (arith, place_is, cases_lt);
       })
 
 pub one_number : {X : Type 0} (P : X → Type 0) (m n : ℕ) → AreNumbered P m → AreNumbered P n → m ≡ n

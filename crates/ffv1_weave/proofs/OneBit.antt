@@ -1,27 +1,5 @@
 -- One inverted bit changes the remainder by what is left of its power of x.
-use Rattle.std.proofs.Common.{◌≡◌, ℕ, zero, suc, ◌+◌, ◌-◌, ◌*◌, ◌/◌, ◌%◌, ◌^◌, ◌<◌, Bool, false, cond, List, [], ◌∷◌, ◌++◌, length, get_or, set, take, drop, replicate, refl, sym, ap, ◌∙◌, arith, lit<, add-zero, zero-add, append_assoc, eq-eqb}
-use Rattle.std.specs.Prelude.{bit_xor}
-use Rattle.std.specs.List.{fold}
-use Rattle.std.specs.Int.{bit_at}
-use Rattle.std.specs.Int.Bits.{xor_block, xor_comm, xor_self, xor_zero_l, xor_zero_r, xor_lt}
-use Rattle.std.proofs.Math.Nat.{mod-eq_of_lt, pow-suc}
-use Rattle.std.proofs.Math.Pow.{pow-lt}
-use Rattle.std.proofs.lemmas.Grind.{flat_map-append}
-use Rattle.std.proofs.lemmas.List.{length-drop, length-replicate, take-append-drop, drop_more, take-set, drop-set, set-set, set-get_or, get_or-set_same}
-use Rattle.std.proofs.lemmas.List.Sums.{fold-append}
-use Rattle.ffv1_bits.specs.Bits.{number_bits, bits_of}
-use Rattle.ffv1_bits.specs.Parity.{divisor, divided, remainder_of, polynomial_of}
-use Rattle.ffv1_bits.specs.Inner.Division.{reduced_at}
-use Rattle.ffv1_bits.proofs.Burst.{length-bits}
-use Rattle.ffv1_bits.proofs.Division.{shifted, remainder_is_fold, divided-xor, divided_low, reduced_low}
-use Rattle.ffv1_bits.proofs.Register.{remainder_push}
-use Rattle.ffv1_bits.proofs.SameChanges.{all_kept, fold_changes}
-use Rattle.ffv1_bits.proofs.Sums.{xor_twice}
-use Rattle.ffv1_weave.specs.Checks.{PassesBy}
-use Rattle.ffv1_weave.specs.Parts.{written}
-use Rattle.ffv1_weave.specs.Inner.Inversions.{times_x}
-use Rattle.ffv1_weave.specs.Repairs.{inverted}
-use Rattle.ffv1_weave.specs.declared.check.Check.TheVariants.{Slice}
+use Rattle.ffv1_weave.proofs.Common.{◌≡◌, ℕ, zero, suc, ◌+◌, ◌-◌, ◌*◌, ◌/◌, ◌%◌, ◌^◌, ◌<◌, Bool, false, List, [], ◌∷◌, ◌++◌, length, get_or, set, take, drop, replicate, refl, sym, ap, ◌∙◌, arith, lit<, add-zero, zero-add, append_assoc, eq-eqb, bit_xor, fold, bit_at, xor_block, xor_comm, xor_self, xor_zero_l, xor_zero_r, xor_lt, mod-eq_of_lt, pow-suc, pow-lt, flat_map-append, length-drop, length-replicate, take-append-drop, drop_more, take-set, drop-set, set-set, set-get_or, get_or-set_same, fold-append, number_bits, bits_of, divided, remainder_of, polynomial_of, reduced_at, length-bits, shifted, remainder_is_fold, divided-xor, divided_low, reduced_low, remainder_push, all_kept, fold_changes, xor_twice, PassesBy, written, times_x, inverted, Slice}
 use Rattle.ffv1_weave.proofs.Choices.{length-written}
 
 -- ---- what is left of a power of x
@@ -31,16 +9,12 @@ power_left n = times_x 1 n
 
 low_power : (n : ℕ) → n < 32 → power_left n ≡ 2 ^ n
 low_power zero small = refl
-low_power (suc n) small =
-    let power : 2 ^ n * 2 ≡ 2 ^ suc n = sym (pow-suc 2 n) in
-    ap (λ p. reduced_at 0 (p * 2)) (low_power n (omega arith)) ∙ ap (reduced_at 0) power ∙ reduced_low 0 (2 ^ suc n) (pow-lt small)
+low_power (suc n) small = grind (arith, pow-suc, reduced_low, pow-lt, low_power n (omega arith))
 
 pub times_zeros : (left m n : ℕ) → fold shifted (times_x left m) (replicate n false) ≡ times_x left (m + n)
 unfolding shifted
 times_zeros left m zero = ap (times_x left) (sym (add-zero m))
-times_zeros left m (suc n) =
-    let next : suc m + n ≡ m + suc n = omega arith in
-    ap (λ p. fold shifted (reduced_at 0 p) (replicate n false)) (add-zero (times_x left m * 2)) ∙ times_zeros left (suc m) n ∙ ap (times_x left) next
+times_zeros left m (suc n) = grind (arith, shifted, replicate, add-zero, times_zeros left (suc m) n)
 
 pub zeros_after : (m n : ℕ) → fold shifted (power_left m) (replicate n false) ≡ power_left (m + n)
 zeros_after m n = times_zeros 1 m n
@@ -58,9 +32,7 @@ zeros_leave_none (suc n) = ap (λ r. fold shifted r (replicate n false)) (reduce
 
 remainder_append : (xs ys : List ℕ) → remainder_of (bits_of (xs ++ ys)) ≡ fold shifted (remainder_of (bits_of xs)) (bits_of ys)
 unfolding bits_of
-remainder_append xs ys =
-    remainder_is_fold (bits_of (xs ++ ys)) ∙ ap (fold shifted 0) (flat_map-append (number_bits 8) xs ys) ∙ fold-append shifted 0 (bits_of xs) (bits_of ys)
-    ∙ ap (λ r. fold shifted r (bits_of ys)) (sym (remainder_is_fold (bits_of xs)))
+remainder_append xs ys = grind (arith, remainder_is_fold, shifted, flat_map-append, fold-append)
 
 module _ (front : List ℕ) (a b : ℕ) (back : List ℕ) (a_small : a < 256) (b_small : b < 256) where
   last_byte : bit_xor (remainder_of (bits_of (front ++ a ∷ []))) (remainder_of (bits_of (front ++ b ∷ []))) ≡ bit_xor a b
@@ -115,9 +87,7 @@ inverted_changes bytes bit inside small =
 -- where the inverted bytes pass, that is all that is left
 pub power_is_left : (bytes : List ℕ) (bit : ℕ) → bit < 8 * length bytes → get_or bytes (bit / 8) 0 < 256 → PassesBy Slice (inverted bytes bit)
     → power_left (8 * length bytes - 1 - bit) ≡ remainder_of (bits_of bytes)
-power_is_left bytes bit inside small passes =
-    sym (inverted_changes bytes bit inside small) ∙ ap (λ x. bit_xor x (remainder_of (bits_of bytes))) passes.1.1
-    ∙ xor_zero_l (remainder_of (bits_of bytes))
+power_is_left bytes bit inside small passes = cc (inverted_changes bytes bit inside small, xor_zero_l (remainder_of (bits_of bytes)))
 
 -- and with so many zeros after it a higher power
 pub power_shifted : (bytes : List ℕ) (bit more : ℕ) → bit < 8 * length bytes → get_or bytes (bit / 8) 0 < 256 → PassesBy Slice (inverted bytes bit)
@@ -154,16 +124,11 @@ eight_zeros i power next is after =
 -- ---- as the code has them
 
 pub set_written : (bytes : List ℕ) (i x : ℕ) → i < length bytes → set bytes i x ≡ written bytes i (x ∷ [])
-set_written bytes i x lt =
-    sym (take-append-drop i (set bytes i x)) ∙ ap (λ front. front ++ drop i (set bytes i x)) (take-set bytes i x)
-    ∙ ap (λ back. take i bytes ++ back) (drop-set bytes i x lt)
+set_written bytes i x lt = cc (take-append-drop i (set bytes i x), take-set bytes i x, drop-set bytes i x lt)
 
 pub set_inverted : (bytes : List ℕ) (bit : ℕ) → bit < 8 * length bytes
     → set bytes (bit / 8) (bit_xor (get_or bytes (bit / 8) 0) (1 * 2 ^ (7 - bit % 8) % 256)) ≡ inverted bytes bit
-set_inverted bytes bit inside =
-    let one : 1 * 2 ^ (7 - bit % 8) ≡ 2 ^ (7 - bit % 8) = omega arith in
-    ap (λ m. set bytes (bit / 8) (bit_xor (get_or bytes (bit / 8) 0) m)) (ap (λ n. n % 256) one ∙ mod-eq_of_lt (mask_small bit))
-    ∙ set_written bytes (bit / 8) (bit_xor (get_or bytes (bit / 8) 0) (2 ^ (7 - bit % 8))) (omega arith)
+set_inverted bytes bit inside = grind (arith, mod-eq_of_lt, mask_small, set_written)
 
 pub length-inverted : (bytes : List ℕ) (bit : ℕ) → bit < 8 * length bytes → length (inverted bytes bit) ≡ length bytes
 length-inverted bytes bit inside = length-written bytes (bit / 8) (bit_xor (get_or bytes (bit / 8) 0) (2 ^ (7 - bit % 8)) ∷ []) (omega arith)
@@ -178,8 +143,7 @@ inverted_twice bytes bit inside =
     let once : inverted bytes bit ≡ set bytes i (bit_xor old mask) = sym (set_written bytes i (bit_xor old mask) there) in
     let now : bit_xor (get_or (inverted bytes bit) i 0) mask ≡ old =
     ap (λ xs. bit_xor (get_or xs i 0) mask) once ∙ ap (λ x. bit_xor x mask) (get_or-set_same bytes i (bit_xor old mask) 0 there) ∙ xor_twice old mask in
-    ap (λ x. written (inverted bytes bit) i (x ∷ [])) now ∙ sym (set_written (inverted bytes bit) i old (omega arith)) ∙ ap (λ xs. set xs i old) once
-    ∙ set-set bytes i (bit_xor old mask) old ∙ set-get_or bytes i 0
+    cc (set_written (inverted bytes bit) i old (omega arith), set-set bytes i (bit_xor old mask) old, set-get_or bytes i 0)
 
 -- the next power, as the code computes it
 pub next_reduced : (power : ℕ) → power < 2 ^ 32 → power / 2 ^ 31 ≡ 1 → bit_xor (power * 2 % 2 ^ 32) 0x04C11DB7 ≡ reduced_at 0 (power * 2)
@@ -190,10 +154,7 @@ next_reduced power small top =
     let bit : bit_at (power * 2) 32 ≡ 1 = omega arith in
     let block : bit_xor (1 * 2 ^ 32 + low) (1 * 2 ^ 32 + 0x04C11DB7) ≡ bit_xor 1 1 * 2 ^ 32 + bit_xor low 0x04C11DB7 =
     xor_block 32 1 1 low 0x04C11DB7 (omega arith) (lit< tt) in
-    sym (ap (λ t. cond t (bit_xor (power * 2) divisor) (power * 2)) (eq-eqb (bit_at (power * 2) 32) 1 bit)
-    ∙ ap (λ p. bit_xor p divisor) split ∙ block ∙ zero-add (bit_xor low 0x04C11DB7))
+    cc (eq-eqb (bit_at (power * 2) 32) 1 bit, zero-add (bit_xor low 0x04C11DB7))
 
 pub next_low : (power : ℕ) → power < 2 ^ 32 → (power / 2 ^ 31 ≡ 1 → ⊥) → power * 2 % 2 ^ 32 ≡ reduced_at 0 (power * 2)
-next_low power small low =
-    let half : power * 2 < 2 ^ 32 = omega arith in
-    mod-eq_of_lt half ∙ sym (reduced_low 0 (power * 2) half)
+next_low power small low = grind (arith, mod-eq_of_lt, reduced_low)

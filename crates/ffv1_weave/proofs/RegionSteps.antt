@@ -1,7 +1,5 @@
 -- Regions: how they are found, what else is true of them, and that they never overlap.
-use Rattle.std.proofs.Common.{◌≡◌, ℕ, zero, suc, ◌+◌, ◌-◌, ◌<◌, ◌≤◌, List, sym, subst, arith, inl, inr}
-use Rattle.std.proofs.lemmas.Bool.{cases_lt}
-use Rattle.ffv1_weave.specs.Regions.{AgreeAt, DifferAt, IsRegion}
+use Rattle.ffv1_weave.proofs.Common.{◌≡◌, ℕ, zero, suc, ◌+◌, ◌-◌, ◌<◌, ◌≤◌, List, sym, subst, arith, inl, inr, cases_lt, AgreeAt, DifferAt, IsRegion}
 use Rattle.ffv1_weave.specs.declared.regions.TheConstants.{SEPARATION}
 
 -- ---- the end of a region
@@ -36,24 +34,11 @@ module _ (versions : List (List ℕ)) where
 
   pub end_stays : (start end place size : ℕ) → place < size → AgreeAt versions place → IsEndSoFar versions start end place size
       → IsEndSoFar versions start end (place + 1) size
-  end_stays start end place size within agree h =
-      let order = h.order in
-      record {
-        some = h.some;
-        order = omega arith;
-        within = omega arith;
-        last = h.last;
-        quiet = λ i low high. elim (cases_lt i place) [
-          | inl below ↦ h.quiet i low below
-          | inr above ↦ let same : place ≡ i = omega arith in subst (AgreeAt versions) same agree
-        ];
-        followed = h.followed;
-      }
+  end_stays start end place size within agree h = grind (arith, cases_lt)
 
   pub end_moves : (start end place size : ℕ) → place < size → place < end + SEPARATION → DifferAt versions place → IsEndSoFar versions start end place size
       → IsEndSoFar versions start (place + 1) (place + 1) size
   end_moves start end place size within near differ h =
-      let order = h.order in
       let some = h.some in
       end_after start place size (omega arith) within differ (λ i low high here. elim (cases_lt (i + 1) end) [
         | inl inside ↦ let next = h.followed i low inside here in
@@ -111,7 +96,6 @@ module _ (versions : List (List ℕ)) where
 
   end_not_below : (s e f : ℕ) → IsRegion versions s e → IsRegion versions s f → e < f → ⊥
   end_not_below s e f h k below =
-      let some = h.some in
       elim (cases_lt (f - 1) (e + SEPARATION)) [
         | inl near ↦ k.last (h.after (f - 1) (omega arith) near)
         | inr far ↦ let spot = within_window s f k e (omega arith) (omega arith) in

@@ -1,7 +1,5 @@
 -- Laws of repairs.
-use Rattle.std.proofs.Common.{◌≡◌, ℕ, ◌*◌, List, length, sym, ap, ◌∙◌}
-use Rattle.ffv1_slice.specs.Members.{HasSameMembers}
-use Rattle.ffv1_weave.specs.Repairs.{IsRepair, IsRepairOf, SameVersionsRepair, OriginalIsRepaired}
+use Rattle.ffv1_weave.proofs.Common.{◌≡◌, ℕ, ◌*◌, List, length, sym, ap, ◌∙◌, HasSameMembers, IsRepair, IsRepairOf, SameVersionsRepair, OriginalIsRepaired}
 use Rattle.ffv1_weave.proofs.Tried.{one_count}
 use Rattle.ffv1_weave.proofs.Returned.{RestsOnMembers, only_as}
 use Rattle.ffv1_weave.proofs.WeaveLaws.{combination_as, tried_as, few_as}

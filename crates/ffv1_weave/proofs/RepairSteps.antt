@@ -1,21 +1,5 @@
 -- The combinations as they are gone over for a repair.
-use Rattle.std.proofs.Common.{◌≡◌, ℕ, suc, ◌+◌, ◌*◌, ◌/◌, ◌<◌, ◌≤◌, List, [], ◌∷◌, ◌++◌, length, get_or, Option, Some, None, refl, sym, ap, ◌∙◌, subst, arith, inl, inr}
-use Rattle.std.specs.Prelude.{Contains, MatchOption}
-use Rattle.std.specs.List.{flat_map}
-use Rattle.std.proofs.Math.Nat.{mul_assoc, mul_comm}
-use Rattle.std.proofs.lemmas.List.Elements.{Contains-append_left, Contains-append_right, Contains-append_cases}
-use Rattle.ffv1_slice.specs.Members.{IsOnly, IsOfTwo, IsOfNone}
-use Rattle.ffv1_slice.proofs.Links.{Contains-head, Contains-cons}
-use Rattle.ffv1_weave.specs.Combinations.{IsCombinationBy}
-use Rattle.ffv1_weave.specs.Inner.Parts.{Part, chosen, chosen_below}
-use Rattle.ffv1_weave.specs.Weave.{AreMany}
-use Rattle.ffv1_weave.specs.Repairs.{IsRepair, IsRepairOf}
-use Rattle.ffv1_weave.specs.Inner.Found.{PassesAmong, IsFoundAmong}
-use Rattle.ffv1_weave.specs.Inner.Inversions.{inversions}
-use Rattle.ffv1_weave.specs.declared.check.Check.TheVariants.{Slice}
-use Rattle.ffv1_weave.specs.declared.splits.Split.{Split}
-use Rattle.ffv1_weave.specs.declared.found.Found.{Found}
-use Rattle.ffv1_weave.specs.declared.parts.Parts.{Parts}
+use Rattle.ffv1_weave.proofs.Common.{◌≡◌, ℕ, suc, ◌+◌, ◌*◌, ◌/◌, ◌<◌, ◌≤◌, List, [], ◌∷◌, ◌++◌, length, get_or, Option, Some, None, refl, sym, ap, ◌∙◌, subst, arith, inl, inr, Contains, MatchOption, flat_map, mul_assoc, mul_comm, Contains-append_left, Contains-append_right, Contains-append_cases, IsOnly, IsOfTwo, IsOfNone, Contains-head, Contains-cons, IsCombinationBy, Part, chosen, chosen_below, AreMany, IsRepair, IsRepairOf, PassesAmong, IsFoundAmong, inversions, Slice, Split, Found, Parts}
 use Rattle.ffv1_weave.specs.declared.repairing.TheConstants.{MOST_REPAIRS}
 use Rattle.ffv1_weave.proofs.Tried.{one_split, one_count, few_not_many}
 use Rattle.ffv1_weave.proofs.OneBit.{length-inverted}

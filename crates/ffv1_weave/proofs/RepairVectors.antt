@@ -1,23 +1,5 @@
 -- One slice of nine bytes, with each of its bits inverted: it is the only repair. Some bits of it, and of two bytes, are written out.
-use Rattle.std.proofs.Common.{◌≡◌, ℕ, zero, suc, ◌+◌, ◌-◌, ◌*◌, ◌/◌, ◌%◌, ◌^◌, ◌<◌, Bool, true, false, eqb, eq-eqb, cond, List, [], ◌∷◌, ◌++◌, length, get_or, replicate, refl, sym, ap, ◌∙◌, subst, arith, inl, inr}
-use Rattle.std.specs.Prelude.{All, Contains, bit_xor}
-use Rattle.std.specs.List.{fold}
-use Rattle.std.specs.Int.Bits.{xor_lt}
-use Rattle.std.proofs.lemmas.Bool.{cases_lt}
-use Rattle.std.proofs.lemmas.List.Elements.{Contains-append_left, Contains-append_cases, All-set, All-get_or, All-from_get_or}
-use Rattle.ffv1_bits.specs.Bits.{number_bits, bits_of}
-use Rattle.ffv1_bits.specs.Inner.Division.{reduced_at}
-use Rattle.ffv1_bits.specs.Parity.{polynomial_of, divided, remainder_of}
-use Rattle.ffv1_bits.proofs.Division.{shifted, fold_injective}
-use Rattle.ffv1_slice.specs.Members.{IsOnly}
-use Rattle.ffv1_weave.specs.Checks.{PassesBy}
-use Rattle.ffv1_weave.specs.Regions.{HaveLength, AgreeAt}
-use Rattle.ffv1_weave.specs.Inner.Parts.{AreFewParts}
-use Rattle.ffv1_weave.specs.Inner.Found.{PassesAmong}
-use Rattle.ffv1_weave.specs.Inner.Inversions.{inversions}
-use Rattle.ffv1_weave.specs.Repairs.{inverted, IsRepairOf}
-use Rattle.ffv1_weave.specs.declared.check.Check.TheVariants.{Slice}
-use Rattle.ffv1_weave.specs.declared.splits.Split.TheVariants.{Pairs}
+use Rattle.ffv1_weave.proofs.Common.{◌≡◌, ℕ, zero, suc, ◌+◌, ◌-◌, ◌*◌, ◌/◌, ◌%◌, ◌^◌, ◌<◌, Bool, true, false, eqb, eq-eqb, cond, List, [], ◌∷◌, ◌++◌, length, get_or, replicate, refl, sym, ap, ◌∙◌, subst, arith, inl, inr, All, Contains, bit_xor, fold, xor_lt, cases_lt, Contains-append_left, Contains-append_cases, All-set, All-get_or, All-from_get_or, number_bits, bits_of, reduced_at, polynomial_of, divided, remainder_of, shifted, fold_injective, IsOnly, PassesBy, HaveLength, AgreeAt, AreFewParts, PassesAmong, inversions, inverted, IsRepairOf, Slice, Pairs}
 use Rattle.ffv1_weave.proofs.Finest.{finest}
 use Rattle.ffv1_weave.proofs.InversionSteps.{inversion_there, inversion_of}
 use Rattle.ffv1_weave.proofs.OneBit.{power_left, zeros_after, power_is_left, length-inverted, inverted_twice, mask_small, set_written}
@@ -52,8 +34,7 @@ module _ (version : List ℕ) where
   long other there = ap length (sym (is_version other there))
 
   no_parts : AreFewParts (Pairs 0) (version ∷ []) (length version) [] 1
-  no_parts =
-      record { all = record { next = tt; rest = λ i low. all_agree i }; fit = λ k d lt. absurd (omega arith); counted = refl; few = omega arith }
+  no_parts = grind (arith, all_agree)
 
   have : HaveParts (version ∷ []) [] 1
   have =
@@ -103,11 +84,7 @@ apart a b below lt same =
     not_one d (omega arith) (omega arith) (sym (fold_injective 1 (power_left d) (replicate a false) (one ∙ same ∙ sym other)))
 
 powers_differ : (a b : ℕ) → a < 72 → b < 72 → power_left a ≡ power_left b → a ≡ b
-powers_differ a b low lt same =
-    elim (cases_lt a b) [
-      | inl below ↦ absurd (apart a b below lt same)
-      | inr above ↦ elim (cases_lt b a) [ inl below ↦ absurd (apart b a below low (sym same)) | inr none ↦ omega arith ]
-    ]
+powers_differ a b low lt same = grind (arith, cases_lt, apart)
 
 -- ---- a slice of one byte, with its footer and its parity
 
@@ -120,27 +97,14 @@ small_passes = (record { footer = omega arith; size = refl }, (omega arith, refl
 
 small_bytes : All (λ b. b < 256) small_slice
 unfolding small_slice
-small_bytes = All-from_get_or (λ b. b < 256) small_slice 0 each
-  where
-    each : (i : ℕ) → i < 9 → get_or small_slice i 0 < 256
-    each zero lt = omega arith
-    each (suc zero) lt = omega arith
-    each (suc (suc zero)) lt = omega arith
-    each (suc (suc (suc zero))) lt = omega arith
-    each (suc (suc (suc (suc zero)))) lt = omega arith
-    each (suc (suc (suc (suc (suc zero))))) lt = omega arith
-    each (suc (suc (suc (suc (suc (suc zero)))))) lt = omega arith
-    each (suc (suc (suc (suc (suc (suc (suc zero))))))) lt = omega arith
-    each (suc (suc (suc (suc (suc (suc (suc (suc zero)))))))) lt = omega arith
-    each (suc (suc (suc (suc (suc (suc (suc (suc (suc i))))))))) lt = absurd (omega arith)
+small_bytes = grind (arith, All-from_get_or)
 
 inverted_bytes : (bytes : List ℕ) (bit : ℕ) → bit < 8 * length bytes → All (λ b. b < 256) bytes → All (λ b. b < 256) (inverted bytes bit)
 inverted_bytes bytes bit inside small =
     let old : ℕ = get_or bytes (bit / 8) 0 in
     let mask : ℕ = 2 ^ (7 - bit % 8) in
     let there : bit / 8 < length bytes = omega arith in
-    subst (All (λ b. b < 256)) (set_written bytes (bit / 8) (bit_xor old mask) there)
-    (All-set (λ b. b < 256) bytes (bit / 8) (bit_xor old mask)
+    rw (← set_written bytes (bit / 8) (bit_xor old mask) there) (All-set (λ b. b < 256) bytes (bit / 8) (bit_xor old mask)
     (xor_lt 8 old mask (All-get_or (λ b. b < 256) bytes (bit / 8) 0 there small) (mask_small bit)) small)
 
 module _ (bit : ℕ) (inside : bit < 72) where
@@ -163,9 +127,7 @@ module _ (bit : ℕ) (inside : bit < 72) where
   left_by : (other : ℕ) → other < 72 → PassesBy Slice (inverted damaged other) → power_left (71 - other) ≡ remainder_of (bits_of damaged)
   left_by other low passes =
       let exponent : 8 * length damaged - 1 - other ≡ 71 - other = omega (arith, damaged_long) in
-      ap power_left (sym exponent)
-      ∙ power_is_left damaged other (omega (arith, damaged_long))
-      (All-get_or (λ b. b < 256) damaged (other / 8) 0 (omega (arith, damaged_long)) damaged_bytes) passes
+      cc (power_is_left damaged other (omega (arith, damaged_long)) (All-get_or (λ b. b < 256) damaged (other / 8) 0 (omega (arith, damaged_long)) damaged_bytes) passes)
 
   same_bit : (other : ℕ) → other < 72 → PassesBy Slice (inverted damaged other) → other ≡ bit
   same_bit other low passes =

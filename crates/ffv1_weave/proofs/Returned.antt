@@ -1,9 +1,5 @@
 -- What is returned of bytes that are found, and of how many were tried.
-use Rattle.std.proofs.Common.{ℕ, List, Option, Some, None, Result, Vec, Global}
-use Rattle.std.specs.Prelude.{IfOk, MatchOption}
-use Rattle.std.specs.declared.alloc.AllocError.{AllocError}
-use Rattle.std.proofs.lemmas.Result.{IfOk-weaker}
-use Rattle.ffv1_slice.specs.Members.{HasSameMembers, IsOnly}
+use Rattle.ffv1_weave.proofs.Common.{ℕ, List, Option, Some, None, Result, Vec, Global, IfOk, MatchOption, AllocError, IfOk-weaker, HasSameMembers, IsOnly}
 use Rattle.ffv1_weave.proofs.WeaveLaws.{same_back}
 
 abbrev IsFoundBy : (List ℕ → ℕ → Type 0) → Option (Vec ℕ Global × ℕ) → Type 0

@@ -1,10 +1,5 @@
 -- Parts of a split: they are not empty, lie within the versions, and never overlap.
-use Rattle.std.proofs.Common.{◌≡◌, ℕ, ◌-◌, ◌<◌, ◌≤◌, List, arith, inl, inr}
-use Rattle.std.proofs.lemmas.Bool.{cases_lt}
-use Rattle.ffv1_weave.specs.Regions.{HaveLength, IsRegion}
-use Rattle.ffv1_weave.specs.Splits.{IsPartBy}
-use Rattle.ffv1_weave.specs.declared.splits.Split.{Split}
-use Rattle.ffv1_weave.specs.declared.splits.Split.TheVariants.{Pairs, Regions, Most}
+use Rattle.ffv1_weave.proofs.Common.{◌≡◌, ℕ, ◌-◌, ◌<◌, ◌≤◌, List, arith, inl, inr, cases_lt, HaveLength, IsRegion, IsPartBy, Split, Pairs, Regions, Most}
 use Rattle.ffv1_weave.proofs.Agreeing.{agree_past}
 use Rattle.ffv1_weave.proofs.RegionSteps.{one_region}
 use Rattle.ffv1_weave.proofs.BoundarySteps.{segment_within, one_segment}
@@ -16,7 +11,6 @@ part_some (Most distance) versions start end h = h.some
 
 pub region_within : (versions : List (List ℕ)) (size start end : ℕ) → HaveLength versions size → IsRegion versions start end → end ≤ size
 region_within versions size start end long h =
-    let some = h.some in
     elim (cases_lt size end) [
       | inr within ↦ within
       | inl over ↦ absurd (h.last (agree_past versions size (end - 1) long (omega arith)))

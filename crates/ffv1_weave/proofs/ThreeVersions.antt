@@ -1,12 +1,5 @@
 -- Three different versions: how many of them have a byte string is computed, and so is what most have.
-use Rattle.std.proofs.Common.{◌≡◌, ℕ, zero, suc, ◌+◌, ◌<◌, ◌≤◌, Bool, true, false, List, [], ◌∷◌, ◌++◌, refl, subst, arith}
-use Rattle.std.specs.Prelude.{Contains, slice_range}
-use Rattle.std.specs.Bool.{Decides}
-use Rattle.std.specs.Str.{bytes_eq}
-use Rattle.std.proofs.lemmas.Bool.{false≢true}
-use Rattle.std.proofs.lemmas.Slice.Eq.{bytes_eq-Decides}
-use Rattle.ffv1_weave.specs.Numbers.{AreNumbered}
-use Rattle.ffv1_weave.specs.Splits.{HasChoice, IsMost}
+use Rattle.ffv1_weave.proofs.Common.{◌≡◌, ℕ, zero, suc, ◌+◌, ◌<◌, ◌≤◌, Bool, true, false, List, [], ◌∷◌, ◌++◌, subst, arith, Contains, slice_range, bytes_eq, false≢true, bytes_eq-Decides, AreNumbered, HasChoice, IsMost}
 use Rattle.ffv1_weave.proofs.Numbering.{one_number}
 use Rattle.ffv1_weave.proofs.MostSteps.{have_none, have_same, have_more, most_of}
 
@@ -21,12 +14,7 @@ module _ (start end : ℕ) (choice : List ℕ) where
 
   have_next : (versions : List (List ℕ)) (version : List ℕ) (count : ℕ) → (Contains versions version → ⊥) → AreNumbered (HasChoice versions start end choice) count
       → AreNumbered (HasChoice (versions ++ version ∷ []) start end choice) (and_by version count)
-  have_next versions version count new h =
-      elim (bytes_eq choice (slice_range version start end))
-      as (λ b. Decides b (choice ≡ slice_range version start end) → AreNumbered (HasChoice (versions ++ version ∷ []) start end choice) (with_one b count)) [
-        | true ↦ λ e. have_more start end choice versions version count new (e.0 refl) h
-        | false ↦ λ e. have_same start end choice versions version count (λ is. absurd (false≢true (e.1 is))) h
-      ] (bytes_eq-Decides choice (slice_range version start end))
+  have_next versions version count new h = grind (arith, have_more, have_same, false≢true, bytes_eq-Decides)
 
 module _ (one other third : List ℕ) where
   pub of_each : (P : List ℕ → Type 0) → P one → P other → P third → (version : List ℕ) → Contains (one ∷ other ∷ third ∷ []) version → P version

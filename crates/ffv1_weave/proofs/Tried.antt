@@ -1,22 +1,10 @@
 -- The split that is tried is one alone.
-use Rattle.std.proofs.Common.{◌≡◌, ℕ, ◌<◌, List, get_or, sym, ap, ◌∙◌, subst, arith, inl, inr}
-use Rattle.std.specs.Prelude.{Contains}
-use Rattle.std.proofs.lemmas.Bool.{cases_lt}
-use Rattle.std.proofs.lemmas.List.Elements.{Contains-get_or}
-use Rattle.ffv1_weave.specs.Splits.{splits}
-use Rattle.ffv1_weave.specs.Checks.{PassesBy}
-use Rattle.ffv1_weave.specs.Combinations.{IsCombinationBy, HasFew, HasMany, IsTriedBy, IsValid}
-use Rattle.ffv1_weave.specs.Weave.{AreFew, AreMany}
-use Rattle.ffv1_weave.specs.declared.check.Check.{Check}
-use Rattle.ffv1_weave.specs.declared.splits.Split.{Split}
-use Rattle.ffv1_weave.specs.declared.splits.Split.TheVariants.{Regions}
-use Rattle.ffv1_weave.specs.declared.weaving.TheConstants.{MOST_COMBINATIONS}
+use Rattle.ffv1_weave.proofs.Common.{◌≡◌, ℕ, ◌<◌, List, get_or, sym, ap, ◌∙◌, subst, arith, inl, inr, Contains, cases_lt, Contains-get_or, splits, PassesBy, IsCombinationBy, HasFew, HasMany, IsTriedBy, IsValid, AreFew, AreMany, Check, Split, Regions}
 use Rattle.ffv1_weave.proofs.Numbering.{one_number, number_above}
 
 module _ (versions : List (List ℕ)) where
   pub few_or_many : (split : Split) (count : ℕ) → HasFew versions split count → HasMany versions split → ⊥
-  few_or_many split count few many =
-      let low = few.few in omega (arith, number_above (IsCombinationBy split versions) MOST_COMBINATIONS count many few.numbered)
+  few_or_many split count few many = grind (arith, number_above)
 
   earlier_many : (one other : Split) (m n : ℕ) (h : IsTriedBy versions one m) (k : IsTriedBy versions other n) → h.place < k.place → ⊥
   earlier_many one other m n h k below = few_or_many one m h.few (subst (HasMany versions) h.is (k.finer h.place below))

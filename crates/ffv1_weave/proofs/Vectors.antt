@@ -1,14 +1,8 @@
 -- Two versions of three bytes that differ in the second, and two that differ in two places, just near enough to each other and just too far
 -- apart: what the definitions say of them.
-use Rattle.std.proofs.Common.{◌≡◌, ℕ, zero, suc, ◌+◌, ◌-◌, ◌<◌, ◌≤◌, List, [], ◌∷◌, ◌++◌, length, length-append, add-one, get_or, refl, sym, ap, ◌∙◌, subst, arith, inl, inr}
-use Rattle.std.specs.Prelude.{◌⊎◌, Contains, slice_range}
-use Rattle.std.proofs.lemmas.Bool.{cases_lt}
-use Rattle.std.proofs.Math.ListN.{replicate, get_or-append}
-use Rattle.std.proofs.lemmas.List.{get_or-replicate, length-replicate, get_or-append_right}
-use Rattle.ffv1_weave.specs.Regions.{HaveLength, AgreeAt, DifferAt, IsRegion}
-use Rattle.ffv1_weave.specs.Boundaries.{IsBoundary, IsSegment}
-use Rattle.ffv1_weave.specs.Combinations.{IsCombination}
+use Rattle.ffv1_weave.proofs.Common.{◌≡◌, ℕ, zero, suc, ◌+◌, ◌-◌, ◌<◌, ◌≤◌, List, [], ◌∷◌, ◌++◌, length, length-append, add-one, get_or, refl, sym, ap, ◌∙◌, subst, arith, inl, inr, ◌⊎◌, Contains, slice_range, cases_lt, get_or-append, get_or-replicate, length-replicate, get_or-append_right, HaveLength, AgreeAt, DifferAt, IsRegion, IsBoundary, IsSegment, IsCombination}
 use Rattle.ffv1_weave.specs.declared.regions.TheConstants.{SEPARATION}
+use Rattle.std.proofs.Math.ListN.{replicate}
 use Rattle.ffv1_weave.proofs.Agreeing.{agree_from, agree_past, differ_from}
 use Rattle.ffv1_weave.proofs.RegionSteps.{one_region}
 use Rattle.ffv1_weave.proofs.BoundarySteps.{boundary_before, boundary_after}
@@ -24,12 +18,7 @@ three version (suc (suc k), lt, is) = absurd (omega arith)
 
 module _ (a b : List ℕ) where
   two_agree : (j : ℕ) → get_or b j 0 ≡ get_or a j 0 → AgreeAt (a ∷ b ∷ []) j
-  two_agree j h = agree_from (a ∷ b ∷ []) j same
-    where
-      same : (k : ℕ) → k < 2 → get_or (get_or (a ∷ b ∷ []) k []) j 0 ≡ get_or a j 0
-      same zero lt = refl
-      same (suc zero) lt = h
-      same (suc (suc k)) lt = absurd (omega arith)
+  two_agree j h = grind (arith, agree_from)
 
 first_agrees : AgreeAt versions 0
 unfolding versions
@@ -55,20 +44,12 @@ region_at : (of : List (List ℕ)) (place end : ℕ) → place + 1 ≡ end → D
     → ((i : ℕ) → end ≤ i → i < end + SEPARATION → AgreeAt of i) → IsRegion of place end
 region_at of place end next differ before after =
     let last : place ≡ end - 1 = omega arith in
-    record {
-      some = omega arith;
-      first = differ;
-      last = subst (DifferAt of) last differ;
-      before = before;
-      after = after;
-      within = λ i low high here. absurd (omega arith);
-    }
+    grind arith
 
 -- the region from the second byte up to the third
 region : IsRegion versions 1 2
 region =
-    region_at versions 1 2 refl second_differs (λ i lt near. let is : 0 ≡ i = omega arith in subst (AgreeAt versions) is first_agrees)
-    (λ i low near. rest_agrees i low)
+    region_at versions 1 2 refl second_differs (λ i lt near. let is : 0 ≡ i = omega arith in rw (← is) first_agrees) (λ i low near. rest_agrees i low)
 
 -- A byte that no version has there makes no combination.
 pub no_combination : IsCombination versions (1 ∷ 4 ∷ 3 ∷ []) → ⊥
@@ -82,13 +63,7 @@ no_combination is = let version = is.parts 1 2 region in none version.0 version.
 
 -- It is the only region.
 pub alone : (start end : ℕ) → IsRegion versions start end → (start ≡ 1) × (end ≡ 2)
-alone start end h = elim (cases_lt start 2) [
-  | inl low ↦ elim (cases_lt 1 end) [
-    | inl high ↦ let one = one_region versions start end 1 2 h region low high in one
-    | inr below ↦ let some = h.some in let is : 0 ≡ start = omega arith in absurd (h.first (subst (AgreeAt versions) is first_agrees))
-  ]
-  | inr high ↦ absurd (h.first (rest_agrees start high))
-]
+alone start end h = grind (arith, cases_lt, one_region, versions, region, first_agrees, rest_agrees)
 
 -- ---- two versions that differ at the first place and at the last, with so many zeros between
 
@@ -155,7 +130,6 @@ second_of_two =
 pub not_of_both : IsRegion (spread 64) 0 66 → ⊥
 not_of_both h =
     let next = h.within 0 (omega arith) (omega arith) (start_differs 64) in
-    let near = next.2 in
     next.4 (between_agrees 64 next.0 next.1 (omega arith))
 
 -- ---- the boundaries and the segments of these two
@@ -166,10 +140,8 @@ module _ (a b : List ℕ) where
       → (get_or one i 0 ≡ get_or other i 0 → ⊥) → DifferAt (a ∷ b ∷ []) j → get_or one j 0 ≡ get_or other j 0 → ⊥
   two_differ i j one other (zero, lt, is) (zero, less, it) apart differ same = apart (ap (λ v. get_or v i 0) (sym is ∙ it))
   two_differ i j one other (suc zero, lt, is) (suc zero, less, it) apart differ same = apart (ap (λ v. get_or v i 0) (sym is ∙ it))
-  two_differ i j one other (zero, lt, is) (suc zero, less, it) apart differ same =
-      differ (two_agree a b j (ap (λ v. get_or v j 0) it ∙ sym same ∙ ap (λ v. get_or v j 0) (sym is)))
-  two_differ i j one other (suc zero, lt, is) (zero, less, it) apart differ same =
-      differ (two_agree a b j (ap (λ v. get_or v j 0) is ∙ same ∙ ap (λ v. get_or v j 0) (sym it)))
+  two_differ i j one other (zero, lt, is) (suc zero, less, it) apart differ same = grind (arith, two_agree, same)
+  two_differ i j one other (suc zero, lt, is) (zero, less, it) apart differ same = grind (arith, two_agree, same)
   two_differ i j one other (suc (suc k), lt, is) here apart differ same = absurd (omega arith)
   two_differ i j one other (zero, lt, is) (suc (suc k), less, it) apart differ same = absurd (omega arith)
   two_differ i j one other (suc zero, lt, is) (suc (suc k), less, it) apart differ same = absurd (omega arith)
@@ -177,8 +149,7 @@ module _ (a b : List ℕ) where
 spread_differ : (space i j : ℕ) (one other : List ℕ) → Contains (spread space) one → Contains (spread space) other
     → (get_or one i 0 ≡ get_or other i 0 → ⊥) → DifferAt (spread space) j → get_or one j 0 ≡ get_or other j 0 → ⊥
 unfolding spread
-spread_differ space i j one other there here apart differ same =
-    two_differ (1 ∷ (replicate space 0 ++ 1 ∷ [])) (2 ∷ (replicate space 0 ++ 2 ∷ [])) i j one other there here apart differ same
+spread_differ space i j one other there here apart differ same = grind (arith, two_differ, replicate, same)
 
 -- they differ at no other place
 only_ends : (space i : ℕ) → DifferAt (spread space) i → (i ≡ 0) ⊎ (i ≡ space + 1)

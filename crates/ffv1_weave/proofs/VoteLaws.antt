@@ -1,13 +1,5 @@
 -- Laws of votes.
-use Rattle.std.proofs.Common.{◌≡◌, ℕ, List, get_or, sym, ap, ◌∙◌, arith, inl, inr}
-use Rattle.std.specs.Prelude.{sum}
-use Rattle.std.proofs.lemmas.List.{ext_get_or}
-use Rattle.ffv1_slice.specs.Members.{HasSameMembers}
-use Rattle.ffv1_weave.specs.Combinations.{IsCombinationBy}
-use Rattle.ffv1_weave.specs.Splits.{votes}
-use Rattle.ffv1_weave.specs.Votes.{AreThree, AreTriedBy, IsVote, IsVoteOf, SameVersionsVote, OriginalIsVoted}
-use Rattle.ffv1_weave.specs.declared.splits.Split.{Split}
-use Rattle.ffv1_weave.specs.declared.splits.Split.TheVariants.{Regions}
+use Rattle.ffv1_weave.proofs.Common.{◌≡◌, ℕ, List, get_or, sym, ap, ◌∙◌, arith, rules, sum, ext_get_or, HasSameMembers, votes, AreThree, AreTriedBy, IsVote, IsVoteOf, SameVersionsVote, OriginalIsVoted, Split, Regions}
 use Rattle.ffv1_weave.proofs.Numbering.{one_number}
 use Rattle.ffv1_weave.proofs.Tried.{few_or_many}
 use Rattle.ffv1_weave.proofs.Returned.{RestsOnMembers, only_as}
@@ -29,22 +21,10 @@ module _ (versions others : List (List ℕ)) (same : HasSameMembers versions oth
       }
 
   vote_as : (bytes : List ℕ) → IsVote versions bytes → IsVote others bytes
-  vote_as bytes h =
-      record {
-        three = three_as h.three;
-        split = h.split;
-        there = h.there;
-        count = h.count;
-        few = has_few_as versions others same h.split h.count h.few;
-        combination = combination_as versions others same h.split bytes h.combination;
-        passes = h.passes;
-      }
+  vote_as bytes h = grind (arith, three_as, has_few_as, combination_as)
 
   tried_by_as : (split : Split) (count : ℕ) → AreTriedBy versions split count → AreTriedBy others split count
-  tried_by_as split count h = elim h [
-    | inl few ↦ inl (has_few_as versions others same split count few)
-    | inr many ↦ inr (has_many_as versions others same split many.0, many.1)
-  ]
+  tried_by_as split count h = grind (arith, has_few_as, has_many_as)
 
 pub vote_of_as : RestsOnMembers IsVoteOf
 vote_of_as versions others same bytes count h =
@@ -58,33 +38,19 @@ vote_of_as versions others same bytes count h =
 
 -- as many are tried by a split, whoever counts
 one_tried_by : (versions : List (List ℕ)) (split : Split) (m n : ℕ) → AreTriedBy versions split m → AreTriedBy versions split n → m ≡ n
-one_tried_by versions split m n h k = elim h [
-  | inl few ↦ elim k [
-    | inl other ↦ one_number (IsCombinationBy split versions) m n few.numbered other.numbered
-    | inr many ↦ absurd (few_or_many versions split m few many.0)
-  ]
-  | inr many ↦ elim k [
-    | inl few ↦ absurd (few_or_many versions split n few many.0)
-    | inr other ↦ many.1 ∙ sym other.1
-  ]
-]
+one_tried_by versions split m n h k = grind (arith, one_number, few_or_many)
 
 module _ (versions : List (List ℕ)) (bytes others : List ℕ) (count other : ℕ) (h : IsVoteOf versions bytes count) (k : IsVoteOf versions others other) where
   same_tried : h.tried ≡ k.tried
   same_tried =
       let long = h.all in
-      ext_get_or 0 h.tried k.tried (long ∙ sym k.all) (λ i lt.
-      one_tried_by versions (get_or votes i Regions) (get_or h.tried i 0) (get_or k.tried i 0) (h.each i (omega (arith, long))) (k.each i (omega (arith, long))))
+      cc (ext_get_or 0 h.tried k.tried (long ∙ sym k.all) (λ i lt. one_tried_by versions (get_or votes i Regions) (get_or h.tried i 0) (get_or k.tried i 0) (h.each i (omega (arith, long))) (k.each i (omega (arith, long)))))
 
   one_vote : (bytes ≡ others) × (count ≡ other)
   one_vote = (k.only.others bytes h.only.there, h.counted ∙ ap sum same_tried ∙ sym k.counted)
 
 pub same_versions_vote : SameVersionsVote
-same_versions_vote =
-    record {
-      same = λ versions others bytes count same h. vote_of_as versions others same bytes count h;
-      one = λ versions bytes others count other h k. one_vote versions bytes others count other h k;
-    }
+same_versions_vote = search (rules, vote_of_as, one_vote)
 
 pub original_is_voted : OriginalIsVoted
 original_is_voted original versions bytes count original_there h = sym (h.only.others original original_there)

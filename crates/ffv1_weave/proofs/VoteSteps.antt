@@ -1,23 +1,7 @@
 -- The votes as they are gone over: split by split.
-use Rattle.std.proofs.Common.{◌≡◌, ℕ, ◌+◌, ◌*◌, ◌<◌, ◌≤◌, List, [], ◌∷◌, ◌++◌, length, get_or, Option, refl, sym, ap, ◌∙◌, subst, arith, inl, inr}
-use Rattle.std.specs.Prelude.{◌↔◌, Contains, MatchOption, sum}
-use Rattle.std.proofs.lemmas.Bool.{cases_lt}
-use Rattle.std.proofs.lemmas.List.{get_or_default, get_or_append_left, get_or_push, length_push}
-use Rattle.std.proofs.lemmas.List.Elements.{Contains-get_or, Contains-append_left, Contains-append_right, Contains-append_cases}
-use Rattle.std.proofs.lemmas.List.Sums.{sum_by_push}
-use Rattle.ffv1_slice.specs.Members.{IsOnly, IsOfTwo, IsOfNone}
-use Rattle.ffv1_weave.specs.Splits.{votes}
-use Rattle.ffv1_weave.specs.Combinations.{IsCombinationBy, HasFew, HasMany}
-use Rattle.ffv1_weave.specs.Inner.Parts.{Part, AreDistinct, AreFewParts, chosen_below}
-use Rattle.ffv1_weave.specs.Inner.Found.{PassesAmong, IsFoundAmong}
-use Rattle.ffv1_weave.specs.Votes.{AreThree, AreTriedBy, IsVote, IsVoteOf}
-use Rattle.ffv1_weave.specs.declared.check.Check.TheVariants.{Slice}
-use Rattle.ffv1_weave.specs.declared.found.Found.{Found}
-use Rattle.ffv1_weave.specs.declared.found.Found.TheVariants as found
-use Rattle.ffv1_weave.specs.declared.splits.Split.{Split}
-use Rattle.ffv1_weave.specs.declared.splits.Split.TheVariants.{Regions}
-use Rattle.ffv1_weave.specs.declared.parts.Parts.{Parts}
+use Rattle.ffv1_weave.proofs.Common.{◌≡◌, ℕ, ◌+◌, ◌*◌, ◌<◌, ◌≤◌, List, [], ◌∷◌, ◌++◌, length, get_or, Option, refl, sym, ap, ◌∙◌, subst, arith, inl, inr, rules, ◌↔◌, Contains, MatchOption, sum, cases_lt, get_or_default, get_or_append_left, get_or_push, length_push, Contains-get_or, Contains-append_left, Contains-append_right, Contains-append_cases, sum_by_push, IsOnly, IsOfTwo, IsOfNone, votes, IsCombinationBy, HasFew, HasMany, Part, AreDistinct, AreFewParts, chosen_below, PassesAmong, IsFoundAmong, AreThree, AreTriedBy, IsVote, IsVoteOf, Slice, Found, Split, Regions, Parts}
 use Rattle.ffv1_weave.specs.declared.weaving.TheConstants.{MOST_COMBINATIONS}
+use Rattle.ffv1_weave.specs.declared.found.Found.TheVariants as found
 use Rattle.ffv1_weave.proofs.Finest.{has_few}
 use Rattle.ffv1_weave.proofs.FoundSteps.{only_as}
 use Rattle.ffv1_weave.proofs.Tried.{few_or_many}
@@ -41,18 +25,7 @@ three_of_distinct versions three distinct =
 
 -- Two versions never vote: of fewer than three there are no three that differ.
 pub not_three : (versions : List (List ℕ)) → length versions < 3 → AreThree versions → ⊥
-not_three versions few h =
-    let one_other = apart h.one h.other h.one_there h.other_there h.one_other in
-    let one_third = apart h.one h.third h.one_there h.third_there h.one_third in
-    let other_third = apart h.other h.third h.other_there h.third_there h.other_third in
-    let one = h.one_there.1 in
-    let other = h.other_there.1 in
-    let third = h.third_there.1 in
-    omega arith
-  where
-    apart : (one other : List ℕ) (there : Contains versions one) (here : Contains versions other) → (one ≡ other → ⊥) → there.0 ≡ here.0 → ⊥
-    apart one other there here differ same =
-        differ (sym (there.2) ∙ get_or_default versions there.0 one other there.1 ∙ ap (λ k. get_or versions k other) same ∙ here.2)
+not_three versions few h = grind (arith, get_or_default)
 
 pub no_vote_of_two : (versions : List (List ℕ)) → length versions < 3 → (bytes : List ℕ) (count : ℕ) → IsVoteOf versions bytes count → ⊥
 no_vote_of_two versions few bytes count h = not_three versions few h.only.there.three
@@ -92,10 +65,7 @@ none_before versions =
       counted = refl;
       within = omega arith;
       strings = [];
-      are = λ bytes. (
-        λ there. let none = there.1 in absurd (omega arith),
-        λ h. let none = h.below in absurd (omega arith),
-      );
+      are = grind arith;
       found = λ bytes passing. let none = passing.there.1 in absurd (omega arith);
     }
 
@@ -103,22 +73,13 @@ module _ (versions : List (List ℕ)) (place : ℕ) (what : Found) (count : ℕ)
   -- one more split, by which so many are tried
   each_more : (more : ℕ) → AreTriedBy versions (get_or votes place Regions) more → (k : ℕ) → k < place + 1
       → AreTriedBy versions (get_or votes k Regions) (get_or (h.tried ++ more ∷ []) k 0)
-  each_more more last k lt =
-      let long = h.long in
-      elim (cases_lt k place) [
-        | inl below ↦ subst (AreTriedBy versions (get_or votes k Regions))
-            (sym (get_or_append_left h.tried (more ∷ []) 0 k (omega (arith, long)))) (h.each k below)
-        | inr above ↦ let same : k ≡ place = omega arith in
-            subst (AreTriedBy versions (get_or votes k Regions)) (sym (get_or_push h.tried more 0 k (long ∙ sym same)))
-            (subst (λ i. AreTriedBy versions (get_or votes i Regions) more) (sym same) last)
-      ]
+  each_more more last k lt = grind (arith, cases_lt, get_or_append_left, get_or_push)
 
   counted_more : (more : ℕ) → count + more ≡ sum (h.tried ++ more ∷ [])
   counted_more more = ap (λ n. n + more) h.counted ∙ sym (sum_by_push (λ n. n) h.tried more)
 
   later : (bytes : List ℕ) → IsTriedBefore versions place bytes → IsTriedBefore versions (place + 1) bytes
-  later bytes is =
-      record { at = is.at; below = let low = is.below in omega arith; count = is.count; few = is.few; combination = is.combination }
+  later bytes is = grind arith
 
   -- by the next split there are too many
   pub many_more : HasMany versions (get_or votes place Regions) → AreTriedBefore versions (place + 1) what count
@@ -145,8 +106,7 @@ module _ (versions : List (List ℕ)) (place : ℕ) (what : Found) (count : ℕ)
 
   module _ (parts : List Part) (more : ℕ) (have : HaveFewParts (get_or votes place Regions) versions parts more) where
     next_few : HasFew versions (get_or votes place Regions) more
-    next_few =
-        has_few (get_or votes place Regions) versions (length (get_or versions 0 [])) have.long have.some parts more have.few
+    next_few = search (rules, has_few)
 
     abbrev all_strings : List (List ℕ)
     all_strings = chosen_below parts (get_or versions 0 []) more ++ h.strings
@@ -169,8 +129,7 @@ module _ (versions : List (List ℕ)) (place : ℕ) (what : Found) (count : ℕ)
           (record { at = is.at; below = below; count = is.count; few = is.few; combination = is.combination }))
       | inr above ↦ let low = is.below in
           let same : is.at ≡ place = omega arith in
-          Contains-append_left (chosen_below parts (get_or versions 0 []) more) h.strings bytes ((chosen_where have bytes).1
-          (subst (λ i. IsCombinationBy (get_or votes i Regions) versions bytes) same is.combination))
+          Contains-append_left (chosen_below parts (get_or versions 0 []) more) h.strings bytes ((chosen_where have bytes).1 (rw (← same) is.combination))
     ]
 
     -- by the next split there are few enough, and they are tried too
@@ -196,20 +155,11 @@ module _ (versions : List (List ℕ)) (three : AreThree versions) (place : ℕ) 
   is_vote : (bytes : List ℕ) → PassesAmong Slice h.strings bytes → IsVote versions bytes
   is_vote bytes passing =
       let is = (h.are bytes).0 passing.there in
-      record {
-        three = three;
-        split = get_or votes is.at Regions;
-        there = Contains-get_or votes is.at Regions (let low = is.below in omega arith);
-        count = is.count;
-        few = is.few;
-        combination = is.combination;
-        passes = passing.passes;
-      }
+      grind (arith, Contains-get_or)
 
   is_passing : (bytes : List ℕ) → IsVote versions bytes → PassesAmong Slice h.strings bytes
   is_passing bytes vote =
-      let split_is : get_or votes vote.there.0 Regions ≡ vote.split =
-      get_or_default votes vote.there.0 Regions vote.split vote.there.1 ∙ vote.there.2 in
+      let split_is : get_or votes vote.there.0 Regions ≡ vote.split = cc (get_or_default votes vote.there.0 Regions vote.split vote.there.1) in
       record {
         there = (h.are bytes).1 (record {
           at = vote.there.0;

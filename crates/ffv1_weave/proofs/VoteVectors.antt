@@ -1,18 +1,7 @@
 -- Three versions of one slice of nine bytes. Each of its first three bytes is damaged in another version: at each distance the undamaged
 -- slice is the only combination of what most versions have, and it is what they vote. Two versions vote nothing, also where one is there
 -- twice.
-use Rattle.std.proofs.Common.{◌≡◌, ℕ, zero, suc, ◌+◌, ◌<◌, ◌≤◌, List, [], ◌∷◌, length, get_or, refl, sym, ap, ◌∙◌, subst, arith, inl, inr}
-use Rattle.std.specs.Prelude.{◌⊎◌, All, Contains, slice_range}
-use Rattle.std.proofs.lemmas.Bool.{cases_lt}
-use Rattle.ffv1_slice.specs.Members.{HasSameMembers}
-use Rattle.ffv1_weave.specs.Regions.{HaveLength, AgreeAt}
-use Rattle.ffv1_weave.specs.Boundaries.{IsBoundary}
-use Rattle.ffv1_weave.specs.Splits.{IsMost, IsChoiceBy, votes}
-use Rattle.ffv1_weave.specs.Combinations.{IsCombinationBy, HasFew}
-use Rattle.ffv1_weave.specs.Inner.Parts.{Part, AreChoicesBy, IsPartFrom, AreFewParts, IsFit}
-use Rattle.ffv1_weave.specs.Votes.{AreThree, AreTriedBy, IsVoteOf}
-use Rattle.ffv1_weave.specs.declared.splits.Split.{Split}
-use Rattle.ffv1_weave.specs.declared.splits.Split.TheVariants.{Regions, Most}
+use Rattle.ffv1_weave.proofs.Common.{◌≡◌, ℕ, zero, suc, ◌+◌, ◌<◌, ◌≤◌, List, [], ◌∷◌, length, get_or, refl, sym, ap, subst, arith, inl, inr, rules, ◌⊎◌, All, Contains, slice_range, cases_lt, HaveLength, AgreeAt, IsBoundary, IsMost, votes, IsCombinationBy, HasFew, Part, AreChoicesBy, IsPartFrom, AreFewParts, IsFit, AreThree, AreTriedBy, IsVoteOf, Split, Regions, Most}
 use Rattle.ffv1_weave.proofs.Agreeing.{agree_from}
 use Rattle.ffv1_weave.proofs.ChoiceSteps.{alone}
 use Rattle.ffv1_weave.proofs.MostSteps.{choices_fit}
@@ -103,12 +92,7 @@ module _ (distance : ℕ) where
       boundary_past 2 one third one_there third_there (λ same. absurd (omega arith)) (λ i low. rest_agrees i low one third one_there third_there)
 
   next : (start : ℕ) → (start ≡ 0) ⊎ IsBoundary distance three start → IsBoundary distance three (start + 1) → IsPartFrom (Most distance) three start start (start + 1)
-  next start first last =
-      record {
-        beyond = omega arith;
-        until = λ i low lt. absurd (omega arith);
-        part = record { some = omega arith; first = first; last = inl last; within = λ i low lt boundary. absurd (omega arith) };
-      }
+  next start first last = grind arith
 
 -- ---- what most have: at each of the three places two versions have the byte of the original, and one has another
 
@@ -132,27 +116,14 @@ module _ (place : ℕ) (right wrong : List ℕ) (two : votes_for place right ≡
   no_more version (inr is) = omega (arith, ap (votes_for place) is)
 
   right_is_most : IsMost three place (place + 1) right
-  right_is_most =
-      is_most one other third one_other one_third other_third place (place + 1) right (no_more one first) (no_more other second) (no_more third last)
+  right_is_most = grind (arith, is_most, one_other, one_third, other_third, no_more)
 
   wrong_is_not : IsMost three place (place + 1) wrong → ⊥
   wrong_is_not = is_not_most one other third one_other one_third other_third place (place + 1) wrong right (omega arith)
 
   -- so the byte of the original alone can be taken
   taken : (distance : ℕ) → AreChoicesBy (Most distance) three place (place + 1) (right ∷ [])
-  taken distance =
-      record {
-        each = λ choice is. elim (either is.0.0 is.0.1) [
-          | inl same ↦ subst (Contains (right ∷ [])) (same ∙ sym is.0.2) (0, omega arith, refl)
-          | inr same ↦ absurd (wrong_is_not (subst (IsMost three place (place + 1)) (is.0.2 ∙ sym same) is.1))
-        ];
-        only = only;
-        once = λ j k low lt same. omega arith;
-      }
-    where
-      only : (k : ℕ) → k < 1 → IsChoiceBy (Most distance) three place (place + 1) (get_or (right ∷ []) k [])
-      only zero lt = (some, right_is_most)
-      only (suc k) lt = absurd (omega arith)
+  taken distance = grind (arith, either, wrong_is_not, right_is_most)
 
 -- ---- one combination at each distance
 
@@ -213,18 +184,7 @@ module _ (distance : ℕ) where
 -- ---- the vote
 
 three_differ : AreThree three
-three_differ =
-    record {
-      one = one;
-      other = other;
-      third = third;
-      one_there = one_there;
-      other_there = other_there;
-      third_there = third_there;
-      one_other = one_other;
-      one_third = one_third;
-      other_third = other_third;
-    }
+three_differ = search (rules, one_there, other_there, third_there, one_other, one_third, other_third)
 
 -- The original is voted, of one combination at each of the four distances.
 pub original_voted : IsVoteOf three small_slice 4
@@ -267,19 +227,4 @@ original_voted =
 
 -- One that is there twice counts once.
 pub twice_is_once : (bytes : List ℕ) (count : ℕ) → IsVoteOf (one ∷ other ∷ one ∷ []) bytes count → ⊥
-twice_is_once bytes count vote =
-    no_vote_of_two (one ∷ other ∷ []) (omega arith) bytes count (vote_of_as (one ∷ other ∷ one ∷ []) (one ∷ other ∷ []) same bytes count vote)
-  where
-    same : HasSameMembers (one ∷ other ∷ one ∷ []) (one ∷ other ∷ [])
-    same version = (fewer, more)
-      where
-        fewer : Contains (one ∷ other ∷ one ∷ []) version → Contains (one ∷ other ∷ []) version
-        fewer (zero, lt, is) = (0, omega arith, is)
-        fewer (suc zero, lt, is) = (1, omega arith, is)
-        fewer (suc (suc zero), lt, is) = (0, omega arith, is)
-        fewer (suc (suc (suc k)), lt, is) = absurd (omega arith)
-
-        more : Contains (one ∷ other ∷ []) version → Contains (one ∷ other ∷ one ∷ []) version
-        more (zero, lt, is) = (0, omega arith, is)
-        more (suc zero, lt, is) = (1, omega arith, is)
-        more (suc (suc k), lt, is) = absurd (omega arith)
+twice_is_once bytes count vote = grind (arith, no_vote_of_two, vote_of_as)

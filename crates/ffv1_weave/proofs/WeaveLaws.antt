@@ -1,18 +1,5 @@
 -- Laws of the weave.
-use Rattle.std.proofs.Common.{◌≡◌, ℕ, ◌-◌, List, get_or, refl, sym, ap, ◌∙◌, inl, inr}
-use Rattle.std.specs.Prelude.{slice_range}
-use Rattle.ffv1_weave.specs.Regions.{AgreeAt, DifferAt, IsRegion}
-use Rattle.ffv1_weave.specs.Boundaries.{IsBoundary, IsSegment}
-use Rattle.ffv1_weave.specs.Splits.{IsPartBy, IsChoiceOf, IsChoiceBy, HasChoice, IsMost, splits}
-use Rattle.ffv1_weave.specs.Numbers.{AreNumbered}
-use Rattle.ffv1_weave.specs.Combinations.{IsCombinationBy, IsValid, HasFew, HasMany, IsTriedBy}
-use Rattle.ffv1_weave.specs.Weave.{Weave, IsWeaveOf, AreFew, AreMany}
-use Rattle.ffv1_weave.specs.Weave.Weave.{woven, disputed, missing, too_many}
-use Rattle.ffv1_weave.specs.declared.check.Check.{Check}
-use Rattle.ffv1_weave.specs.declared.splits.Split.{Split}
-use Rattle.ffv1_weave.specs.declared.splits.Split.TheVariants.{Pairs, Regions, Most}
-use Rattle.ffv1_slice.specs.Members.{HasSameMembers}
-use Rattle.ffv1_weave.specs.Laws.{SameVersionsWeave}
+use Rattle.ffv1_weave.proofs.Common.{◌≡◌, ℕ, ◌-◌, List, refl, sym, ap, ◌∙◌, inl, inr, arith, rules, slice_range, AgreeAt, DifferAt, IsRegion, IsBoundary, IsSegment, IsPartBy, IsChoiceOf, IsChoiceBy, HasChoice, IsMost, AreNumbered, IsCombinationBy, IsValid, HasFew, HasMany, IsTriedBy, Weave, IsWeaveOf, AreFew, AreMany, woven, disputed, missing, too_many, Check, Split, Pairs, Regions, Most, HasSameMembers, SameVersionsWeave}
 use Rattle.ffv1_weave.proofs.Tried.{one_count, few_not_many}
 
 pub same_back : (versions others : List (List ℕ)) → HasSameMembers versions others → HasSameMembers others versions
@@ -136,24 +123,10 @@ module _ (versions others : List (List ℕ)) (same : HasSameMembers versions oth
   has_many_as split h = record { at = h.at; are = λ k low. combination_as versions others same split (h.at k) (h.are k low); once = h.once }
 
   pub tried_as : (split : Split) (count : ℕ) → IsTriedBy versions split count → IsTriedBy others split count
-  tried_as split count h =
-      record {
-        place = h.place;
-        there = h.there;
-        is = h.is;
-        finer = λ k below. has_many_as (get_or splits k Regions) (h.finer k below);
-        few = has_few_as split count h.few;
-      }
+  tried_as split count h = grind (arith, has_many_as, has_few_as)
 
   pub valid_as : (check : Check) (bytes : List ℕ) → IsValid check versions bytes → IsValid check others bytes
-  valid_as check bytes h =
-      record {
-        split = h.split;
-        count = h.count;
-        tried = tried_as h.split h.count h.tried;
-        combination = combination_as versions others same h.split bytes h.combination;
-        passes = h.passes;
-      }
+  valid_as check bytes h = search (rules, tried_as, combination_as)
 
   pub few_as : (count : ℕ) → AreFew versions count → AreFew others count
   few_as count h = record { split = h.split; tried = tried_as h.split count h.tried }

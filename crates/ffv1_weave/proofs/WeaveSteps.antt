@@ -1,26 +1,8 @@
 -- The combinations as they are tried, by number.
-use Rattle.std.proofs.Common.{◌≡◌, ℕ, zero, suc, ◌+◌, ◌<◌, List, [], ◌∷◌, ◌++◌, length, get_or, take, drop, Option, Some, Bor, refl, sym, ap, ◌∙◌, subst, arith, inl, inr, map}
-use Rattle.std.specs.Prelude.{◌↔◌, All, Contains, MatchOption}
-use Rattle.std.proofs.lemmas.Bool.{cases_lt}
-use Rattle.std.proofs.lemmas.List.{append-nil, drop_all, take_all}
-use Rattle.std.proofs.lemmas.List.Elements.{Contains-get_or}
-use Rattle.ffv1_slice.proofs.Links.{Contains-head, Contains-cons}
-use Rattle.ffv1_weave.specs.Regions.{HaveLength}
-use Rattle.ffv1_weave.specs.Numbers.{AreNumbered}
-use Rattle.ffv1_weave.specs.Combinations.{IsCombinationBy, IsValid}
-use Rattle.ffv1_weave.specs.Inner.Parts.{Part, IsFit, AreFewParts, AreTriedParts, count_of, chosen, chosen_below}
-use Rattle.ffv1_weave.specs.Inner.Found.{PassesAmong, IsFoundAmong}
-use Rattle.ffv1_weave.specs.Weave.{Weave, IsWeaveOf, AreFew, AreMany}
-use Rattle.ffv1_weave.specs.Weave.Weave.{woven, disputed, missing}
-use Rattle.ffv1_weave.specs.declared.check.Check.{Check}
-use Rattle.ffv1_weave.specs.declared.found.Found.{Found}
+use Rattle.ffv1_weave.proofs.Common.{◌≡◌, ℕ, zero, suc, ◌+◌, ◌<◌, List, [], ◌∷◌, ◌++◌, length, get_or, take, drop, Option, Some, Bor, sym, ap, ◌∙◌, subst, arith, inl, inr, map, rules, ◌↔◌, All, Contains, MatchOption, cases_lt, append-nil, drop_all, take_all, Contains-get_or, Contains-head, Contains-cons, HaveLength, AreNumbered, IsCombinationBy, IsValid, Part, IsFit, AreFewParts, AreTriedParts, count_of, chosen, chosen_below, PassesAmong, IsFoundAmong, Weave, IsWeaveOf, AreFew, AreMany, woven, disputed, missing, Check, Found, Parts, values_of, remainder_in, changes_of, changed, Split}
 use Rattle.ffv1_weave.specs.declared.found.Found.TheVariants as found
-use Rattle.ffv1_weave.specs.declared.parts.Parts.{Parts}
-use Rattle.ffv1_weave.specs.References.{values_of}
 use Rattle.ffv1_weave.proofs.References.{nowhere, value_at, length-values_of, each_value}
-use Rattle.ffv1_weave.specs.Inner.Changes.{remainder_in, changes_of, changed}
 use Rattle.ffv1_weave.proofs.Linear.{changed_is}
-use Rattle.ffv1_weave.specs.declared.splits.Split.{Split}
 use Rattle.ffv1_weave.proofs.Tried.{valid_by, tried_combination}
 use Rattle.ffv1_weave.proofs.PartSteps.{count_positive}
 use Rattle.ffv1_weave.proofs.Choices.{IsAlike, fit_head, fit_tail, numbered, chosen_alike, combination_alike}
@@ -34,9 +16,7 @@ module _ (parts : List Part) (first : List ℕ) where
   below_there (suc count) code lt =
       elim (cases_lt code count) [
         | inl below ↦ Contains-cons (chosen parts count first) (chosen parts code first) (chosen_below parts first count) (below_there count code below)
-        | inr last ↦ let same : count ≡ code = omega arith in
-            subst (λ k. Contains (chosen_below parts first (suc count)) (chosen parts k first)) same
-            (Contains-head (chosen parts count first) (chosen_below parts first count))
+        | inr last ↦ grind (arith, Contains-head)
       ]
 
   below_of : (count : ℕ) (bytes : List ℕ) → Contains (chosen_below parts first count) bytes
@@ -52,8 +32,7 @@ module _ (parts : List Part) (first : List ℕ) where
 pub next_below : (check : Check) (parts : List Part) (first : List ℕ) (code : ℕ) (others : List (List ℕ)) (what : Found)
     → IsFoundAmong check (chosen parts code first ∷ (chosen_below parts first code ++ others)) what
     → IsFoundAmong check (chosen_below parts first (code + 1) ++ others) what
-next_below check parts first code others what h =
-    let next : suc code ≡ code + 1 = omega arith in subst (λ n. IsFoundAmong check (chosen_below parts first n ++ others) what) next h
+next_below check parts first code others what h = grind arith
 
 -- ---- the parts of versions of one length
 
@@ -90,18 +69,15 @@ module _ {split : Split} {versions : List (List ℕ)} {parts : List Part} {count
   pub chosen_where : (bytes : List ℕ) → Contains (chosen_below parts (get_or versions 0 []) count) bytes ↔ IsCombinationBy split versions bytes
   chosen_where bytes = (
     λ there. let code = below_of parts (get_or versions 0 []) count bytes there in
-        subst (IsCombinationBy split versions) code.2 (all_numbered.are code.0 (omega (arith, code.1, have.few.counted))),
+        rw (← code.2) (all_numbered.are code.0 (omega (arith, code.1, have.few.counted))),
     λ combination. let code = all_numbered.all bytes combination in
-        subst (Contains (chosen_below parts (get_or versions 0 []) count)) code.2
-        (below_there parts (get_or versions 0 []) count code.0 (omega (arith, code.1, have.few.counted))),
+        rw (← code.2) (below_there parts (get_or versions 0 []) count code.0 (omega (arith, code.1, have.few.counted))),
   )
 
   -- what is written over bytes that are as the first version where all agree
   chosen_over : (code : ℕ) (bytes : List ℕ) → IsAlike versions 0 bytes (get_or versions 0 [])
       → chosen parts code bytes ≡ chosen parts code (get_or versions 0 [])
-  chosen_over code bytes alike =
-      chosen_alike split versions 0 parts code bytes (get_or versions 0 []) have.few.all.next have.few.all.rest
-      (subst (λ s. All (IsFit s) parts) (sym alike.size) have.few.fit) alike
+  chosen_over code bytes alike = grind (arith, chosen_alike)
 
   pub some_tried : 0 < count
   some_tried = omega (arith, have.few.counted, some_combinations (length (get_or versions 0 [])) parts have.few.fit)
@@ -113,33 +89,20 @@ module _ {split : Split} {versions : List (List ℕ)} {parts : List Part} {count
 
 -- what is written through a vector's slice is what the vector holds
 pub put_back : (len : ℕ) (new items : List ℕ) → len ≡ length items → length new ≡ length items → take len (new ++ drop (length new) items) ≡ new
-put_back len new items l n =
-    let none : drop (length new) items ≡ [] = ap (λ k. drop k items) n ∙ drop_all (length items) items (omega arith) in
-    ap (λ z. take len (new ++ z)) none ∙ ap (take len) (append-nil new) ∙ ap (λ k. take k new) (l ∙ sym n) ∙ take_all (length new) new (omega arith)
+put_back len new items l n = grind (arith, drop_all, append-nil, take_all)
 
 -- as the code has them
 pub have_few_parts : (versions : List (Bor (List ℕ))) → 0 < length versions
     → All (λ version. length version.now ≡ length (get_or (values_of versions) 0 [])) versions → {split : Split} {parts : List Part} {count : ℕ}
     → AreFewParts split (values_of versions) (length (get_or (values_of versions) 0 [])) parts count → HaveFewParts split (values_of versions) parts count
-have_few_parts versions some long few =
-    record {
-      some = omega (arith, length-values_of versions);
-      long = each_value versions (λ version. length version ≡ length (get_or (values_of versions) 0 [])) long;
-      few = few;
-    }
+have_few_parts versions some long few = search (rules, length-values_of, each_value)
 
 pub have_parts : (versions : List (Bor (List ℕ))) (found : Option Parts) (tried : Parts) → found ≡ Some tried
     → MatchOption found (AreMany (values_of versions))
     (λ tried. AreTriedParts (values_of versions) (length (get_or versions 0 nowhere).now) tried.parts.items tried.count)
     → 0 < length versions → All (λ version. length version.now ≡ length (get_or (values_of versions) 0 [])) versions
     → HaveParts (values_of versions) tried.parts.items tried.count
-have_parts versions found tried is given some long =
-    let tallied : AreTriedParts (values_of versions) (length (get_or versions 0 nowhere).now) tried.parts.items tried.count =
-    subst (λ found. MatchOption found (AreMany (values_of versions))
-    (λ tried. AreTriedParts (values_of versions) (length (get_or versions 0 nowhere).now) tried.parts.items tried.count)) is given in
-    let are = subst (λ z. AreTriedParts (values_of versions) (length z) tried.parts.items tried.count) (sym (value_at versions 0 nowhere [] some)) tallied in
-    let have = have_few_parts versions some long are.few in
-    record { some = have.some; long = have.long; are = are }
+have_parts versions found tried is given some long = grind (arith, nowhere, value_at, have_few_parts)
 
 -- ---- a combination that is tried, as the code has it
 
@@ -149,9 +112,7 @@ module _ {split : Split} {parts : List Part} {count : ℕ} (versions : List (Bor
   first = get_or (values_of versions) 0 []
 
   pub alike_first : (bytes : List ℕ) → bytes ≡ (get_or versions 0 nowhere).now → IsAlike (values_of versions) 0 bytes first
-  alike_first bytes is =
-      let same : bytes ≡ first = is ∙ sym (value_at versions 0 nowhere [] (omega (arith, have.some, length-values_of versions))) in
-      record { size = ap length same; front = λ i lt. ap (λ b. get_or b i 0) same; agree = λ i agree. ap (λ b. get_or b i 0) same }
+  alike_first bytes is = grind (arith, value_at, nowhere, length-values_of)
 
   -- the tables of bytes that are as the first version where all agree
   module _ (check : Check) (bytes : List ℕ) (alike : IsAlike (values_of versions) 0 bytes first) (tables : List (List ℕ)) (parts_now : List Part)
@@ -165,10 +126,7 @@ module _ {split : Split} {parts : List Part} {count : ℕ} (versions : List (Bor
     -- what the tables leave is the remainder of the combination
     pub left_is : (code base left : ℕ) → base ≡ remainder_in check bytes → left ≡ changed tables code base
         → left ≡ remainder_in check (chosen parts code first)
-    left_is code base left base_is tallied =
-        tallied ∙ ap (λ ts. changed ts code base) tables_are ∙ ap (changed (map (changes_of check bytes) parts) code) base_is
-        ∙ changed_is check split (values_of versions) bytes 0 parts code bytes have.few.all.next tables_fit refl (λ i low. refl)
-        ∙ ap (remainder_in check) (chosen_over have code bytes alike)
+    left_is code base left base_is tallied = grind (arith, tables_are, changed_is, tables_fit, chosen_over)
 
   -- The bytes are those of the combination.
   pub record AreChosen (code : ℕ) (bytes : List ℕ) : Type 0 where
@@ -179,8 +137,7 @@ module _ {split : Split} {parts : List Part} {count : ℕ} (versions : List (Bor
       → parts_now ≡ parts → lent ≡ items → IsAlike (values_of versions) 0 items first → len ≡ length items
       → AreChosen code (take len (new ++ drop (length new) items))
   written_over code len new lent items parts_now low made is lent_is alike size =
-      let new_is : new ≡ chosen parts code first =
-      made ∙ ap (λ ps. chosen ps code lent) is ∙ ap (chosen parts code) lent_is ∙ chosen_over have code items alike in
+      let new_is : new ≡ chosen parts code first = cc (chosen_over have code items alike) in
       let there = alike_at have code low in
       let now = put_back len new items size (ap length new_is ∙ there.size ∙ sym alike.size) ∙ new_is in
       record { are = now; alike = subst (λ b. IsAlike (values_of versions) 0 b first) (sym now) there }
@@ -208,9 +165,8 @@ module _ (check : Check) {versions : List (List ℕ)} {parts : List Part} {count
   -- what is tried and passes is valid, and the other way round
   is_valid : (bytes : List ℕ) → PassesAmong check all_chosen bytes → IsValid check versions bytes
   is_valid bytes h =
-      valid_by versions check have.are.split count have.are.tried bytes
-      ((chosen_where (have_few have) bytes).0
-      (subst (λ all. Contains all bytes) (append-nil (chosen_below parts (get_or versions 0 []) count)) h.there)) h.passes
+      valid_by versions check have.are.split count have.are.tried bytes ((chosen_where (have_few have) bytes).0
+      (rw (← append-nil (chosen_below parts (get_or versions 0 []) count)) h.there)) h.passes
 
   is_passing : (bytes : List ℕ) → IsValid check versions bytes → PassesAmong check all_chosen bytes
   is_passing bytes h =

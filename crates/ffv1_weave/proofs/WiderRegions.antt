@@ -1,7 +1,5 @@
 -- Each stretch of places at which versions differ closely enough lies in a region of them.
-use Rattle.std.proofs.Common.{◌≡◌, ℕ, zero, suc, ◌+◌, ◌-◌, ◌<◌, ◌≤◌, List, subst, arith, inl, inr}
-use Rattle.std.proofs.lemmas.Bool.{cases_lt}
-use Rattle.ffv1_weave.specs.Regions.{HaveLength, AgreeAt, DifferAt, IsRegion}
+use Rattle.ffv1_weave.proofs.Common.{◌≡◌, ℕ, zero, suc, ◌+◌, ◌-◌, ◌<◌, ◌≤◌, List, subst, arith, inl, inr, cases_lt, HaveLength, AgreeAt, DifferAt, IsRegion}
 use Rattle.ffv1_weave.specs.declared.regions.TheConstants.{SEPARATION}
 use Rattle.ffv1_weave.proofs.Agreeing.{agree_past, some_differ}
 use Rattle.ffv1_weave.proofs.RegionSteps.{within_window, window_within}

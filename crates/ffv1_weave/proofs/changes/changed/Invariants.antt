@@ -1,5 +1,4 @@
-use Rattle.std.proofs.Common.{◌≡◌, map, drop}
-use Rattle.ffv1_weave.specs.Inner.Changes.{changed}
+use Rattle.ffv1_weave.proofs.Common.{◌≡◌, map, drop, changed}
 use Rattle.ffv1_weave.proofs.changes.changed.Given as goal
 
 -- The changes of the rest make of this register what all make of the first.

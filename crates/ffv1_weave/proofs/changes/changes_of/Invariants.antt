@@ -1,5 +1,4 @@
-use Rattle.std.proofs.Common.{◌≡◌, take, length}
-use Rattle.ffv1_weave.specs.Inner.Changes.{changes_of}
+use Rattle.ffv1_weave.proofs.Common.{◌≡◌, take, length, changes_of}
 use Rattle.ffv1_weave.proofs.changes.changes_of.Given as goal
 
 -- the changes of the choices so far

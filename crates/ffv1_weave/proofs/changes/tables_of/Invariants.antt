@@ -1,5 +1,4 @@
-use Rattle.std.proofs.Common.{◌≡◌, map, take, length}
-use Rattle.ffv1_weave.specs.Inner.Changes.{changes_of}
+use Rattle.ffv1_weave.proofs.Common.{◌≡◌, map, take, length, changes_of}
 use Rattle.ffv1_weave.proofs.changes.tables_of.Given as goal
 
 -- the changes of the parts so far

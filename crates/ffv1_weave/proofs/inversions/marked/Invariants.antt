@@ -1,4 +1,4 @@
-use Rattle.std.proofs.Common.{◌≡◌, ◌%◌, ◌<◌, ℕ, true, false, length, get_or}
+use Rattle.ffv1_weave.proofs.Common.{◌≡◌, ◌%◌, ◌<◌, ℕ, true, false, length, get_or}
 use Rattle.ffv1_weave.specs.declared.inversions.TheConstants.{MARKS}
 use Rattle.ffv1_weave.proofs.inversions.marked.Given as goal
 

@@ -1,4 +1,4 @@
-use Rattle.std.proofs.Common.{rules}
+use Rattle.ffv1_weave.proofs.Common.{rules}
 use Rattle.ffv1_weave.proofs.OneBit.{next_reduced, next_low}
 use Rattle.ffv1_weave.proofs.inversions.next_power.Goals as goal
 

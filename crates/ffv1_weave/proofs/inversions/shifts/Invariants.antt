@@ -1,5 +1,4 @@
-use Rattle.std.proofs.Common.{◌≡◌, ◌+◌, ◌<◌, ℕ, length, get_or}
-use Rattle.ffv1_weave.specs.Inner.Inversions.{times_x}
+use Rattle.ffv1_weave.proofs.Common.{◌≡◌, ◌+◌, ◌<◌, ℕ, length, get_or, times_x}
 use Rattle.ffv1_weave.specs.declared.inversions.TheConstants.{WIDTH}
 use Rattle.ffv1_weave.proofs.inversions.shifts.Given as goal
 

@@ -1,10 +1,4 @@
-use Rattle.std.proofs.Common.{rules, ◌≡◌, ◌*◌, ◌-◌, ◌+◌, ◌<◌, ◌/◌, ℕ, List, ◌∷◌, ◌++◌, length, get_or, ap, sym, ◌∙◌, subst, refl, arith}
-use Rattle.ffv1_bits.specs.Bits.{bits_of}
-use Rattle.ffv1_bits.specs.Parity.{remainder_of}
-use Rattle.ffv1_weave.specs.Inner.Found.{IsFoundAmong}
-use Rattle.ffv1_weave.specs.Inner.Inversions.{inversions_from, times_x}
-use Rattle.ffv1_weave.specs.Repairs.{inverted}
-use Rattle.ffv1_weave.specs.declared.check.Check.TheVariants.{Slice}
+use Rattle.ffv1_weave.proofs.Common.{common_steps, rules, ◌≡◌, ◌*◌, ◌-◌, ◌+◌, ◌<◌, ◌/◌, ℕ, List, ◌∷◌, ◌++◌, length, get_or, ap, sym, ◌∙◌, arith, bits_of, remainder_of, IsFoundAmong, inversions_from, times_x, inverted, Slice}
 use Rattle.ffv1_weave.proofs.OneBit.{power_shifted}
 use Rattle.ffv1_weave.proofs.FoundSteps.{found_skipped}
 use Rattle.ffv1_weave.proofs.InversionSteps.{found_bit_before}
@@ -14,13 +8,7 @@ use Rattle.ffv1_weave.proofs.inversions.with_bits_before.Goals as goal
 pub loop-at-init : goal.loop-at-init
 loop-at-init c =
     let none : c.args.bit ≡ c.args.bit - 0 = omega arith in
-    record {
-      same = refl;
-      found = λ tried h. subst (λ b. IsFoundAmong Slice (inversions_from c.args.bytes.now b (8 * length c.args.bytes.now - b) ++ tried) c.args.found) none h;
-    }
-
-pub returns-in_err-found-clause-same : goal.returns-in_err-found-clause-same
-returns-in_err-found-clause-same c = c.with_inverted.ensures.same ∙ c.loop-at.invariant.same
+    grind (arith, common_steps)
 
 pub loop-at-preserved : goal.loop-at-preserved
 loop-at-preserved c =
@@ -41,10 +29,8 @@ loop-at-preserved c =
     ] in
     let more : (tried : List (List ℕ)) → IsFoundAmong Slice tried c.loop-at.found → IsFoundAmong Slice (inverted bytes next ∷ tried) c.if-shifts-at.found = λ tried h.
     elim c.if-shifts-at.branch [
-      | then-shifts-at+in_ok-found w ↦ subst (IsFoundAmong Slice (inverted bytes next ∷ tried)) (sym w.found-is) (w.in_ok-found.ensures.found tried h)
-      | else-shifts-at w ↦ subst (IsFoundAmong Slice (inverted bytes next ∷ tried)) (sym w.found-is)
-          (found_skipped Slice (inverted bytes next) tried
-          (λ passes.
+      | then-shifts-at+in_ok-found w ↦ rw w.found-is (w.in_ok-found.ensures.found tried h)
+      | else-shifts-at w ↦ rw w.found-is (found_skipped Slice (inverted bytes next) tried (λ passes.
           let shift : get_or c.args.shifts.now (64 - 1 - at) 0 ≡ times_x (remainder_of (bits_of bytes)) (64 - 1 - at + 1) =
           c.requires.shifts (64 - 1 - at) (omega arith) ∙ ap (λ xs. times_x (remainder_of (bits_of xs)) (64 - 1 - at + 1)) (sym same) in
           let far : 8 * length bytes - 1 - next + (64 - 1 - at + 1) ≡ 8 * length c.args.bytes.now - c.args.bit + 64 = omega (arith, long, c.requires.within) in
@@ -54,23 +40,15 @@ loop-at-preserved c =
     record {
       same = kept ∙ same;
       found = λ tried h.
-          let before = c.loop-at.invariant.found tried
-          (subst (λ xs. IsFoundAmong Slice (inversions_from xs c.args.bit (8 * length xs - c.args.bit) ++ tried) c.args.found) kept h) in
-          subst (λ xs. IsFoundAmong Slice (inversions_from xs (c.args.bit - (at + 1)) (8 * length xs - (c.args.bit - (at + 1))) ++ tried) c.if-shifts-at.found) (sym kept)
-          (subst (λ b. IsFoundAmong Slice (inversions_from bytes b (8 * length bytes - b) ++ tried) c.if-shifts-at.found) here
-          (found_bit_before bytes next (c.args.bit - at) tried near inside c.if-shifts-at.found
+          let before = c.loop-at.invariant.found tried (rw (← kept) h) in
+          rw kept (rw (← here) (found_bit_before bytes next (c.args.bit - at) tried near inside c.if-shifts-at.found
           (more (inversions_from bytes (c.args.bit - at) (8 * length bytes - (c.args.bit - at)) ++ tried) before)));
     }
-
-pub returns-clause-same : goal.returns-clause-same
-returns-clause-same c = c.loop-at.invariant.same
 
 pub returns-clause-found : goal.returns-clause-found
 returns-clause-found c = λ tried h.
     let bytes : List ℕ = c.args.bytes.now in
     let same : c.loop-at.bytes ≡ bytes = c.loop-at.invariant.same in
     let all : c.args.bit - c.loop-at.at ≡ c.args.bit - 64 = omega (arith, c.loop-at-test.false, c.min-at-end.ensures, c.loop-at.auto.at-end) in
-    let found = c.loop-at.invariant.found tried
-    (subst (λ xs. IsFoundAmong Slice (inversions_from xs c.args.bit (8 * length xs - c.args.bit) ++ tried) c.args.found) (sym same) h) in
-    subst (λ b. IsFoundAmong Slice (inversions_from bytes b (8 * length bytes - b) ++ tried) c.loop-at.found) all
-    (subst (λ xs. IsFoundAmong Slice (inversions_from xs (c.args.bit - c.loop-at.at) (8 * length xs - (c.args.bit - c.loop-at.at)) ++ tried) c.loop-at.found) same found)
+    let found = c.loop-at.invariant.found tried (rw same h) in
+    rw (← all) (rw (← same) found)

@@ -1,10 +1,4 @@
-use Rattle.std.proofs.Common.{rules, ◌≡◌, ◌*◌, ◌-◌, ◌+◌, ◌/◌, ◌%◌, ◌<◌, ℕ, false, List, ◌++◌, length, get_or, ap, sym, ◌∙◌, subst, refl, arith}
-use Rattle.std.proofs.lemmas.Bool.{false≢true}
-use Rattle.ffv1_bits.specs.Bits.{bits_of}
-use Rattle.ffv1_bits.specs.Parity.{remainder_of}
-use Rattle.ffv1_weave.specs.Inner.Found.{IsFoundAmong}
-use Rattle.ffv1_weave.specs.Inner.Inversions.{inversions_from, times_x}
-use Rattle.ffv1_weave.specs.declared.check.Check.TheVariants.{Slice}
+use Rattle.ffv1_weave.proofs.Common.{rules, ◌≡◌, ◌*◌, ◌-◌, ◌+◌, ◌/◌, ◌%◌, ◌<◌, ℕ, false, List, ◌++◌, length, get_or, ap, sym, ◌∙◌, subst, refl, arith, false≢true, bits_of, remainder_of, IsFoundAmong, inversions_from, times_x, Slice}
 use Rattle.ffv1_weave.proofs.OneBit.{power_left, power_shifted, eight_zeros}
 use Rattle.ffv1_weave.proofs.InversionSteps.{found_all_bits, found_bits_skipped}
 use Rattle.ffv1_weave.proofs.inversions.with_inversions.Goals.{then-marks-power+in_ok-found, else-marks-power}
@@ -21,19 +15,11 @@ loop-bit-init c =
           subst (λ n. IsFoundAmong Slice (inversions_from c.args.bytes.now (8 * length c.args.bytes.now) n ++ tried) c.args.found) none h;
     }
 
-pub with_bits_before-requires-clause-shifts : goal.with_bits_before-requires-clause-shifts
-with_bits_before-requires-clause-shifts c = λ j lt.
-    c.shifts-shifts.ensures j lt ∙ ap (λ r. times_x r (j + 1)) c.remainder.ensures
-    ∙ ap (λ xs. times_x (remainder_of (bits_of xs)) (j + 1)) (sym c.loop-bit.invariant.same)
-
 pub with_bits_before-requires-clause-power : goal.with_bits_before-requires-clause-power
 with_bits_before-requires-clause-power c =
     let at = c.loop-bit.invariant.power c.loop-bit-test.true in
     let exponent : 64 * at.0 + 64 ≡ 8 * length c.loop-bit.bytes - c.loop-bit.bit + 64 = omega (arith, at.1) in
     eight_zeros at.0 c.loop-bit.power c.remainder_after-power.result at.2 c.remainder_after-power.ensures ∙ ap (times_x 1) exponent
-
-pub with_bits_before-requires-clause-within : goal.with_bits_before-requires-clause-within
-with_bits_before-requires-clause-within c = c.loop-bit.invariant.within
 
 pub loop-bit-preserved : goal.loop-bit-preserved
 loop-bit-preserved c =
@@ -52,11 +38,8 @@ loop-bit-preserved c =
     let more : (tried : List (List ℕ)) → IsFoundAmong Slice (inversions_from bytes bit (8 * length bytes - bit) ++ tried) c.loop-bit.found
     → IsFoundAmong Slice (inversions_from bytes (bit - 64) (8 * length bytes - (bit - 64)) ++ tried) c.if-marks-power.found = λ tried h.
     elim c.if-marks-power.branch [
-      | then-marks-power+in_ok-found w ↦ subst (IsFoundAmong Slice (inversions_from bytes (bit - 64) (8 * length bytes - (bit - 64)) ++ tried))
-          (sym w.found-is) (w.in_ok-found.ensures.found tried h)
-      | else-marks-power w ↦ subst (IsFoundAmong Slice (inversions_from bytes (bit - 64) (8 * length bytes - (bit - 64)) ++ tried)) (sym w.found-is)
-          (found_bits_skipped bytes bit tried c.loop-bit.invariant.within c.loop-bit.found 64
-          (λ before low high passes.
+      | then-marks-power+in_ok-found w ↦ rw w.found-is (w.in_ok-found.ensures.found tried h)
+      | else-marks-power w ↦ rw w.found-is (found_bits_skipped bytes bit tried c.loop-bit.invariant.within c.loop-bit.found 64 (λ before low high passes.
           let j : ℕ = 63 - (bit - 1 - before) in
           let small : get_or bytes (before / 8) 0 < 256 = search rules in
           let exponent : 8 * length bytes - 1 - before + (j + 1) ≡ 64 * at.0 + 64 = omega (arith, at.1) in
@@ -73,13 +56,8 @@ loop-bit-preserved c =
       within = let low = c.loop-bit.invariant.within in omega (arith, is, long);
       power = λ some. let exponent : 64 * at.0 + 64 ≡ 64 * (at.0 + 1) = omega arith in (at.0 + 1, omega (arith, at.1, is, long), power ∙ ap power_left exponent);
       found = λ tried h.
-          subst (λ xs. IsFoundAmong Slice (inversions_from xs next (8 * length xs - next) ++ tried) c.if-marks-power.found) (sym kept)
-          (subst (λ b. IsFoundAmong Slice (inversions_from bytes b (8 * length bytes - b) ++ tried) c.if-marks-power.found) (sym is)
-          (more tried (c.loop-bit.invariant.found tried h)));
+          rw kept (rw is (more tried (c.loop-bit.invariant.found tried h)));
     }
-
-pub returns-clause-same : goal.returns-clause-same
-returns-clause-same c = c.loop-bit.invariant.same
 
 pub returns-clause-found : goal.returns-clause-found
 returns-clause-found c = λ tried h.

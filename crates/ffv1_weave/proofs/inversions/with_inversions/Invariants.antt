@@ -1,7 +1,4 @@
-use Rattle.std.proofs.Common.{◌≡◌, ◌+◌, ◌*◌, ◌-◌, ◌<◌, ◌≤◌, ℕ, List, ◌++◌, length}
-use Rattle.ffv1_weave.specs.Inner.Found.{IsFoundAmong}
-use Rattle.ffv1_weave.specs.Inner.Inversions.{inversions_from}
-use Rattle.ffv1_weave.specs.declared.check.Check.TheVariants.{Slice}
+use Rattle.ffv1_weave.proofs.Common.{◌≡◌, ◌+◌, ◌*◌, ◌-◌, ◌<◌, ◌≤◌, ℕ, List, ◌++◌, length, IsFoundAmong, inversions_from, Slice}
 use Rattle.ffv1_weave.proofs.OneBit.{power_left}
 use Rattle.ffv1_weave.proofs.inversions.with_inversions.Given as goal
 

@@ -1,12 +1,5 @@
-use Rattle.std.proofs.Common.{◌≡◌, ℕ, ◌+◌, List, [], ◌∷◌, ◌++◌, take, get_or, arith, sym, ◌∙◌, subst}
-use Rattle.std.specs.Prelude.{Contains, slice_range}
-use Rattle.std.proofs.lemmas.Bool.{false≢true}
-use Rattle.std.proofs.lemmas.Bool.Decides.{Decides-eqb}
-use Rattle.std.proofs.lemmas.Slice.Eq.{slice_eq-Decides}
-use Rattle.ffv1_weave.specs.Numbers.{AreNumbered}
-use Rattle.ffv1_weave.specs.Splits.{HasChoice}
-use Rattle.ffv1_weave.specs.References.{values_of}
-use Rattle.ffv1_weave.proofs.References.{value_at, length-values_of, next_value, all_values, nowhere}
+use Rattle.ffv1_weave.proofs.Common.{common_steps, ◌≡◌, ℕ, ◌+◌, List, [], ◌∷◌, ◌++◌, take, get_or, arith, sym, subst, Contains, slice_range, false≢true, Decides-eqb, slice_eq-Decides, values_of}
+use Rattle.ffv1_weave.proofs.References.{value_at, length-values_of, next_value, nowhere}
 use Rattle.ffv1_weave.proofs.MostSteps.{have_none, have_same, have_more, not_before}
 use Rattle.ffv1_weave.proofs.most.how_many.Goals as goal
 use Rattle.ffv1_weave.proofs.most.how_many.Goals.{then-eq, else-eq}
@@ -29,22 +22,6 @@ loop-version-preserved c =
     (subst (Contains before) (sym (value_at c.args.versions.now i nowhere [] (omega arith))) there) in
     let bound = c.loop-version.invariant.bound in
     elim c.if-eq.branch [
-      | then-eq w ↦ record {
-        counted = subst (AreNumbered (HasChoice (take (i + 1) (values_of c.args.versions.now)) start end choice)) (sym w.count-is)
-            (subst (λ vs. AreNumbered (HasChoice vs start end choice) (c.loop-version.count + 1)) next
-            (have_more start end choice before version c.loop-version.count new (sym (same.0 w.if-eq.true)) c.loop-version.invariant.counted));
-        bound = omega (arith, w.count-is);
-      }
-      | else-eq w ↦ record {
-        counted = subst (AreNumbered (HasChoice (take (i + 1) (values_of c.args.versions.now)) start end choice)) (sym w.count-is)
-            (subst (λ vs. AreNumbered (HasChoice vs start end choice) c.loop-version.count) next
-            (have_same start end choice before version c.loop-version.count
-            (λ is. absurd (false≢true (sym w.if-eq.false ∙ same.1 (sym is)))) c.loop-version.invariant.counted));
-        bound = omega (arith, w.count-is);
-      }
+      | then-eq w ↦ grind (arith, common_steps, have_more)
+      | else-eq w ↦ grind (arith, common_steps, have_same, false≢true)
     ]
-
-pub returns : goal.returns
-returns c =
-    subst (λ versions. AreNumbered (HasChoice versions c.args.start c.args.end c.args.choice.now) c.loop-version.count)
-    (all_values c.args.versions.now c.loop-version.version-index c.loop-version-test.false) c.loop-version.invariant.counted

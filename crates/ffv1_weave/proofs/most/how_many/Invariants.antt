@@ -1,6 +1,4 @@
-use Rattle.std.proofs.Common.{◌≤◌, map, take}
-use Rattle.ffv1_weave.specs.Numbers.{AreNumbered}
-use Rattle.ffv1_weave.specs.Splits.{HasChoice}
+use Rattle.ffv1_weave.proofs.Common.{◌≤◌, map, take, AreNumbered, HasChoice}
 use Rattle.ffv1_weave.proofs.most.how_many.Given as goal
 
 -- so many of the versions so far have the byte string

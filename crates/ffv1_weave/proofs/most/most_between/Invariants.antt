@@ -1,4 +1,4 @@
-use Rattle.std.proofs.Common.{map}
+use Rattle.ffv1_weave.proofs.Common.{map}
 use Rattle.ffv1_weave.proofs.MostSteps.{AreMostSoFar}
 use Rattle.ffv1_weave.proofs.most.most_between.Given as goal
 

@@ -1,9 +1,5 @@
-use Rattle.std.proofs.Common.{◌≡◌, ℕ, List, [], ◌∷◌, ◌++◌, Bor, take, get_or, arith, ap, sym, ◌∙◌, subst}
-use Rattle.std.specs.Prelude.{slice_range}
-use Rattle.std.proofs.lemmas.List.{map_push}
-use Rattle.ffv1_weave.specs.Inner.Parts.{AreChoices}
-use Rattle.ffv1_weave.specs.References.{values_of}
-use Rattle.ffv1_weave.proofs.References.{next_value, all_values, nowhere}
+use Rattle.ffv1_weave.proofs.Common.{◌≡◌, ℕ, List, [], ◌∷◌, ◌++◌, Bor, take, get_or, arith, ap, sym, ◌∙◌, subst, slice_range, map_push, AreChoices, values_of}
+use Rattle.ffv1_weave.proofs.References.{next_value, nowhere}
 use Rattle.ffv1_weave.proofs.ChoiceSteps.{IsAsked, choices_have, choices_lack, choices_same, choices_more}
 use Rattle.ffv1_weave.proofs.parts.choices_between.Goals as goal
 use Rattle.ffv1_weave.proofs.parts.choices_between.Goals.{then-not-contains+in_ok-push, else-not-contains}
@@ -30,8 +26,3 @@ loop-version-preserved c =
           (subst (λ v. AreChoices (before ++ version ∷ []) c.args.start c.args.end (values_of v.items)) (sym w.choices-is)
           (choices_same c.args.start c.args.end before (values_of choices) version c.loop-version.invariant has))
     ]
-
-pub returns : goal.returns
-returns c =
-    subst (λ versions. AreChoices versions c.args.start c.args.end (values_of c.loop-version.choices.items))
-    (all_values c.args.versions.now c.loop-version.version-index c.loop-version-test.false) c.loop-version.invariant

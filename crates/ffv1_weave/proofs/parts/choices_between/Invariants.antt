@@ -1,5 +1,4 @@
-use Rattle.std.proofs.Common.{map, take}
-use Rattle.ffv1_weave.specs.Inner.Parts.{AreChoices}
+use Rattle.ffv1_weave.proofs.Common.{map, take, AreChoices}
 use Rattle.ffv1_weave.proofs.parts.choices_between.Given as goal
 
 -- what the versions so far have there

@@ -1,5 +1,4 @@
-use Rattle.std.proofs.Common.{◌≡◌, length, drop}
-use Rattle.ffv1_weave.specs.Inner.Parts.{chosen}
+use Rattle.ffv1_weave.proofs.Common.{◌≡◌, length, drop, chosen}
 use Rattle.ffv1_weave.proofs.parts.choose.Given as goal
 
 -- The choices in the rest make of these bytes what all make of the first.

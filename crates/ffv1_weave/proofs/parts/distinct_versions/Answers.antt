@@ -1,9 +1,4 @@
-use Rattle.std.proofs.Common.{◌≡◌, ◌<◌, ℕ, List, [], Bor, length, get_or}
-use Rattle.std.specs.Prelude.{All}
-use Rattle.std.proofs.lemmas.Result.{IfOk-weaker}
-use Rattle.ffv1_slice.specs.Members.{HasSameMembers}
-use Rattle.ffv1_weave.specs.Inner.Parts.{AreChoices, AreDistinct}
-use Rattle.ffv1_weave.specs.References.{values_of}
+use Rattle.ffv1_weave.proofs.Common.{common_steps, ◌<◌, ℕ, List, Bor, length, get_or, arith, IfOk-weaker, HasSameMembers, AreChoices, AreDistinct, values_of}
 use Rattle.ffv1_weave.proofs.References.{nowhere}
 use Rattle.ffv1_weave.proofs.Distinct.{distinct_same, distinct_some, distinct_lengths}
 use Rattle.ffv1_weave.proofs.parts.distinct_versions.Goals as goal
@@ -21,7 +16,6 @@ returns c =
     record {
       same = of (λ distinct. HasSameMembers (values_of versions) (values_of distinct)) (λ distinct. distinct_same versions distinct some lengths);
       some = of (λ distinct. 0 < length distinct) (λ distinct. distinct_some versions distinct some lengths);
-      lengths = of (λ distinct. All (λ version. length version.now ≡ length (get_or (values_of distinct) 0 [])) distinct)
-          (λ distinct. distinct_lengths versions distinct some lengths);
+      lengths = grind (arith, common_steps, distinct_lengths);
       distinct = of (λ distinct. AreDistinct (values_of distinct)) (λ distinct choices. choices.once);
     }

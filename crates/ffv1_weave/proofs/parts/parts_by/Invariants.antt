@@ -1,4 +1,4 @@
-use Rattle.std.proofs.Common.{◌-◌, map}
+use Rattle.ffv1_weave.proofs.Common.{◌-◌, map}
 use Rattle.ffv1_weave.proofs.Finest.{ArePartsSoFar}
 use Rattle.ffv1_weave.proofs.parts.parts_by.Given as goal
 

@@ -1,10 +1,5 @@
-use Rattle.std.proofs.Common.{[], List, ℕ, ◌∙◌, ◌-◌, arith, ap, refl, sym, below_more, get_or}
-use Rattle.std.specs.Prelude.{slice_range}
-use Rattle.std.proofs.lemmas.Slice.Eq.{slice_eq-Decides}
-use Rattle.std.proofs.lemmas.Bool.{not-false}
-use Rattle.std.proofs.lemmas.Bool.Decides.{Decides-eqb}
+use Rattle.ffv1_weave.proofs.Common.{[], List, ℕ, ◌∙◌, ◌-◌, arith, ap, refl, sym, below_more, get_or, slice_range, slice_eq-Decides, not-false, Decides-eqb, values_of}
 use Rattle.ffv1_weave.proofs.Choices.{range_at}
-use Rattle.ffv1_weave.specs.References.{values_of}
 use Rattle.ffv1_weave.proofs.References.{value_at, length-values_of, nowhere}
 use Rattle.ffv1_weave.proofs.Agreeing.{agree_from}
 use Rattle.ffv1_weave.proofs.regions.agree_between.Goals as goal

@@ -1,5 +1,4 @@
-use Rattle.std.proofs.Common.{[], ◌≡◌, ℕ, ◌<◌, map, get_or}
-use Rattle.std.specs.Prelude.{slice_range}
+use Rattle.ffv1_weave.proofs.Common.{[], ◌≡◌, ℕ, ◌<◌, map, get_or, slice_range}
 use Rattle.ffv1_weave.proofs.regions.agree_between.Given as goal
 
 -- the versions so far have the bytes of the first

@@ -1,4 +1,4 @@
-use Rattle.std.proofs.Common.{map}
+use Rattle.ffv1_weave.proofs.Common.{map}
 use Rattle.ffv1_weave.proofs.Agreeing.{AgreeSoFar}
 use Rattle.ffv1_weave.proofs.regions.differ_at.Given as goal
 

@@ -1,8 +1,4 @@
-use Rattle.std.proofs.Common.{◌≡◌, List, ℕ, ◌+◌, arith, sym, subst, length, inl, inr}
-use Rattle.std.specs.Prelude.{MatchBool}
-use Rattle.std.proofs.lemmas.Bool.{cases_lt}
-use Rattle.ffv1_weave.specs.Regions.{AgreeAt, DifferAt}
-use Rattle.ffv1_weave.specs.References.{values_of}
+use Rattle.ffv1_weave.proofs.Common.{◌≡◌, List, ℕ, ◌+◌, arith, sym, subst, length, inl, inr, MatchBool, cases_lt, AgreeAt, DifferAt, values_of}
 use Rattle.ffv1_weave.proofs.References.{each_value}
 use Rattle.ffv1_weave.proofs.Agreeing.{agree_past}
 use Rattle.ffv1_weave.proofs.RegionSteps.{IsEndSoFar, end_begins, end_stays, end_moves}

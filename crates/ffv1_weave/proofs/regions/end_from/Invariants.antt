@@ -1,4 +1,4 @@
-use Rattle.std.proofs.Common.{map, ◌-◌}
+use Rattle.ffv1_weave.proofs.Common.{map, ◌-◌}
 use Rattle.ffv1_weave.proofs.RegionSteps.{IsEndSoFar}
 use Rattle.ffv1_weave.proofs.regions.end_from.Given as goal
 

@@ -1,5 +1,4 @@
-use Rattle.std.proofs.Common.{map, ℕ, ◌≤◌, ◌<◌}
-use Rattle.ffv1_weave.specs.Regions.{AgreeAt}
+use Rattle.ffv1_weave.proofs.Common.{map, ℕ, ◌≤◌, ◌<◌, AgreeAt}
 use Rattle.ffv1_weave.proofs.regions.first_from.Given as goal
 
 abbrev pub invariant-loop-place : goal.invariant-loop-place

@@ -1,5 +1,4 @@
-use Rattle.std.proofs.Common.{ℕ, ◌-◌, ◌≤◌, ◌<◌, map}
-use Rattle.ffv1_weave.specs.Regions.{AgreeAt}
+use Rattle.ffv1_weave.proofs.Common.{ℕ, ◌-◌, ◌≤◌, ◌<◌, map, AgreeAt}
 use Rattle.ffv1_weave.proofs.regions.stretch_from.Given as goal
 
 abbrev pub invariant-loop-place : goal.invariant-loop-place

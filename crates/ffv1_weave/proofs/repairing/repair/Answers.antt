@@ -1,5 +1,4 @@
-use Rattle.ffv1_weave.specs.Repairs.{IsRepairOf}
-use Rattle.ffv1_weave.specs.References.{values_of}
+use Rattle.ffv1_weave.proofs.Common.{IsRepairOf, values_of}
 use Rattle.ffv1_weave.proofs.Distinct.{lent_same}
 use Rattle.ffv1_weave.proofs.RepairLaws.{repair_of_as}
 use Rattle.ffv1_weave.proofs.Returned.{returned_as}

@@ -1,9 +1,4 @@
-use Rattle.std.proofs.Common.{◌≡◌, ◌*◌, ℕ, List, [], ◌++◌, length, get_or, arith, ap, sym, ◌∙◌, subst, inl, inr}
-use Rattle.ffv1_weave.specs.Inner.Found.{IsFoundAmong}
-use Rattle.ffv1_weave.specs.Inner.Inversions.{inversions}
-use Rattle.ffv1_weave.specs.Inner.Parts.{Part}
-use Rattle.ffv1_weave.specs.declared.check.Check.TheVariants.{Slice}
-use Rattle.ffv1_weave.specs.References.{values_of}
+use Rattle.ffv1_weave.proofs.Common.{◌≡◌, ◌*◌, ℕ, List, [], ◌++◌, length, get_or, arith, ap, sym, ◌∙◌, subst, inl, inr, IsFoundAmong, inversions, Part, Slice, values_of}
 use Rattle.ffv1_weave.proofs.References.{nowhere, value_at}
 use Rattle.ffv1_weave.proofs.Choices.{IsAlike}
 use Rattle.ffv1_weave.proofs.WeaveSteps.{have_few, some_tried, have_parts, written_over, put_back}

@@ -1,6 +1,4 @@
-use Rattle.std.proofs.Common.{[], map, get_or}
-use Rattle.ffv1_weave.specs.Inner.Found.{IsFoundAmong}
-use Rattle.ffv1_weave.specs.declared.check.Check.TheVariants.{Slice}
+use Rattle.ffv1_weave.proofs.Common.{[], map, get_or, IsFoundAmong, Slice}
 use Rattle.ffv1_weave.proofs.Choices.{IsAlike}
 use Rattle.ffv1_weave.proofs.RepairSteps.{all_inversions}
 use Rattle.ffv1_weave.proofs.repairing.repair_distinct.Given as goal

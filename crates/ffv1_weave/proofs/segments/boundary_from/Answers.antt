@@ -1,7 +1,4 @@
-use Rattle.std.proofs.Common.{◌≡◌, arith, subst, inl, inr}
-use Rattle.std.proofs.lemmas.Bool.{cases_lt}
-use Rattle.ffv1_weave.specs.Boundaries.{IsBoundary}
-use Rattle.ffv1_weave.specs.References.{values_of}
+use Rattle.ffv1_weave.proofs.Common.{◌≡◌, arith, subst, inl, inr, cases_lt, IsBoundary, values_of}
 use Rattle.ffv1_weave.proofs.segments.boundary_from.Goals as goal
 
 pub loop-place-preserved : goal.loop-place-preserved

@@ -1,5 +1,4 @@
-use Rattle.std.proofs.Common.{ℕ, ◌-◌, ◌≤◌, ◌<◌, map}
-use Rattle.ffv1_weave.specs.Boundaries.{IsBoundary}
+use Rattle.ffv1_weave.proofs.Common.{ℕ, ◌-◌, ◌≤◌, ◌<◌, map, IsBoundary}
 use Rattle.ffv1_weave.proofs.segments.boundary_from.Given as goal
 
 abbrev pub invariant-loop-place : goal.invariant-loop-place

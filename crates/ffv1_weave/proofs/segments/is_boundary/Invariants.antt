@@ -1,6 +1,4 @@
-use Rattle.std.proofs.Common.{[], List, ℕ, ◌<◌, map, get_or}
-use Rattle.std.specs.Prelude.{Contains}
-use Rattle.ffv1_weave.specs.Boundaries.{AreParted}
+use Rattle.ffv1_weave.proofs.Common.{[], List, ℕ, ◌<◌, map, get_or, Contains, AreParted}
 use Rattle.ffv1_weave.proofs.segments.is_boundary.Given as goal
 
 -- none of the versions so far is parted from any

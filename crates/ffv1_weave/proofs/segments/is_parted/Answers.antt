@@ -1,7 +1,4 @@
-use Rattle.std.proofs.Common.{[], ◌∙◌, arith, below_more, inl, inr, subst, sym}
-use Rattle.std.proofs.lemmas.List.{get_or_default}
-use Rattle.ffv1_weave.specs.Boundaries.{AreParted}
-use Rattle.ffv1_weave.specs.References.{values_of}
+use Rattle.ffv1_weave.proofs.Common.{[], below_more, inl, inr, subst, rules, get_or_default, AreParted}
 use Rattle.ffv1_weave.proofs.References.{value_at, length-values_of, nowhere}
 use Rattle.ffv1_weave.proofs.segments.is_parted.Goals as goal
 
@@ -15,12 +12,4 @@ loop-other-preserved c =
     ])
 
 pub returns : goal.returns
-returns c = (
-  λ no. absurd (cc),
-  λ found.
-      let there = found.1 in
-      let few = length-values_of c.args.others.now in
-      absurd (c.loop-other.invariant there.0 (omega arith)
-      (subst (λ other. AreParted c.args.distance c.args.one.now other c.args.place)
-      (sym (get_or_default (values_of c.args.others.now) there.0 [] found.0 there.1 ∙ there.2)) found.2)),
-)
+returns c = search (rules, length-values_of, get_or_default)

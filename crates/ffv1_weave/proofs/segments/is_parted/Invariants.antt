@@ -1,5 +1,4 @@
-use Rattle.std.proofs.Common.{[], ℕ, ◌<◌, map, get_or}
-use Rattle.ffv1_weave.specs.Boundaries.{AreParted}
+use Rattle.ffv1_weave.proofs.Common.{[], ℕ, ◌<◌, map, get_or, AreParted}
 use Rattle.ffv1_weave.proofs.segments.is_parted.Given as goal
 
 -- none of the others so far

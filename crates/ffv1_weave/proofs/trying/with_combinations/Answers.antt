@@ -1,10 +1,4 @@
-use Rattle.std.proofs.Common.{◌≡◌, ◌<◌, ℕ, List, [], ◌∷◌, ◌++◌, Vec, Global, length, get_or, map, arith, ap, sym, ◌∙◌, subst, refl}
-use Rattle.std.specs.Prelude.{All}
-use Rattle.std.proofs.lemmas.List.{length-map, get_or-map}
-use Rattle.ffv1_weave.specs.Inner.Found.{IsFoundAmong}
-use Rattle.ffv1_weave.specs.Inner.Parts.{Part, chosen, chosen_below}
-use Rattle.ffv1_weave.specs.Inner.Changes.{remainder_in}
-use Rattle.ffv1_weave.specs.References.{values_of}
+use Rattle.ffv1_weave.proofs.Common.{◌≡◌, ◌<◌, ℕ, List, [], ◌∷◌, ◌++◌, Vec, Global, length, get_or, map, arith, ap, sym, ◌∙◌, subst, refl, All, length-map, get_or-map, IsFoundAmong, Part, chosen, chosen_below, remainder_in, values_of}
 use Rattle.ffv1_weave.proofs.Linear.{changes_some, passes_leaves_none}
 use Rattle.ffv1_weave.proofs.FoundSteps.{found_skipped}
 use Rattle.ffv1_weave.proofs.WeaveSteps.{have_few_parts, first_alike, alike_first, tables_are, tables_fit, left_is, written_over, next_below}
@@ -33,8 +27,7 @@ changed-requires c =
     let fit = tables_fit c.args.versions.now have c.args.check c.as_slice-3.result.now alike _ _
     (ap entries c.as_slice-in-loop-code.ensures.value ∙ c.in_ok-tables.ensures) c.as_slice-4.ensures.value in
     let some : All (λ changes. 0 < length changes) (entries c.as_slice-in-loop-code.result.now) =
-    subst (All (λ changes. 0 < length changes)) (sym tables)
-    (changes_some c.args.check (length c.as_slice-3.result.now) c.as_slice-3.result.now c.args.tried.now.parts.items fit) in
+    rw tables (changes_some c.args.check (length c.as_slice-3.result.now) c.as_slice-3.result.now c.args.tried.now.parts.items fit) in
     λ k d lt.
     let one = some k [] (omega (arith, length-map c.as_slice-in-loop-code.result.now (λ (table : Vec ℕ Global). table.items))) in
     omega (arith, ap length (get_or-map (λ (table : Vec ℕ Global). table.items) c.as_slice-in-loop-code.result.now k d [] lt))
@@ -79,5 +72,4 @@ pub returns : goal.returns
 returns c = λ others h.
     let done : c.loop-code.code ≡ c.args.tried.now.count = omega (arith, c.loop-code-test.false, c.loop-code.auto.code-end) in
     let first : List ℕ = get_or (values_of c.args.versions.now) 0 [] in
-    subst (λ n. IsFoundAmong c.args.check (chosen_below c.args.tried.now.parts.items first n ++ others) c.loop-code.found) done
-    (c.loop-code.invariant.found others h)
+    rw (← done) (c.loop-code.invariant.found others h)

@@ -1,6 +1,4 @@
-use Rattle.std.proofs.Common.{ℕ, List, [], ◌++◌, map, get_or}
-use Rattle.ffv1_weave.specs.Inner.Found.{IsFoundAmong}
-use Rattle.ffv1_weave.specs.Inner.Parts.{chosen_below}
+use Rattle.ffv1_weave.proofs.Common.{ℕ, List, [], ◌++◌, map, get_or, IsFoundAmong, chosen_below}
 use Rattle.ffv1_weave.proofs.Choices.{IsAlike}
 use Rattle.ffv1_weave.proofs.trying.with_combinations.Given as goal
 

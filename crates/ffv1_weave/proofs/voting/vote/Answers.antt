@@ -1,6 +1,4 @@
-use Rattle.std.proofs.Common.{ℕ, List, arith}
-use Rattle.ffv1_weave.specs.Votes.{IsVoteOf}
-use Rattle.ffv1_weave.specs.References.{values_of}
+use Rattle.ffv1_weave.proofs.Common.{ℕ, List, arith, IsVoteOf, values_of}
 use Rattle.ffv1_weave.proofs.References.{length-values_of}
 use Rattle.ffv1_weave.proofs.Distinct.{lent_same}
 use Rattle.ffv1_weave.proofs.Returned.{returned_as}

@@ -1,11 +1,4 @@
-use Rattle.std.proofs.Common.{◌<◌, ◌+◌, ℕ, List, [], length, get_or, arith, sym, subst, inl, inr}
-use Rattle.std.proofs.lemmas.List.{get_or_default}
-use Rattle.ffv1_weave.specs.Inner.Found.{IsFoundAmong}
-use Rattle.ffv1_weave.specs.Splits.{votes}
-use Rattle.ffv1_weave.specs.declared.check.Check.TheVariants.{Slice}
-use Rattle.ffv1_weave.specs.declared.splits.Split.{Split}
-use Rattle.ffv1_weave.specs.declared.splits.Split.TheVariants.{Pairs, Regions}
-use Rattle.ffv1_weave.specs.References.{values_of}
+use Rattle.ffv1_weave.proofs.Common.{common_steps, ◌<◌, ◌+◌, ℕ, List, [], length, get_or, arith, sym, subst, inl, inr, get_or_default, IsFoundAmong, votes, Slice, Split, Regions, values_of}
 use Rattle.ffv1_weave.proofs.References.{nowhere, value_at, length-values_of}
 use Rattle.ffv1_weave.proofs.WeaveSteps.{have_few_parts}
 use Rattle.ffv1_weave.proofs.VoteSteps.{ArePartsBy, AreTriedBefore, none_before, many_more, few_more, three_of_distinct, one_voted, none_voted, two_voted}
@@ -22,10 +15,7 @@ loop-split-preserved c =
     let there : place < length votes = c.loop-split-test.true in
     let split : Split = get_or votes place Regions in
     let tallied : ArePartsBy split versions (length (get_or versions 0 [])) c.in_ok-tried.field-0 =
-    subst (λ first. ArePartsBy split versions (length first) c.in_ok-tried.field-0)
-    (sym (value_at c.args.versions.now 0 nowhere [] (omega (arith, c.requires.three))))
-    (subst (λ asked. ArePartsBy asked versions (length (get_or c.args.versions.now 0 nowhere).now) c.in_ok-tried.field-0)
-    (get_or_default votes place (Pairs 0) Regions there) c.in_ok-tried.ensures) in
+    grind (arith, common_steps, value_at, nowhere, get_or_default) in
     elim c.match-branch-2.branch [
       | in-Some+in_ok-found w ↦
           let have = have_few_parts c.args.versions.now (omega (arith, c.requires.three)) c.requires.lengths

@@ -1,4 +1,4 @@
-use Rattle.std.proofs.Common.{map}
+use Rattle.ffv1_weave.proofs.Common.{map}
 use Rattle.ffv1_weave.proofs.VoteSteps.{AreTriedBefore}
 use Rattle.ffv1_weave.proofs.voting.vote_distinct.Given as goal
 

@@ -1,6 +1,4 @@
-use Rattle.std.proofs.Common.{subst}
-use Rattle.ffv1_weave.specs.Weave.{IsWeaveOf}
-use Rattle.ffv1_weave.specs.References.{values_of}
+use Rattle.ffv1_weave.proofs.Common.{subst, IsWeaveOf, values_of}
 use Rattle.ffv1_weave.proofs.WeaveSteps.{have_parts, weave_found, found_woven}
 use Rattle.ffv1_weave.proofs.weaving.weave_distinct.Goals as goal
 
