@@ -1,10 +1,5 @@
 -- How far up places can be settled: one copy more, and what the bound is.
-use Rattle.std.proofs.Common.{◌≡◌, ℕ, ◌<◌, ◌≤◌, List, [], ◌∷◌, ◌++◌, refl, sym, ◌∙◌, subst, arith, inl, inr}
-use Rattle.std.specs.Prelude.{slice_range}
-use Rattle.ffv1_bits.specs.Parity.{PassesParity}
-use Rattle.ffv1_slice.specs.Chain.{FooterGives, LinkValue, link_of}
-use Rattle.ffv1_splice.specs.Pieces.{HasContent, IsPiece}
-use Rattle.ffv1_splice.specs.Splice.{IsBound}
+use Rattle.ffv1_splice.proofs.Common.{◌≡◌, ℕ, ◌<◌, ◌≤◌, List, [], ◌∷◌, ◌++◌, refl, sym, ◌∙◌, subst, arith, inl, inr, slice_range, PassesParity, FooterGives, LinkValue, link_of, HasContent, IsPiece, IsBound}
 use Rattle.ffv1_splice.proofs.TallySteps.{last, piece_on, piece_back, one_cut}
 
 -- ---- what it is

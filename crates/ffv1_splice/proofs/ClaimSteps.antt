@@ -1,14 +1,6 @@
 -- The ends whose footers give one start, 256 of them at a time: the middle byte of the size is the same in all of these.
-use Rattle.std.proofs.Common.{◌≡◌, ℕ, ◌+◌, ◌-◌, ◌/◌, ◌%◌, ◌<◌, ◌≤◌, List, length, min, drop, get_or, sym, ap, ◌∙◌, subst, arith, inl, inr}
-use Rattle.std.specs.Prelude.{slice_range}
-use Rattle.std.proofs.lemmas.Bool.{cases_lt, eq-eqb}
-use Rattle.std.proofs.lemmas.List.{get_or-drop, get_or-take}
-use Rattle.memchr.specs.Find.{Nowhere, NoneBefore, Passes, is_byte}
-use Rattle.ffv1_bits.specs.Parity.{AreBytes}
-use Rattle.ffv1_bits.proofs.Bytes.{AreBytes-range}
-use Rattle.ffv1_slice.specs.Chain.{FooterGives, footer_before}
-use Rattle.ffv1_slice.proofs.NearLaws.{length-range}
-use Rattle.ffv1_splice.specs.Inner.Claims.{LacksClaims}
+use Rattle.ffv1_splice.proofs.Common.{◌≡◌, ℕ, ◌+◌, ◌-◌, ◌/◌, ◌%◌, ◌<◌, ◌≤◌, List, length, min, drop, get_or, ap, ◌∙◌, arith, slice_range, cases_lt, eq-eqb, get_or-take, Nowhere, NoneBefore, Passes, is_byte, AreBytes, AreBytes-range, FooterGives, length-range, LacksClaims}
+use Rattle.std.proofs.lemmas.List.{get_or-drop}
 
 -- No footer that ends from one place on, and before another, gives the start; and the places are in this order.
 pub record AreUnclaimed (copy : List ℕ) (start from end : ℕ) : Type 0 where
@@ -23,12 +15,7 @@ in_range xs a b k within = get_or-take (b - a) (drop a xs) k 0 (omega arith) ∙
 -- the middle byte of the size that a footer gives
 middle : (copy : List ℕ) (start end : ℕ) → AreBytes copy → start + 8 ≤ end → FooterGives copy start end
     → get_or copy (end - 7) 0 ≡ (end - 8 - start) / 256 % 256
-middle copy start end small room cut =
-    let footer : AreBytes (footer_before copy end) = AreBytes-range copy (end - 8) end small in
-    let place : end - 8 + 1 ≡ end - 7 = omega arith in
-    let byte : get_or (footer_before copy end) 1 0 ≡ get_or copy (end - 7) 0 =
-    in_range copy (end - 8) end 1 (omega arith) ∙ ap (λ k. get_or copy k 0) place in
-    sym byte ∙ omega (arith, footer 0, footer 1, footer 2)
+middle copy start end small room cut = grind (arith, AreBytes-range, in_range)
 
 -- The ends of one middle byte, of which none is among the bytes in the footers of the ends up to one.
 lacks_in_window : (copy : List ℕ) (start end upto after : ℕ) → AreBytes copy → start + 8 ≤ end → upto ≤ after
@@ -41,8 +28,7 @@ lacks_in_window copy start end upto after small room below near none other later
     let same : (other - 8 - start) / 256 ≡ (end - 8 - start) / 256 = omega arith in
     let byte : get_or copy (other - 7) 0 ≡ m = middle copy start other small (omega arith) cut ∙ ap (λ n. n % 256) same in
     let place : end - 7 + k ≡ other - 7 = omega arith in
-    let there : get_or (slice_range copy (end - 7) (after - 7)) k 0 ≡ m =
-    in_range copy (end - 7) (after - 7) k (omega arith) ∙ ap (λ i. get_or copy i 0) place ∙ byte in
+    let there : get_or (slice_range copy (end - 7) (after - 7)) k 0 ≡ m = cc (in_range copy (end - 7) (after - 7) k (omega arith)) in
     none k (omega arith) (omega arith) (eq-eqb _ _ there)
 
 -- the window itself, up to its end
@@ -72,21 +58,12 @@ lacks_before copy start end after skipped small room order fits near first =
 
 unclaimed_on : (copy : List ℕ) (start from end next : ℕ) → AreUnclaimed copy start from end → end ≤ next → LacksClaims copy start end next
     → AreUnclaimed copy start from next
-unclaimed_on copy start from end next so_far order none =
-    record {
-      order = omega (arith, so_far.order);
-      none = λ other later before. elim (cases_lt other end) [
-        | inl earlier ↦ so_far.none other later earlier
-        | inr past ↦ none other past before
-      ];
-    }
+unclaimed_on copy start from end next so_far order none = grind (arith, cases_lt)
 
 -- one end more
 pub unclaimed_past : (copy : List ℕ) (start from end : ℕ) → AreUnclaimed copy start from end → (FooterGives copy start end → ⊥)
     → AreUnclaimed copy start from (end + 1)
-unclaimed_past copy start from end so_far uncut =
-    unclaimed_on copy start from end (end + 1) so_far (omega arith)
-    (λ other later before cut. let same : other ≡ end = omega arith in uncut (subst (FooterGives copy start) same cut))
+unclaimed_past copy start from end so_far uncut = grind (arith, unclaimed_on)
 
 -- ---- a turn of the loop: the window is up to the last end, or to where the middle byte changes
 

@@ -1,19 +1,5 @@
 -- The ends that copies claim of the slice with which they begin.
-use Rattle.std.proofs.Common.{◌≡◌, ℕ, ◌+◌, ◌-◌, ◌^◌, ◌<◌, ◌≤◌, Option, Some, None, min, List, [], ◌∷◌, ◌++◌, take, drop, refl, subst, arith, inl, inr, take-append-drop}
-use Rattle.std.specs.Prelude.{◌⊎◌, Contains, MatchOption}
-use Rattle.std.proofs.lemmas.Bool.{cases_lt}
-use Rattle.std.proofs.lemmas.List.Elements.{Contains-append_left, Contains-append_right, Contains-append_cases}
-use Rattle.ffv1_bits.specs.Limits.{slice_limit}
-use Rattle.ffv1_bits.specs.Parity.{AreBytes}
-use Rattle.ffv1_slice.specs.Chain.{FooterGives}
-use Rattle.ffv1_slice.specs.Members.{IsOnly, IsOfTwo, IsOfNone}
-use Rattle.ffv1_splice.specs.Pieces.{HasContent}
-use Rattle.ffv1_splice.specs.Splice.{IsClaimedEnd}
-use Rattle.ffv1_splice.specs.Inner.Claims.{LacksClaims, IsFirstClaim}
-use Rattle.ffv1_splice.specs.Inner.Splice.{IsNextClaimed}
-use Rattle.ffv1_splice.specs.Inner.Tally.{Tally, Tallies, TalliesBoth}
-use Rattle.ffv1_weave.proofs.ChoiceSteps.{alone}
-use Rattle.ffv1_weave.proofs.FoundSteps.{two_as}
+use Rattle.ffv1_splice.proofs.Common.{◌≡◌, ℕ, ◌+◌, ◌-◌, ◌^◌, ◌<◌, ◌≤◌, Option, Some, None, min, List, [], ◌∷◌, ◌++◌, take, drop, subst, arith, inl, inr, take-append-drop, ◌⊎◌, Contains, MatchOption, cases_lt, Contains-append_left, Contains-append_right, Contains-append_cases, slice_limit, AreBytes, FooterGives, IsOnly, IsOfTwo, IsOfNone, HasContent, IsClaimedEnd, LacksClaims, IsFirstClaim, IsNextClaimed, Tally, Tallies, TalliesBoth, alone, two_as}
 use Rattle.ffv1_splice.proofs.TallySteps.{tallies_both}
 use Rattle.ffv1_splice.proofs.ShortestSteps.{cut_is_short}
 
@@ -21,8 +7,7 @@ use Rattle.ffv1_splice.proofs.ShortestSteps.{cut_is_short}
 
 module _ (copy : List ℕ) (reach : ℕ) where
   pub claimed_of_cut : (end : ℕ) → FooterGives copy 0 end → 8 < end → end ≤ reach → IsClaimedEnd (copy ∷ []) reach end
-  claimed_of_cut end cut content within =
-      record { claim = record { copy = copy; there = (0, omega arith, refl); cut = cut; content = omega arith }; within = within }
+  claimed_of_cut end cut content within = grind arith
 
   pub cut_of_claimed : (end : ℕ) → IsClaimedEnd (copy ∷ []) reach end → FooterGives copy 0 end
   cut_of_claimed end h = subst (λ c. FooterGives c 0 end) (alone copy h.claim.copy h.claim.there) h.claim.cut
@@ -38,12 +23,7 @@ module _ (copy : List ℕ) (reach : ℕ) where
   -- the first of them
   pub next_claimed : (from end : ℕ) → ((other : ℕ) → from < other → other < end → FooterGives copy 0 other → ⊥) → FooterGives copy 0 end → 8 < end → from < end
       → end ≤ reach → IsNextClaimed copy from reach end
-  next_claimed from end none cut content after within =
-      record {
-        claimed = claimed_of_cut end cut content within;
-        after = after;
-        first = λ other past h. elim (cases_lt other end) [ inl earlier ↦ absurd (none other past earlier (cut_of_claimed other h)) | inr later ↦ later ];
-      }
+  next_claimed from end none cut content after within = grind (arith, claimed_of_cut, cases_lt, cut_of_claimed)
 
   -- what the search for the start of the copy found
   pub found_claim : (r : Option ℕ) (from next last : ℕ) → AreBytes copy → 8 ≤ from → next ≡ min (from + 1) (2 ^ 64 - 1) → last ≡ min reach slice_limit
@@ -51,10 +31,7 @@ module _ (copy : List ℕ) (reach : ℕ) where
       → MatchOption r ((end : ℕ) → from < end → IsClaimedEnd (copy ∷ []) reach end → ⊥) (IsNextClaimed copy from reach)
   found_claim None from next last small room is most none =
       none_claimed from last small (λ end after within cut. none end (omega arith) (omega arith) cut) (λ end beyond within short. omega arith)
-  found_claim (Some end) from next last small room is most first =
-      let after : from < end = omega (arith, is, most, first.after, first.within) in
-      next_claimed from end (λ other past before. first.none other (omega arith) before) first.cut (omega (arith, room, after)) after
-      (omega (arith, first.within, most))
+  found_claim (Some end) from next last small room is most first = grind (arith, next_claimed)
 
   claimed_after_footer : (end : ℕ) → IsClaimedEnd (copy ∷ []) reach end → 8 < end
   claimed_after_footer end h = let content : HasContent 0 end = h.claim.content in omega arith
@@ -78,18 +55,10 @@ module _ (copy : List ℕ) (reach : ℕ) where
 
 module _ (copies : List (List ℕ)) (copy : List ℕ) (reach : ℕ) where
   claimed_left : (end : ℕ) → IsClaimedEnd copies reach end → IsClaimedEnd (copies ++ copy ∷ []) reach end
-  claimed_left end h =
-      record {
-        claim = record { copy = h.claim.copy; there = Contains-append_left copies (copy ∷ []) h.claim.copy h.claim.there; cut = h.claim.cut; content = h.claim.content };
-        within = h.within;
-      }
+  claimed_left end h = grind (arith, Contains-append_left)
 
   claimed_right : (end : ℕ) → IsClaimedEnd (copy ∷ []) reach end → IsClaimedEnd (copies ++ copy ∷ []) reach end
-  claimed_right end h =
-      record {
-        claim = record { copy = h.claim.copy; there = Contains-append_right copies (copy ∷ []) h.claim.copy h.claim.there; cut = h.claim.cut; content = h.claim.content };
-        within = h.within;
-      }
+  claimed_right end h = grind (arith, Contains-append_right)
 
   claimed_cases : (end : ℕ) → IsClaimedEnd (copies ++ copy ∷ []) reach end → IsClaimedEnd copies reach end ⊎ IsClaimedEnd (copy ∷ []) reach end
   claimed_cases end h =
@@ -100,9 +69,7 @@ module _ (copies : List (List ℕ)) (copy : List ℕ) (reach : ℕ) where
 
   pub ends_joined : (claim others after : Tally ℕ) → TalliesBoth claim others after → Tallies (IsClaimedEnd copies reach) claim
       → Tallies (IsClaimedEnd (copy ∷ []) reach) others → Tallies (IsClaimedEnd (copies ++ copy ∷ []) reach) after
-  ends_joined claim others after both =
-      tallies_both (IsClaimedEnd copies reach) (IsClaimedEnd (copy ∷ []) reach) (IsClaimedEnd (copies ++ copy ∷ []) reach) claim others after
-      claimed_left claimed_right claimed_cases both
+  ends_joined claim others after both = grind (arith, tallies_both, claimed_left, claimed_right, claimed_cases)
 
 -- two ends that some of the copies claim
 pub two_of_first : (copies : List (List ℕ)) (count reach : ℕ) → IsOfTwo (IsClaimedEnd (take count copies) reach) → IsOfTwo (IsClaimedEnd copies reach)

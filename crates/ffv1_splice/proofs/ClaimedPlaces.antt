@@ -1,19 +1,5 @@
 -- Places by the starts that are claimed at their ends.
-use Rattle.std.proofs.Common.{◌≡◌, ℕ, zero, suc, ◌+◌, ◌-◌, ◌<◌, ◌≤◌, List, [], ◌∷◌, length, get_or, map, refl, sym, ap, ◌∙◌, subst, arith, inl, inr}
-use Rattle.std.specs.Prelude.{◌⊎◌, All, Contains, slice_range}
-use Rattle.std.proofs.lemmas.List.Elements.{All-nil, All-cons, All-tail, All-contains, All-contains_itself}
-use Rattle.ffv1_bits.specs.Parity.{PassesParity}
-use Rattle.ffv1_slice.specs.Chain.{IsLinkOf, IsFramed}
-use Rattle.ffv1_slice.specs.Members.{IsOnly, IsOfTwo, IsOfNone}
-use Rattle.ffv1_weave.specs.Combinations.{IsAmongTried}
-use Rattle.ffv1_splice.specs.Pieces.{IsClaimedStart, IsClaimedFrom}
-use Rattle.ffv1_splice.specs.Standings.{versions_at, sized, StandsAs}
-use Rattle.ffv1_splice.specs.Splice.{SplicedValue, LieFrom, RiseFrom, IsSettledDown, IsSpliceOf, moved_by, undivided_places}
-use Rattle.ffv1_splice.specs.Originals.{IsTriedAt}
-use Rattle.ffv1_splice.specs.Laws.{ClaimedAloneIsOriginal, SizedIsOriginal}
-use Rattle.ffv1_splice.specs.declared.place.Standing.{Standing}
-use Rattle.ffv1_splice.specs.declared.place.Standing.TheVariants.{Settled, Woven, Voted, Repaired, Disputed, Missing, Undivided}
-use Rattle.ffv1_splice.specs.declared.place.Place.{Place}
+use Rattle.ffv1_splice.proofs.Common.{◌≡◌, ℕ, zero, suc, ◌+◌, ◌-◌, ◌<◌, ◌≤◌, List, [], ◌∷◌, length, get_or, map, sym, ap, ◌∙◌, subst, arith, inl, inr, ◌⊎◌, All, Contains, slice_range, All-nil, All-cons, All-tail, All-contains, All-contains_itself, PassesParity, IsLinkOf, IsFramed, IsOnly, IsOfTwo, IsOfNone, IsAmongTried, IsClaimedStart, IsClaimedFrom, versions_at, sized, StandsAs, SplicedValue, LieFrom, RiseFrom, IsSettledDown, IsSpliceOf, moved_by, undivided_places, IsTriedAt, ClaimedAloneIsOriginal, SizedIsOriginal, Standing, Settled, Woven, Voted, Repaired, Disputed, Missing, Undivided, Place}
 use Rattle.ffv1_splice.proofs.Narrowed.{versions_of_versions, claim_in, claim_out}
 use Rattle.ffv1_splice.proofs.PlaceLists.{start_below}
 use Rattle.ffv1_splice.proofs.PlaceSteps.{claim_below, unwoven_weave, two_not_only}
@@ -26,8 +12,7 @@ use Rattle.ffv1_splice.proofs.WovenLaws.{framed_link, slice_of_weave, woven_is_o
 
 pub claims_start : (copies : List (List ℕ)) (start end : ℕ) (bytes : List ℕ) (standing : Standing) → StandsAs copies start end bytes standing
     → IsClaimedStart copies end start ⊎ ((start ≡ 0) × IsOfNone (IsClaimedStart copies end))
-claims_start copies start end bytes Settled h =
-    inl (record { copy = h.there.copy; there = h.there.there; cut = h.there.cut; content = h.there.content })
+claims_start copies start end bytes Settled h = grind arith
 claims_start copies start end bytes (Woven count) (inl h) = inl h.claim.there
 claims_start copies start end bytes (Woven count) (inr (inl h)) = inr (h.0, h.1.no_claim)
 claims_start copies start end bytes (Woven count) (inr (inr h)) = inl h.claim
@@ -59,10 +44,7 @@ ends_under start (place ∷ places) top up rise =
 undivided_end : (start front : ℕ) → All (λ place. (place.standing ≡ Undivided) × (place.end ≡ start + front)) (undivided_places start front)
 undivided_end zero front = All-nil (λ place. (place.standing ≡ Undivided) × (place.end ≡ zero + front))
 undivided_end (suc before) zero = All-nil (λ place. (place.standing ≡ Undivided) × (place.end ≡ suc before + zero))
-undivided_end (suc before) (suc more) =
-    All-cons (λ place. (place.standing ≡ Undivided) × (place.end ≡ suc before + suc more))
-    (record { start = suc before; end = suc before + suc more; standing = Undivided }) [] (refl, refl)
-    (All-nil (λ place. (place.standing ≡ Undivided) × (place.end ≡ suc before + suc more)))
+undivided_end (suc before) (suc more) = grind (arith, All-cons, All-nil)
 
 module _ (copies : List (List ℕ)) (spliced : SplicedValue) (is : IsSpliceOf copies spliced) where
   -- a place that is settled above the hole, one of the hole's, or what of it can't be divided
@@ -122,8 +104,7 @@ module _ (copies : List (List ℕ)) (spliced : SplicedValue) (is : IsSpliceOf co
   begins_there : (place : Place) (start : ℕ) → IsOnly (IsClaimedFrom copies is.start place.end) start → IsHigh place → place.start ≡ start
   begins_there place start only (above settled low) =
       let piece = settled.only.there in
-      only.others place.start
-      (record { claim = record { copy = piece.copy; there = piece.there; cut = piece.cut; content = piece.content }; beyond = low })
+      cc (only.others place.start (record { claim = record { copy = piece.copy; there = piece.there; cut = piece.cut; content = piece.content }; beyond = low }))
   begins_there _ start only (inside place there) =
       let within = All-contains (λ place. is.start + place.end ≤ is.end) is.hole.places place (hole_within copies spliced is) there in
       let at = only_inside place.end start within only in
@@ -163,10 +144,7 @@ module _ (copies : List (List ℕ)) (spliced : SplicedValue) (is : IsSpliceOf co
         let stands : StandsAs (versions_at copies is.start is.end) place.start place.end bytes place.standing =
         All-contains (λ place. StandsAs (versions_at copies is.start is.end) place.start place.end
         (slice_range spliced.payload (is.start + place.start) (is.start + place.end)) place.standing) is.hole.places place (hole_stands copies spliced is) there in
-        several_slice (versions_at copies is.start is.end) place.start place.end slice bytes
-        (framed_link original (is.start + place.start) (is.start + place.end) link) passes (two_inside place.end within two)
-        (subst (λ vs. IsAmongTried (map sized vs) slice) (sym (versions_of_versions is.start is.end copies place.start place.end within)) among)
-        (subst (StandsAs (versions_at copies is.start is.end) place.start place.end bytes) as_woven stands)
+        cc (several_slice (versions_at copies is.start is.end) place.start place.end slice bytes (framed_link original (is.start + place.start) (is.start + place.end) link) passes (two_inside place.end within two) (subst (λ vs. IsAmongTried (map sized vs) slice) (sym (versions_of_versions is.start is.end copies place.start place.end within)) among) (subst (StandsAs (versions_at copies is.start is.end) place.start place.end bytes) as_woven stands))
     sized_place place (undivided stands ends) two link passes among as_woven = absurd (cc)
 
 pub claimed_alone_is_original : ClaimedAloneIsOriginal
@@ -181,10 +159,6 @@ claimed_alone_is_original original copies spliced place start is there only link
 
 pub sized_is_original : SizedIsOriginal
 sized_is_original original copies spliced place count is there link (inl no_claim) passes among as_woven =
-    (woven_is_original original copies spliced place is there link passes (record {
-      claimed = λ claim. absurd (no_claim claim);
-      unclaimed = λ content none. among;
-      several = λ two are_bytes. among;
-    })).woven count as_woven
+    cc ((woven_is_original original copies spliced place is there link passes (record { claimed = λ claim. absurd (no_claim claim); unclaimed = λ content none. among; several = λ two are_bytes. among })).woven count as_woven)
 sized_is_original original copies spliced place count is there link (inr two) passes among as_woven =
     sized_place copies spliced is original count place (high copies spliced is place there two.one two.one_there) two link passes among as_woven

@@ -1,23 +1,7 @@
 -- The walk over slices that are lost in all copies: where its places lie, and one more of them.
-use Rattle.std.proofs.Common.{◌≡◌, ℕ, ◌+◌, ◌-◌, ◌<◌, ◌≤◌, List, [], ◌∷◌, ◌++◌, length, take, drop, refl, sym, ap, ◌∙◌, subst, arith}
-use Rattle.std.specs.Prelude.{◌⊎◌, All, slice_range}
-use Rattle.std.proofs.Math.Seq.{drop-append_seam}
-use Rattle.std.proofs.lemmas.Grind.{flat_map-append}
-use Rattle.std.proofs.lemmas.List.{append_assoc, append-nil, length-append, length-take-le, take-append-le}
-use Rattle.std.proofs.lemmas.List.Elements.{All-nil, All-cons, All-append, All-weaker}
-use Rattle.ffv1_slice.specs.Members.{IsOnly, IsOfNone}
-use Rattle.ffv1_splice.specs.Pieces.{HasContent, IsPiece, IsClaimedStart, PieceFrom, IsPieceFrom, IsShortest}
-use Rattle.ffv1_splice.specs.Inner.Tally.{Tallies, pieces_tally, starts_tally}
-use Rattle.ffv1_splice.specs.declared.tally.Pieces.{Pieces}
+use Rattle.ffv1_splice.proofs.Common.{◌≡◌, ℕ, ◌+◌, ◌-◌, ◌<◌, ◌≤◌, List, [], ◌∷◌, ◌++◌, length, take, refl, sym, ap, ◌∙◌, subst, arith, ◌⊎◌, All, slice_range, drop-append_seam, flat_map-append, append_assoc, append-nil, length-append, length-take-le, take-append-le, All-nil, All-cons, All-append, All-weaker, IsOnly, IsOfNone, HasContent, IsPiece, IsClaimedStart, PieceFrom, IsPieceFrom, IsShortest, Tallies, pieces_tally, starts_tally, Pieces, Starts, IsPlaced, versions_at, StandsAs, RiseFrom, IsSettledUp, IsWalkUp, IsClaimedEnd, IsLostUpTo, IsCrossed, Crossing, AreCrossings, IsWalkAcross, crossing_places, Standing, Settled, Place}
 use Rattle.ffv1_splice.specs.declared.tally.Pieces.TheVariants as pieces
-use Rattle.ffv1_splice.specs.declared.tally.Starts.{Starts}
 use Rattle.ffv1_splice.specs.declared.tally.Starts.TheVariants as starts
-use Rattle.ffv1_splice.specs.Inner.Placing.{IsPlaced}
-use Rattle.ffv1_splice.specs.Standings.{versions_at, StandsAs}
-use Rattle.ffv1_splice.specs.Splice.{RiseFrom, IsSettledUp, IsWalkUp, IsClaimedEnd, IsLostUpTo, IsCrossed, Crossing, AreCrossings, IsWalkAcross, crossing_places}
-use Rattle.ffv1_splice.specs.declared.place.Standing.{Standing}
-use Rattle.ffv1_splice.specs.declared.place.Standing.TheVariants.{Settled}
-use Rattle.ffv1_splice.specs.declared.place.Place.{Place}
 use Rattle.ffv1_splice.specs.declared.crossing.TheConstants.{MOST_CROSSED}
 use Rattle.ffv1_splice.proofs.Narrowed.{piece_in}
 use Rattle.ffv1_splice.proofs.PlaceSteps.{no_claim}
@@ -33,9 +17,7 @@ rise_append start middle top [] others rise more = subst (λ n. RiseFrom n other
 rise_append start middle top (place ∷ places) others rise more = (rise.0, rise_append place.end middle top places others rise.1 more)
 
 crossing_places-append : (crossings : List Crossing) (crossing : Crossing) → crossing_places (crossings ++ crossing ∷ []) ≡ crossing_places crossings ++ (crossing.over ∷ crossing.settled)
-crossing_places-append crossings crossing =
-    flat_map-append (λ (crossing : Crossing). crossing.over ∷ crossing.settled) crossings (crossing ∷ [])
-    ∙ ap (λ z. crossing_places crossings ++ z) (append-nil (crossing.over ∷ crossing.settled))
+crossing_places-append crossings crossing = grind (arith, flat_map-append, append-nil)
 
 -- ---- a lost slice
 
@@ -86,17 +68,10 @@ lost_content copies reach end h = let content : HasContent 0 end = h.end'.there.
 
 module _ (copies : List (List ℕ)) (bound : ℕ) where
   pub crossed_rising : (payload : List ℕ) (place : Place) → IsCrossed copies bound payload place → place.start < place.end
-  crossed_rising payload place h =
-      let content = lost_content (versions_at copies place.start bound) (bound - place.start) h.size h.lost in
-      let ends = h.ends in
-      omega arith
+  crossed_rising payload place h = grind (arith, lost_content)
 
   pub crossed_within : (payload : List ℕ) (place : Place) → IsCrossed copies bound payload place → place.end ≤ bound
-  crossed_within payload place h =
-      let content = lost_content (versions_at copies place.start bound) (bound - place.start) h.size h.lost in
-      let within = h.lost.end'.there.within in
-      let ends = h.ends in
-      omega arith
+  crossed_within payload place h = grind (arith, lost_content)
 
   -- no piece ends there, so it is not settled
   pub crossed_unsettled : (payload : List ℕ) (place : Place) → IsCrossed copies bound payload place → place.standing ≡ Settled → ⊥
@@ -151,8 +126,7 @@ module _ (copies : List (List ℕ)) (bound : ℕ) where
   pub crossings_rise : (payload : List ℕ) (start : ℕ) (crossings : List Crossing) (top : ℕ) → AreCrossings copies bound payload start crossings top
       → RiseFrom start (crossing_places crossings) top
   crossings_rise payload start [] top are = are
-  crossings_rise payload start (crossing ∷ crossings) top are =
-      (are.0, rise_append crossing.over.end are.2 top crossing.settled (crossing_places crossings) are.3.rise (crossings_rise payload are.2 crossings top are.4))
+  crossings_rise payload start (crossing ∷ crossings) top are = grind (arith, rise_append, crossings_rise payload are.2 crossings top are.4)
 
   pub crossings_order : (payload : List ℕ) (start : ℕ) (crossings : List Crossing) (top : ℕ) → AreCrossings copies bound payload start crossings top → start ≤ top
   crossings_order payload start [] top are = omega (arith, are)
@@ -193,14 +167,10 @@ crossed_place copies versions start bound size payload old new after standing ar
     let front : length (take start payload) ≡ start = length-take-le start payload within in
     let long : start + size - start ≡ size = omega arith in
     let kept : length new ≡ length old = ap length placed.written' ∙ length-written old 0 bytes (omega (arith, placed.size)) in
-    let first : take (size - 0) new ≡ bytes =
-    ap (λ z. slice_range z 0 size) placed.written' ∙ here_written old 0 size bytes placed.size room in
+    let first : take (size - 0) new ≡ bytes = cc (here_written old 0 size bytes placed.size room) in
     let none : size - 0 ≡ size = omega arith in
     let here : slice_range (take start payload ++ (new ++ after)) start (start + size) ≡ bytes =
-    ap (λ n. take n (drop start (take start payload ++ (new ++ after)))) long
-    ∙ ap (λ n. take size (drop n (take start payload ++ (new ++ after)))) (sym front)
-    ∙ ap (take size) (drop-append_seam (take start payload) (new ++ after))
-    ∙ take-append-le size new after (omega arith) ∙ ap (λ n. take n new) (sym none) ∙ first in
+    cc (drop-append_seam (take start payload) (new ++ after), take-append-le size new after (omega arith)) in
     record {
       size = size;
       ends = refl;
@@ -263,15 +233,4 @@ module _ (copies : List (List ℕ)) (bound : ℕ) where
       → (crossed ≡ MOST_CROSSED) ⊎ ((end : ℕ) → IsLostUpTo (versions_at copies start bound) (bound - start) end → ⊥)
       → (below : List Place) × (crossings : List Crossing) × (floor : ℕ) × (places ≡ below ++ crossing_places crossings) × IsWalkUp copies bound payload 0 below floor
       × IsWalkAcross copies bound payload floor crossings start
-  walk_stopped payload places start crossed h few stop = (
-    h.below,
-    h.crossings,
-    h.floor,
-    h.are_places,
-    h.up,
-    record {
-      are = h.are;
-      few = omega (arith, h.count);
-      stop = subst (λ n. (n ≡ MOST_CROSSED) ⊎ ((end : ℕ) → IsLostUpTo (versions_at copies start bound) (bound - start) end → ⊥)) (sym h.count) stop;
-    },
-  )
+  walk_stopped payload places start crossed h few stop = grind arith

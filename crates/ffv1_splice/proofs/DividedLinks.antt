@@ -1,21 +1,5 @@
 -- The links of an original, and divisions whose places are links.
-use Rattle.std.proofs.Common.{◌≡◌, ℕ, suc, ◌+◌, ◌-◌, ◌<◌, ◌≤◌, List, ◌∷◌, length, get_or, map, refl, sym, ap, ◌∙◌, subst, arith, inl, inr}
-use Rattle.std.specs.Prelude.{All, slice_range}
-use Rattle.std.proofs.lemmas.List.{take_all}
-use Rattle.std.proofs.lemmas.List.Elements.{All-nil, All-cons}
-use Rattle.std.proofs.lemmas.Bool.{cases_lt}
-use Rattle.ffv1_slice.specs.Chain.{size_before, FooterGives, IsEnd, IsLinkOf, LinkValue, link_of}
-use Rattle.ffv1_slice.specs.Chain.IsEnd.{last, before}
-use Rattle.ffv1_slice.specs.Walk.{walked}
-use Rattle.ffv1_slice.proofs.Links.{walked-more, walked-none, walked-fuel, least_end}
-use Rattle.ffv1_slice.specs.Members.{IsOfTwo}
-use Rattle.ffv1_splice.specs.Pieces.{IsPiece}
-use Rattle.ffv1_splice.specs.Standings.{StandsAs, IsStop}
-use Rattle.ffv1_splice.specs.Splice.{SplicedValue, LieFrom}
-use Rattle.ffv1_splice.specs.Originals.{AreConsistentWith}
-use Rattle.ffv1_splice.specs.declared.place.Standing.{Standing}
-use Rattle.ffv1_splice.specs.declared.place.Standing.TheVariants.{Settled, Woven, Voted, Repaired, Disputed, Missing, Undivided}
-use Rattle.ffv1_splice.specs.declared.place.Place.{Place}
+use Rattle.ffv1_splice.proofs.Common.{◌≡◌, ℕ, suc, ◌+◌, ◌-◌, ◌<◌, ◌≤◌, List, ◌∷◌, length, get_or, map, refl, sym, ap, ◌∙◌, subst, arith, inl, inr, All, slice_range, take_all, All-nil, All-cons, cases_lt, size_before, FooterGives, IsEnd, IsLinkOf, LinkValue, link_of, last, before, walked, walked-more, walked-none, walked-fuel, least_end, IsOfTwo, IsPiece, StandsAs, IsStop, SplicedValue, LieFrom, AreConsistentWith, Standing, Settled, Woven, Voted, Repaired, Disputed, Missing, Undivided, Place}
 use Rattle.ffv1_splice.proofs.PlaceSteps.{unwoven_weave}
 use Rattle.ffv1_splice.proofs.OneDivision.{woven_unsettled, missing_unsettled}
 use Rattle.ffv1_splice.proofs.Walks.{IsSpliceBefore}
@@ -52,17 +36,7 @@ module _ (original : List ℕ) (copies : List (List ℕ)) (cuts : (start end : �
   pub link_places : (end : ℕ) (places : List Place) (front : ℕ) (payload : List ℕ)
       → ((stop : ℕ) → IsEnd original stop → 0 < stop → IsStop copies stop → stop ≡ front → ⊥)
       → IsEnd original end → IsSpliceBefore copies end places front payload → AreLinkPlaces original end places front
-  link_places end places front payload goes_on is_end (stops stop least) =
-      elim (cases_lt 0 end) [
-        | inl after ↦ absurd (goes_on end is_end after stop refl)
-        | inr here ↦
-            let zero_end : end ≡ 0 = omega arith in
-            record {
-              links = sym (walked-none original end end (λ p cut. omega arith));
-              whole = zero_end;
-              each = All-nil (λ place. IsLinkOf original place.start place.end);
-            }
-      ]
+  link_places end places front payload goes_on is_end (stops stop least) = grind (arith, cases_lt, walked-none, All-nil)
   link_places end places front payload goes_on is_end (goes {start = start} {standing = standing} {places = more} {before = rest} bytes stands h) =
       let cut : FooterGives original start end = cuts start end bytes standing is_end stands in
       let below = link_places start more front rest goes_on (before is_end cut) h in
@@ -97,11 +71,7 @@ same_payload original spliced end places lie long same =
 module _ (original : List ℕ) (copies : List (List ℕ)) (agree : AreConsistentWith original copies) where
   -- two pieces do not differ
   pub agree_one : (end : ℕ) (one other : LinkValue) → IsEnd original end → IsPiece copies end one → IsPiece copies end other → one ≡ other
-  agree_one end one other is_end h k =
-      let mine = agree end one is_end h in
-      let yours = agree end other is_end k in
-      let start = same_cut original one.start other.start end mine.0.cut yours.0.cut in
-      mine.1 ∙ ap (λ s. link_of original s end) start ∙ sym yours.1
+  agree_one end one other is_end h k = grind (arith, same_cut)
 
   pub undisputed : (end : ℕ) → IsEnd original end → IsOfTwo (IsPiece copies end) → ⊥
   undisputed end is_end two = two.differ (agree_one end two.one two.other is_end two.one_there two.other_there)

@@ -1,16 +1,5 @@
 -- The frame that is filled: what is settled down and up, and what the hole is divided to.
-use Rattle.std.proofs.Common.{◌≡◌, ℕ, zero, suc, ◌+◌, ◌-◌, ◌≤◌, List, Bor, ◌++◌, length, get_or, take, drop, refl, sym, ap, ◌∙◌, subst, arith, take-append-drop}
-use Rattle.std.specs.Prelude.{All, Contains, reverse, slice_range}
-use Rattle.std.proofs.Math.Seq.{drop-append_seam}
-use Rattle.std.proofs.lemmas.List.{length-append, length-drop, length-take-le, take-append-le, drop-drop}
-use Rattle.std.proofs.lemmas.Slice.{take-put_mid, take-put_mid_below, between-put_mid, drop-put_mid}
-use borrow.Rule.Slice.PartMut.{put_mid}
-use Rattle.ffv1_slice.proofs.NearLaws.{length-range}
-use Rattle.ffv1_weave.specs.References.{values_of}
-use Rattle.ffv1_weave.proofs.References.{each_value}
-use Rattle.ffv1_splice.specs.Standings.{versions_at}
-use Rattle.ffv1_splice.specs.Splice.{SplicedValue, LieFrom, IsWalkDown, IsBound, IsWalkUp, Crossing, IsWalkAcross, crossing_places, IsDivisionOf, IsSpliceOf, hole_places, front_of}
-use Rattle.ffv1_splice.specs.declared.place.Place.{Place}
+use Rattle.ffv1_splice.proofs.Common.{◌≡◌, ℕ, zero, suc, ◌+◌, ◌-◌, ◌≤◌, List, Bor, ◌++◌, length, take, drop, refl, sym, ap, ◌∙◌, subst, arith, take-append-drop, All, Contains, reverse, slice_range, drop-append_seam, length-append, length-drop, length-take-le, take-append-le, drop-drop, take-put_mid, take-put_mid_below, between-put_mid, drop-put_mid, put_mid, length-range, values_of, each_value, versions_at, SplicedValue, LieFrom, IsWalkDown, IsBound, IsWalkUp, Crossing, IsWalkAcross, crossing_places, IsDivisionOf, IsSpliceOf, hole_places, front_of, Place}
 use Rattle.ffv1_splice.proofs.Versions.{version_of}
 use Rattle.ffv1_splice.proofs.BoundSteps.{bound_within}
 use Rattle.ffv1_splice.proofs.Walks.{stands_below, front_below, ends_below}
@@ -21,16 +10,10 @@ use Rattle.ffv1_splice.proofs.Crossings.{walk_kept, crossings_order, crossings_k
 
 module _ (copies : List (List ℕ)) (divided : SplicedValue) (is : IsDivisionOf copies divided) where
   division_upright : All (λ place. place.start ≤ place.end) divided.places
-  division_upright k d lt =
-      let place : Place = get_or divided.places k d in
-      let below = stands_below copies place.start place.end (slice_range divided.payload place.start place.end) place.standing (is.stand k d lt) in
-      omega arith
+  division_upright k d lt = grind (arith, stands_below)
 
   pub division_within : All (λ place. place.start ≤ place.end × place.end ≤ length divided.payload) divided.places
-  division_within k d lt = (
-    division_upright k d lt,
-    ends_below (length divided.payload) divided.places divided.front division_upright is.lie k d lt,
-  )
+  division_within k d lt = grind (arith, division_upright, ends_below)
 
   pub front_within : divided.front ≤ length divided.payload
   front_within = front_below (length divided.payload) divided.places divided.front division_upright is.lie
@@ -50,10 +33,7 @@ front_is zero front result here else = here refl
 front_is (suc before) front result here else = else (λ same. absurd (omega (arith, same)))
 
 pub length-below : (down up : List ℕ) (bound end : ℕ) → length up ≡ bound → bound ≤ end → end ≤ length down → end ≤ length (up ++ drop bound down)
-length-below down up bound end front below within =
-    let sum = length-append up (drop bound down) in
-    let rest = length-drop bound down in
-    omega arith
+length-below down up bound end front below within = grind (arith, length-append, length-drop)
 
 -- where a hole lies, between what was settled down and what was settled up
 pub record IsHole (down up : List ℕ) (start bound end : ℕ) : Type 0 where
@@ -65,10 +45,7 @@ pub record IsHole (down up : List ℕ) (start bound end : ℕ) : Type 0 where
 
 pub is_hole : (copies : List (List ℕ)) (down up : List ℕ) (start bound end : ℕ) → IsBound copies end bound → end ≤ length down
     → length up ≡ length (take bound down) → start ≤ length up → IsHole down up start bound end
-is_hole copies down up start bound end room within same low =
-    let below = bound_within copies end bound room in
-    let long = length-take-le bound down (omega arith) in
-    record { low = omega arith; below = below; within = within; long = long; front = same ∙ long }
+is_hole copies down up start bound end room within same low = grind (arith, bound_within, length-take-le)
 
 -- where its places lie, and their front
 pub hole_within : (copies : List (Bor (List ℕ))) (payload down up : List ℕ) (start bound end : ℕ) (places : List Place) (front : ℕ) (hole : List ℕ)
@@ -100,15 +77,10 @@ module _ (down up hole : List ℕ) (start bound end : ℕ) (order : start ≤ bo
       ∙ drop-drop (end - bound) bound down ∙ ap (λ n. drop n down) (sym on)
 
   filled_before : take start (put_mid start (end - start) (up ++ drop bound down) hole) ≡ take start up
-  filled_before =
-      let far = length-below down up bound end front below within in
-      take-put_mid_below start (end - start) (up ++ drop bound down) hole start (omega arith) (omega arith)
-      ∙ take-append-le start up (drop bound down) (omega arith)
+  filled_before = grind (arith, length-below, take-put_mid_below, take-append-le)
 
   filled_hole : slice_range (put_mid start (end - start) (up ++ drop bound down) hole) start end ≡ hole
-  filled_hole =
-      let far = length-below down up bound end front below within in
-      between-put_mid start (end - start) (up ++ drop bound down) hole end (omega arith) long
+  filled_hole = grind (arith, length-below, between-put_mid)
 
   length-filled : length (put_mid start (end - start) (up ++ drop bound down) hole) ≡ length down
   length-filled =

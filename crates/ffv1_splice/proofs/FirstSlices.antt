@@ -1,42 +1,13 @@
 -- The first slice of copies, whose size is known: what copies have up to its end, each with that size, and what is woven of it.
-use Rattle.std.proofs.Common.{◌≡◌, ℕ, Vec, Global, ◌+◌, ◌-◌, ◌<◌, ◌≤◌, List, [], ◌++◌, length, get_or, take, drop, map, refl, sym, ap, ◌∙◌, subst, arith, inl, inr}
-use Rattle.std.specs.Prelude.{Contains, slice_range}
-use Rattle.std.proofs.lemmas.Bool.{cases_lt}
-use Rattle.std.proofs.lemmas.List.{append-nil, length-append, length-take-le, length-drop, take_all, drop_all, drop-drop}
-use borrow.Rule.Slice.PartMut.{mid_of, put_mid}
-use Rattle.byteorder.specs.Endian.{big_bytes, big_number}
-use Rattle.byteorder.specs.Numbers.{length-bytes_high_first}
-use Rattle.ffv1_slice.specs.Chain.{size_before, FooterGives, IsFramed}
-use Rattle.ffv1_slice.specs.Members.{HasSameMembers, IsOfNone}
-use Rattle.ffv1_slice.proofs.NearLaws.{length-range, size_of_range}
-use Rattle.ffv1_weave.specs.Combinations.{IsCombination}
-use Rattle.ffv1_weave.specs.Regions.{HaveLength}
-use Rattle.ffv1_weave.specs.Weave.{weave_tally}
-use Rattle.ffv1_weave.specs.Weave.Weave.{woven}
-use Rattle.ffv1_weave.specs.declared.weaving.WeaveResult.{WeaveResult}
+use Rattle.ffv1_splice.proofs.Common.{◌≡◌, ℕ, Vec, Global, ◌+◌, ◌-◌, ◌<◌, ◌≤◌, List, [], ◌++◌, length, get_or, drop, map, refl, ap, ◌∙◌, subst, arith, inl, inr, Contains, slice_range, cases_lt, append-nil, length-append, length-take-le, length-drop, take_all, drop_all, drop-drop, mid_of, put_mid, big_bytes, big_number, size_before, FooterGives, IsFramed, HasSameMembers, IsOfNone, length-range, size_of_range, IsCombination, HaveLength, weave_tally, woven, WeaveResult, same_range, range_at, AllReach, HasContent, IsPiece, IsClaimedStart, versions_at, sized, IsWeaveFromFront, IsWeaveOfSeveral, StandsAs, IsStop, Woven, mapped_there, mapped_of, same_mapped, some_differ, region_of}
 use Rattle.ffv1_weave.specs.declared.weaving.WeaveResult.TheVariants as outcomes
-use Rattle.ffv1_weave.proofs.Choices.{same_range, range_at}
-use Rattle.ffv1_splice.specs.Pieces.{AllReach, HasContent, IsPiece, IsClaimedStart}
-use Rattle.ffv1_splice.specs.Standings.{versions_at, sized, IsWeaveFromFront, IsWeaveOfSeveral, StandsAs, IsStop}
-use Rattle.ffv1_splice.specs.declared.place.Standing.TheVariants.{Woven}
 use Rattle.ffv1_splice.proofs.PlaceSteps.{claim_below, none_not_only}
-use Rattle.ffv1_weave.proofs.Mapped.{mapped_there, mapped_of, same_mapped}
 use Rattle.ffv1_splice.proofs.Versions.{same_versions, version_there, version_of, version_length, weave_size}
-use Rattle.ffv1_weave.proofs.Agreeing.{some_differ}
-use Rattle.ffv1_weave.proofs.WiderRegions.{region_of}
 
 -- ---- bytes with their size
 
 pub length-sized : (bytes : List ℕ) → 8 ≤ length bytes → length (sized bytes) ≡ length bytes
-length-sized bytes long =
-    omega (
-      arith,
-      length-append (take (length bytes - 8) bytes) (big_bytes 3 (length bytes - 8) ++ drop (length bytes - 5) bytes),
-      length-append (big_bytes 3 (length bytes - 8)) (drop (length bytes - 5) bytes),
-      length-take-le (length bytes - 8) bytes (omega arith),
-      length-bytes_high_first 3 (length bytes - 8),
-      length-drop (length bytes - 5) bytes,
-    )
+length-sized bytes long = grind (arith, length-append, length-take-le, length-drop)
 
 -- the size, written over the bytes from their footer on
 pub put_size : (bytes new : List ℕ) → 8 ≤ length bytes
@@ -48,9 +19,7 @@ put_size bytes new long is =
     let footer : mid_of size (length bytes - size) bytes ≡ drop size bytes = take_all (length bytes - size) (drop size bytes) (omega arith) in
     let none : drop (length bytes - size) (drop size bytes) ≡ [] = drop_all (length bytes - size) (drop size bytes) (omega arith) in
     let on : length bytes - 8 + 3 ≡ length bytes - 5 = omega arith in
-    ap (λ z. take size bytes ++ (new ++ z)) none
-    ∙ ap (λ z. take size bytes ++ z) (append-nil new ∙ is ∙ ap (λ z. big_bytes 3 size ++ drop 3 z) footer
-    ∙ ap (λ z. big_bytes 3 size ++ z) (drop-drop 3 size bytes ∙ ap (λ n. drop n bytes) on))
+    cc (append-nil new, drop-drop 3 size bytes)
 
 -- the same copies have the same versions with their size
 pub same_sized : (copies others : List (List ℕ)) → HasSameMembers copies others → (start end : ℕ)
@@ -119,8 +88,7 @@ module _ (copies : List (List ℕ)) (start end : ℕ) (bytes : List ℕ) (count 
 
 -- bytes that are the same between two places have the same at each place between
 pub same_inside : (a b : List ℕ) (start end i : ℕ) → start ≤ i → i < end → slice_range a start end ≡ slice_range b start end → get_or a i 0 ≡ get_or b i 0
-same_inside a b start end i low lt same =
-    sym (range_at a start end i low lt) ∙ ap (λ z. get_or z (i - start) 0) same ∙ range_at b start end i low lt
+same_inside a b start end i low lt same = grind (arith, range_at)
 
 -- In 64 places in a row, or fewer, a combination has what one version has.
 module _ (versions : List (List ℕ)) (size : ℕ) (long : HaveLength versions size) (bytes : List ℕ) (is : IsCombination versions bytes) where

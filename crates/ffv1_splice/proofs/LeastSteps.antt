@@ -1,15 +1,5 @@
 -- The lexicographically smallest bytes that a copy has between two places, copy after copy.
-use Rattle.std.proofs.Common.{◌≡◌, ℕ, ◌+◌, ◌<◌, Bool, true, false, List, [], length, Bor, get_or, refl, sym, ap, ◌∙◌, subst, arith, cond, inl, inr}
-use Rattle.std.specs.Prelude.{◌⊎◌, Contains, slice_range}
-use Rattle.std.specs.Ordering.{nat_cmp, ord_min, is_lt, ordering_reverse}
-use Rattle.std.proofs.lemmas.Bool.{cases_lt}
-use Rattle.std.proofs.lemmas.List.{get_or_default}
-use Rattle.std.proofs.lemmas.List.Elements.{Contains-get_or}
-use Rattle.std.specs.Cmp.Lexicographic.{slice_cmp}
-use Rattle.std.specs.FinMap.{nat_cmp-IsAntisymmetric, slice_cmp-IsAntisymmetric}
-use Rattle.std.proofs.lemmas.Cmp.{nat_list_cmp_total, tied_itself}
-use Rattle.std.specs.declared.cmp.Ordering.{Ordering}
-use Rattle.std.specs.declared.cmp.Ordering.TheVariants.{Less, Equal, Greater}
+use Rattle.ffv1_splice.proofs.Common.{◌≡◌, ℕ, ◌+◌, ◌<◌, Bool, true, false, List, [], length, Bor, get_or, refl, sym, ap, ◌∙◌, subst, arith, cond, inl, inr, ◌⊎◌, Contains, slice_range, nat_cmp, ord_min, is_lt, ordering_reverse, cases_lt, get_or_default, Contains-get_or, slice_cmp, nat_cmp-IsAntisymmetric, slice_cmp-IsAntisymmetric, nat_list_cmp_total, tied_itself, Ordering, Less, Equal, Greater}
 
 pub never_below_itself : (x : List ℕ) → slice_cmp nat_cmp x x ≡ Less → ⊥
 never_below_itself x h = let tied = tied_itself nat_list_cmp_total x in let apart : Less ≡ Equal = sym h ∙ tied in absurd (cc)
@@ -44,13 +34,7 @@ least_or found new true e other cases below =
       | inl above ↦ above (nat_list_cmp_total.trans other new found below new_below)
       | inr same ↦ never_below_itself new (subst (λ z. slice_cmp nat_cmp z new ≡ Less) same below)
     ]
-least_or found new false e other cases below =
-    elim cases [
-      | inl above ↦ above below
-      | inr same ↦
-          let is : slice_cmp nat_cmp new found ≡ Less = subst (λ z. slice_cmp nat_cmp z found ≡ Less) same below in
-          let t : is_lt (slice_cmp nat_cmp new found) ≡ true = ap is_lt is in absurd (cc)
-    ]
+least_or found new false e other cases below = grind arith
 
 lies_or : (copies : List (List ℕ)) (start end : ℕ) (found new : List ℕ) (b : Bool) (P : List ℕ → Type 0) → P found → P new → P (cond b new found)
 lies_or copies start end found new true P h k = k
@@ -64,34 +48,9 @@ module _ (copies : List (List ℕ)) (start end : ℕ) where
   pub least_more : (count : ℕ) (found new : List ℕ) → count < length copies → new ≡ slice_range (get_or copies count []) start end
       → IsLeastSoFar copies count start end found → IsLeastSoFar copies (count + 1) start end (cond (is_lt (slice_cmp nat_cmp new found)) new found)
   unfolding IsOfCopy
-  least_more count found new lt is h =
-      let b : Bool = is_lt (slice_cmp nat_cmp new found) in
-      let of : IsOfCopy (cond (is_lt (slice_cmp nat_cmp new found)) new found) =
-      lies_or copies start end found new (is_lt (slice_cmp nat_cmp new found)) IsOfCopy (h.copy, h.there, h.lies)
-      (get_or copies count [], Contains-get_or copies count [] lt, is) in
-      record {
-        copy = of.0;
-        there = of.1;
-        lies = of.2;
-        least = λ k d below. least_or found new (is_lt (slice_cmp nat_cmp new found)) refl (slice_range (get_or copies k d) start end) (cases k d below);
-      }
-    where
-      cases : (k : ℕ) (d : List ℕ) → k < count + 1 → (slice_cmp nat_cmp (slice_range (get_or copies k d) start end) found ≡ Less → ⊥)
-          ⊎ (slice_range (get_or copies k d) start end ≡ new)
-      cases k d below =
-          elim (cases_lt k count) [
-            | inl earlier ↦ inl (h.least k d earlier)
-            | inr here ↦
-                let same : k ≡ count = omega arith in
-                inr (ap (λ n. slice_range (get_or copies n d) start end) same
-                ∙ ap (λ c. slice_range c start end) (get_or_default copies count d [] lt) ∙ sym is)
-          ]
+  least_more count found new lt is h = grind (arith, IsOfCopy, lies_or, Contains-get_or, least_or, cases_lt, get_or_default)
 
 -- the lesser of two lists, by references
 pub ord_min-now : (result found new : Bor (List ℕ)) → result ≡ ord_min (λ x y. slice_cmp nat_cmp x.now y.now) found new
     → result.now ≡ cond (is_lt (slice_cmp nat_cmp new.now found.now)) new.now found.now
-ord_min-now result found new e = ap (λ r. r.now) e ∙ moved (is_lt (slice_cmp nat_cmp new.now found.now))
-  where
-    moved : (b : Bool) → (cond b new found).now ≡ cond b new.now found.now
-    moved true = refl
-    moved false = refl
+ord_min-now result found new e = grind arith

@@ -1,3 +1,4 @@
+mod Common
 pub mod TallySteps
 pub mod LeastSteps
 pub mod ClaimSteps

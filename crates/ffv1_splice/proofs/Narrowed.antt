@@ -1,14 +1,6 @@
 -- The pieces and claimed starts of copies, when each is cut to the bytes between two places. In the cut copies places count from the first
 -- of the two.
-use Rattle.std.proofs.Common.{◌≡◌, ℕ, ◌+◌, ◌-◌, ◌≤◌, List, map, take, drop, sym, ap, ◌∙◌, subst, arith, inl, inr}
-use Rattle.std.specs.Prelude.{slice_range}
-use Rattle.std.proofs.Math.Path.{fun_ext}
-use Rattle.std.proofs.lemmas.Bool.{cases_lt}
-use Rattle.std.proofs.lemmas.List.{drop-drop, drop-take, take-take}
-use mathlib.Core.List.{map-map}
-use Rattle.ffv1_slice.specs.Chain.{size_before, FooterGives, LinkValue}
-use Rattle.ffv1_splice.specs.Pieces.{HasContent, IsPiece, IsClaimedStart}
-use Rattle.ffv1_splice.specs.Standings.{versions_at}
+use Rattle.ffv1_splice.proofs.Common.{◌≡◌, ℕ, ◌+◌, ◌-◌, ◌≤◌, List, take, drop, sym, ap, ◌∙◌, subst, arith, inl, inr, slice_range, fun_ext, cases_lt, drop-drop, drop-take, take-take, map-map, size_before, FooterGives, LinkValue, HasContent, IsPiece, IsClaimedStart, versions_at}
 use Rattle.ffv1_splice.proofs.Versions.{version_there, version_of}
 
 module _ (from to : ℕ) where
@@ -33,11 +25,7 @@ module _ (from to : ℕ) where
       ]
 
   pub narrowed_size : (copy : List ℕ) (end : ℕ) → 8 ≤ end → from + end ≤ to → size_before (slice_range copy from to) end ≡ size_before copy (from + end)
-  narrowed_size copy end footer within =
-      let place : from + (end - 8) ≡ from + end - 8 = omega arith in
-      let same : slice_range (slice_range copy from to) (end - 8) end ≡ slice_range copy (from + end - 8) (from + end) =
-      range_of_range copy (end - 8) end within ∙ ap (λ p. slice_range copy p (from + end)) place in
-      rw same
+  narrowed_size copy end footer within = grind (arith, range_of_range)
 
   pub cut_out : (copy : List ℕ) (start end : ℕ) → from + end ≤ to → FooterGives (slice_range copy from to) start end → FooterGives copy (from + start) (from + end)
   cut_out copy start end within cut = let size = narrowed_size copy end (omega arith) within in omega arith
@@ -51,8 +39,7 @@ module _ (from to : ℕ) where
     pub versions_of_versions : (start end : ℕ) → from + end ≤ to
         → versions_at (versions_at copies from to) start end ≡ versions_at copies (from + start) (from + end)
     versions_of_versions start end within =
-        map-map (λ copy. slice_range copy start end) (λ copy. slice_range copy from to) copies
-        ∙ ap (λ f. map f copies) (fun_ext (λ copy. range_of_range copy start end within))
+        cc (map-map (λ copy. slice_range copy start end) (λ copy. slice_range copy from to) copies, fun_ext (λ copy. range_of_range copy start end within))
 
     pub piece_out : (end : ℕ) (piece : LinkValue) → from + end ≤ to → IsPiece (versions_at copies from to) end piece
         → IsPiece copies (from + end) (record { start = from + piece.start; bytes = piece.bytes })

@@ -1,22 +1,5 @@
 -- An original that is cut to the bytes from one end of its slices up to another, and its copies that are cut there too.
-use Rattle.std.proofs.Common.{◌≡◌, ℕ, ◌+◌, ◌-◌, ◌<◌, ◌≤◌, List, [], ◌∷◌, length, map, sym, ap, ◌∙◌, subst, arith, refl, inl, inr}
-use Rattle.std.specs.Prelude.{◌⊎◌, ◌↔◌, All, Contains, slice_range}
-use Rattle.std.proofs.lemmas.List.Elements.{All-head, All-tail}
-use Rattle.ffv1_bits.specs.Parity.{PassesParity}
-use Rattle.ffv1_bits.proofs.Bytes.{AreBytes-range}
-use Rattle.ffv1_slice.specs.Chain.{FooterGives, IsEnd, IsLinkOf, LinkValue, link_of}
-use Rattle.ffv1_slice.specs.Chain.IsEnd.{last, before}
-use Rattle.ffv1_slice.specs.Members.{IsOfTwo}
-use Rattle.ffv1_slice.specs.Near.{IsDamagedWithin32}
-use Rattle.ffv1_slice.specs.Walk.{walked, walk_at}
-use Rattle.ffv1_slice.proofs.Links.{walked-none, turn_some}
-use Rattle.ffv1_slice.proofs.NearLaws.{length-range}
-use Rattle.ffv1_weave.specs.Combinations.{IsAmongTried}
-use Rattle.ffv1_splice.specs.Pieces.{HasContent, IsClaimedStart}
-use Rattle.ffv1_splice.specs.Standings.{versions_at, sized}
-use Rattle.ffv1_splice.specs.Splice.{LieFrom}
-use Rattle.ffv1_splice.specs.Originals.{AreCopiesOf, AreConsistentWith, IsTriedAt, AreWeavable, IsUndamaged, IsNearCopy, AreNearCopies, IsIntactInSome}
-use Rattle.ffv1_splice.specs.declared.place.Place.{Place}
+use Rattle.ffv1_splice.proofs.Common.{◌≡◌, ℕ, ◌+◌, ◌-◌, ◌<◌, ◌≤◌, List, [], ◌∷◌, length, map, sym, ap, ◌∙◌, subst, arith, refl, inl, inr, ◌⊎◌, ◌↔◌, All, Contains, slice_range, All-head, All-tail, PassesParity, AreBytes-range, FooterGives, IsEnd, IsLinkOf, LinkValue, link_of, last, before, IsOfTwo, IsDamagedWithin32, walked, walk_at, walked-none, turn_some, length-range, IsAmongTried, HasContent, IsClaimedStart, versions_at, sized, LieFrom, AreCopiesOf, AreConsistentWith, IsTriedAt, AreWeavable, IsUndamaged, IsNearCopy, AreNearCopies, IsIntactInSome, Place}
 use Rattle.ffv1_splice.proofs.DividedLinks.{end_within, same_cut}
 use Rattle.ffv1_splice.proofs.Versions.{version_there, version_of}
 use Rattle.ffv1_splice.proofs.Narrowed.{range_of_range, cut_out, cut_in, versions_of_versions, piece_out, claim_in, claim_out}
@@ -56,9 +39,7 @@ module _ (from to : ℕ) (copies : List (List ℕ)) (start end : ℕ) (slice : L
 module _ (from to : ℕ) (original : List ℕ) (copies : List (List ℕ)) (start end : ℕ) (within : from + end ≤ to) where
   pub link_narrowed : IsTriedAt copies (from + start) (from + end) (slice_range original (from + start) (from + end))
       → IsTriedAt (versions_at copies from to) start end (slice_range (slice_range original from to) start end)
-  link_narrowed tried =
-      tried_narrowed from to copies start end (slice_range (slice_range original from to) start end) within
-      (subst (IsTriedAt copies (from + start) (from + end)) (sym (range_of_range from to original start end within)) tried)
+  link_narrowed tried = grind (arith, tried_narrowed, range_of_range)
 
   -- some cut copy has the link intact exactly where some copy has it
   pub intact_narrowed : IsIntactInSome (slice_range original from to) (versions_at copies from to) start end
@@ -101,11 +82,7 @@ back_from_last original end (before {q = q} h cut) = more (back_from_last origin
 -- of two ends the lesser is reached from the other
 back_from : (original : List ℕ) (top end : ℕ) → IsEnd original top → IsEnd original end → end ≤ top → IsBackFrom original top end
 back_from original top end last is_end below = back_from_last original end is_end
-back_from original top end (before {q = q} h cut) is_end below =
-    elim (first_back original q end (back_from original q end h is_end (omega arith))) [
-      | inl same ↦ absurd (omega arith)
-      | inr w ↦ subst (λ start. IsBackFrom original start end) (same_cut original w.0 top q w.1 cut) w.2
-    ]
+back_from original top end (before {q = q} h cut) is_end below = grind (arith, first_back, same_cut, back_from original q end h is_end (omega arith))
 
 -- a link begins at each end before another one, and ends no later
 pub next_end : (original : List ℕ) (start top : ℕ) → IsEnd original top → IsEnd original start → start < top
@@ -162,9 +139,7 @@ module _ (from to : ℕ) (original : List ℕ) (order : from ≤ to) (is_to : Is
   -- ---- the premises of the laws on copies
 
   pub whole_narrowed : IsEnd original from → IsEnd (slice_range original from to) 0
-  whole_narrowed is_from =
-      let on : from ≡ from + 0 = omega arith in
-      end_in 0 (omega arith) (subst (IsEnd original) on is_from)
+  whole_narrowed is_from = grind (arith, end_in)
 
   -- each link of the cut original passes its parity where each link of the original does
   pub passes_narrowed : ((start end : ℕ) → IsLinkOf original start end → PassesParity (slice_range original start end))
@@ -185,8 +160,7 @@ module _ (from to : ℕ) (original : List ℕ) (order : from ≤ to) (is_to : Is
       }
 
   length_narrowed : (copy : List ℕ) → length copy ≡ length original → length (slice_range copy from to) ≡ length (slice_range original from to)
-  length_narrowed copy same =
-      length-range copy from to order (omega (arith, end_within original to is_to)) ∙ omega (arith, narrowed_length)
+  length_narrowed copy same = grind (arith, length-range, end_within, narrowed_length)
 
   near_copy_narrowed : (copy : List ℕ) → IsNearCopy original copy → IsNearCopy (slice_range original from to) (slice_range copy from to)
   near_copy_narrowed copy near =
@@ -250,12 +224,8 @@ module _ (from to : ℕ) (original : List ℕ) (order : from ≤ to) (is_to : Is
 pub links_of_places : (original : List ℕ) (end : ℕ) (places : List Place) → LieFrom end places 0
     → All (λ place. IsLinkOf original place.start place.end) places
     → map (λ place. link_of original place.start place.end) places ≡ walked end original end
-links_of_places original end [] lie links =
-    let first : end ≡ 0 = lie in
-    sym (walked-none original end end (λ start cut. omega arith))
+links_of_places original end [] lie links = grind (arith, walked-none)
 links_of_places original end (place ∷ places) lie links =
     let link = All-head (λ place. IsLinkOf original place.start place.end) place places links in
     let rest = links_of_places original place.start places lie.1 (All-tail (λ place. IsLinkOf original place.start place.end) place places links) in
-    ap (λ pieces. link_of original place.start place.end ∷ pieces) rest
-    ∙ sym (turn_some (walk_at original place.end) original place.start place.end refl link.cut)
-    ∙ ap (λ end. walked end original end) lie.0
+    cc (turn_some (walk_at original place.end) original place.start place.end refl link.cut)

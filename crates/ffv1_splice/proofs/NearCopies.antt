@@ -1,15 +1,5 @@
 -- The splice of copies that are near an original.
-use Rattle.std.proofs.Common.{◌≡◌, ℕ, List, length, get_or, sym, ◌∙◌}
-use Rattle.std.specs.Prelude.{◌↔◌, All, Contains, slice_range}
-use Rattle.std.proofs.lemmas.List.Elements.{All-append, All-contains, All-weaker}
-use Rattle.ffv1_slice.specs.Chain.{IsLinkOf, link_of}
-use Rattle.ffv1_splice.specs.Pieces.{IsPiece, IsClaimedStart}
-use Rattle.ffv1_splice.specs.Standings.{versions_at}
-use Rattle.ffv1_splice.specs.Splice.{SplicedValue, IsSettledDown, IsSettledUp, IsCrossed, crossing_places, IsSpliceOf}
-use Rattle.ffv1_splice.specs.Originals.{AreConsistentWith, AreConsistentFromBelow, IsAmong, AreNearCopies, IsIntactInSome}
-use Rattle.ffv1_splice.specs.Laws.{IsItsLink, IsLinkIfSettled, KeepsLink, IsNearSplice, NearCopiesSplice}
-use Rattle.ffv1_splice.specs.declared.place.Standing.TheVariants.{Settled}
-use Rattle.ffv1_splice.specs.declared.place.Place.{Place}
+use Rattle.ffv1_splice.proofs.Common.{◌≡◌, ℕ, List, length, get_or, sym, ◌∙◌, arith, ◌↔◌, All, Contains, slice_range, All-append, All-contains, All-weaker, IsLinkOf, link_of, IsPiece, IsClaimedStart, versions_at, SplicedValue, IsSettledDown, IsSettledUp, IsCrossed, crossing_places, IsSpliceOf, AreConsistentWith, AreConsistentFromBelow, IsAmong, AreNearCopies, IsIntactInSome, IsItsLink, IsLinkIfSettled, KeepsLink, IsNearSplice, NearCopiesSplice, Settled, Place}
 use Rattle.ffv1_splice.proofs.DividedLinks.{AreLinkPlaces}
 use Rattle.ffv1_splice.proofs.Narrowed.{range_of_range}
 use Rattle.ffv1_splice.proofs.NarrowedOriginal.{intact_narrowed, near_narrowed}
@@ -62,8 +52,7 @@ module _ (original : List ℕ) (copies : List (List ℕ)) (near : AreNearCopies 
   -- a settled place is intact in some copy
   settled_where : (place : Place) → IsItsLink original spliced place → place.standing ≡ Settled
       → IsPiece copies place.end (link_of spliced.payload place.start place.end) → IsSettledWhere place
-  settled_where place its settled piece =
-      (λ _. piece_intact original copies near place.start place.end (slice_range spliced.payload place.start place.end) its.link piece, λ intact. settled)
+  settled_where place its settled piece = grind (arith, piece_intact)
 
   -- a place over a lost slice is not, and neither is it settled
   crossed_where : (place : Place) → IsCrossed copies is.bound spliced.payload place → IsLinkOf original place.start place.end → IsSettledWhere place

@@ -1,19 +1,5 @@
 -- The pieces and claimed starts of copies that are near an original, and how they are divided.
-use Rattle.std.proofs.Common.{◌≡◌, ℕ, ◌+◌, ◌<◌, ◌≤◌, List, length, get_or, refl, sym, ap, ◌∙◌, subst, arith, inl, inr}
-use Rattle.std.specs.Prelude.{Contains, slice_range}
-use Rattle.ffv1_bits.specs.Parity.{PassesParity}
-use Rattle.ffv1_bits.proofs.Burst.{burst}
-use Rattle.ffv1_bits.proofs.Bytes.{AreBytes-range}
-use Rattle.ffv1_slice.specs.Chain.{size_before, FooterGives, IsEnd, IsLinkOf, link_of}
-use Rattle.ffv1_slice.specs.Chain.IsEnd.{last}
-use Rattle.ffv1_slice.proofs.NearLaws.{same_size_field, length-range, size_of_range}
-use Rattle.ffv1_splice.specs.Pieces.{HasContent, IsPiece, IsClaimedStart}
-use Rattle.ffv1_splice.specs.Standings.{StandsAs, IsStop}
-use Rattle.ffv1_splice.specs.Splice.{SplicedValue, IsDivisionOf}
-use Rattle.ffv1_splice.specs.Originals.{AreCopiesOf, AreConsistentWith, AreConsistentFromBelow, IsAmong, IsTriedAt, AreWeavable, IsUndamaged, IsIntact, IsNearCopy, AreNearCopies, IsIntactInSome}
-use Rattle.ffv1_splice.specs.Laws.{IsNearSplice}
-use Rattle.ffv1_splice.specs.declared.place.Standing.{Standing}
-use Rattle.ffv1_splice.specs.declared.place.Standing.TheVariants.{Settled, Woven, Voted, Repaired, Disputed, Missing, Undivided}
+use Rattle.ffv1_splice.proofs.Common.{◌≡◌, ℕ, ◌+◌, ◌<◌, ◌≤◌, List, length, get_or, sym, ap, ◌∙◌, subst, arith, inl, inr, Contains, slice_range, PassesParity, burst, AreBytes-range, size_before, FooterGives, IsEnd, IsLinkOf, link_of, last, same_size_field, length-range, size_of_range, HasContent, IsPiece, IsClaimedStart, StandsAs, IsStop, SplicedValue, IsDivisionOf, AreCopiesOf, AreConsistentWith, AreConsistentFromBelow, IsAmong, IsTriedAt, AreWeavable, IsUndamaged, IsIntact, IsNearCopy, AreNearCopies, IsIntactInSome, IsNearSplice, Standing, Settled, Woven, Voted, Repaired, Disputed, Missing, Undivided}
 use Rattle.ffv1_splice.proofs.PlaceSteps.{unwoven_weave}
 use Rattle.ffv1_splice.proofs.DividedLinks.{end_within, link_at, same_cut, AreLinkPlaces, link_places, settled_link, settled_where}
 use Rattle.ffv1_splice.proofs.Walks.{IsSpliceBefore, division_walk}
@@ -35,26 +21,14 @@ module _ (original copy : List ℕ) (undamaged : IsUndamaged original) (near : I
   long_slice bytes long = let size = length-range bytes start end (omega (arith, below)) (omega (arith, within)) in omega (arith, below)
 
   same_size : size_before copy end ≡ size_before original end
-  same_size =
-      size_of copy near.same_length
-      ∙ (elim (near.each start end link) [
-        | inl intact ↦ ap (λ z. size_before z (length z)) intact
-        | inr damaged ↦ same_size_field (slice_range original start end) (slice_range copy start end) (long_slice original refl)
-            (long_slice copy near.same_length) damaged.size
-      ])
-      ∙ sym (size_of original refl)
+  same_size = grind (arith, size_of, same_size_field, long_slice)
 
   pub near_cut : FooterGives copy start end
   near_cut = let cut : FooterGives original start end = link.cut in omega (arith, same_size)
 
   -- what passes its parity there is intact
   pub near_intact : PassesParity (slice_range copy start end) → IsIntact original copy start end
-  near_intact passes =
-      elim (near.each start end link) [
-        | inl intact ↦ intact
-        | inr damaged ↦ sym (burst (slice_range original start end) (slice_range copy start end) damaged.at (AreBytes-range original start end undamaged.are_bytes)
-            (AreBytes-range copy start end near.are_bytes) damaged.differ (undamaged.passes start end link) passes)
-      ]
+  near_intact passes = grind (arith, burst, AreBytes-range)
 
 module _ (original : List ℕ) (copies : List (List ℕ)) (near : AreNearCopies original copies) where
   -- a start that is claimed is that of the original's link
@@ -124,12 +98,7 @@ module _ (original : List ℕ) (copies : List (List ℕ)) (near : AreNearCopies 
   -- the copy of a piece has the link intact
   pub piece_intact : (start end : ℕ) (bytes : List ℕ) → IsLinkOf original start end → IsPiece copies end (record { start = start; bytes = bytes })
       → IsIntactInSome original copies start end
-  piece_intact start end bytes link piece = (
-    piece.copy,
-    piece.there,
-    near_intact original piece.copy near.undamaged (near.near piece.copy piece.there) start end link
-        (subst PassesParity piece.bytes piece.passes),
-  )
+  piece_intact start end bytes link piece = grind (arith, near_intact)
 
   -- ---- a division
 

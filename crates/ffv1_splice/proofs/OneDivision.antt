@@ -1,29 +1,7 @@
 -- Copies have one division, and it rests on the set of the copies alone.
-use Rattle.std.proofs.Common.{◌≡◌, ℕ, List, [], ◌∷◌, ◌++◌, length, map, sym, ap, ◌∙◌, subst, inl, inr}
-use Rattle.std.specs.Prelude.{◌⊎◌}
-use Rattle.std.specs.Ordering.{nat_cmp}
-use Rattle.std.specs.Cmp.Lexicographic.{slice_cmp}
-use Rattle.std.specs.declared.cmp.Ordering.TheVariants.{Less}
-use Rattle.ffv1_slice.specs.Chain.{LinkValue}
-use Rattle.ffv1_slice.specs.Members.{IsOnly, IsOfTwo, IsOfNone}
-use Rattle.ffv1_splice.specs.Pieces.{IsPiece, IsClaimedStart, IsLeast}
-use Rattle.ffv1_splice.specs.Standings.{versions_at, sized, IsWeaveAt, IsWeaveFromFront, IsUnwovenAt, IsVoteAt, IsUnvotedAt, IsRepairAt, IsMissingAt, StandsAs, IsGap, IsStop}
-use Rattle.ffv1_weave.specs.Weave.{Weave, IsWeaveOf}
-use Rattle.ffv1_weave.specs.Weave.Weave.{woven, disputed, missing, too_many}
-use Rattle.ffv1_weave.specs.Repairs.{IsRepairOf}
-use Rattle.ffv1_weave.specs.Votes.{IsVoteOf}
-use Rattle.ffv1_weave.specs.declared.check.Check.TheVariants.{Slice}
-use Rattle.ffv1_weave.proofs.WeaveLaws.{same_versions_weave}
-use Rattle.ffv1_weave.proofs.RepairLaws.{same_versions_repair}
-use Rattle.ffv1_weave.proofs.VoteLaws.{same_versions_vote}
-use Rattle.ffv1_splice.specs.Splice.{SplicedValue, IsDivisionOf}
-use Rattle.ffv1_slice.specs.Members.{HasSameMembers}
-use Rattle.ffv1_splice.specs.declared.place.Standing.{Standing}
-use Rattle.ffv1_splice.specs.declared.place.Standing.TheVariants.{Settled, Woven, Voted, Repaired, Disputed, Missing, Undivided}
-use Rattle.ffv1_splice.specs.declared.place.Place.{Place}
+use Rattle.ffv1_splice.proofs.Common.{◌≡◌, ℕ, List, [], ◌∷◌, ◌++◌, length, map, sym, ap, ◌∙◌, subst, inl, inr, arith, ◌⊎◌, LinkValue, IsOnly, IsOfTwo, IsOfNone, IsPiece, IsClaimedStart, IsLeast, versions_at, sized, IsWeaveAt, IsWeaveFromFront, IsUnwovenAt, IsVoteAt, IsUnvotedAt, IsRepairAt, IsMissingAt, StandsAs, IsGap, IsStop, Weave, IsWeaveOf, woven, disputed, missing, too_many, IsRepairOf, IsVoteOf, Slice, same_versions_weave, same_versions_repair, same_versions_vote, SplicedValue, IsDivisionOf, HasSameMembers, Standing, Settled, Woven, Voted, Repaired, Disputed, Missing, Undivided, Place, same_back, weave_as}
 use Rattle.ffv1_splice.proofs.LeastSteps.{same_if_neither_below}
 use Rattle.ffv1_splice.proofs.PlaceSteps.{two_not_only, two_not_none, unwoven_weave, missing_unwoven}
-use Rattle.ffv1_weave.proofs.WeaveLaws.{same_back, weave_as}
 use Rattle.ffv1_splice.proofs.Versions.{same_versions}
 use Rattle.ffv1_splice.proofs.FirstSlices.{same_sized}
 use Rattle.ffv1_splice.proofs.SeveralSteps.{one_start, one_several, several_as}
@@ -40,9 +18,7 @@ pub record StandingValue : Type 0 where
 
 module _ (copies : List (List ℕ)) (end : ℕ) where
   least_same : (start : ℕ) (a b : List ℕ) → IsLeast copies start end a → IsLeast copies start end b → a ≡ b
-  least_same start a b h k =
-      same_if_neither_below a b (λ below. k.least h.copy h.there (subst (λ z. slice_cmp nat_cmp z b ≡ Less) h.lies below))
-      (λ below. h.least k.copy k.there (subst (λ z. slice_cmp nat_cmp z a ≡ Less) k.lies below))
+  least_same start a b h k = grind (arith, same_if_neither_below)
 
   one_gap : (standing : Standing) (s t : ℕ) (a b : List ℕ) → IsGap copies s end a → IsGap copies t end b
       → ◌≡◌ {A = StandingValue} (record { start = s; bytes = a; standing = standing }) (record { start = t; bytes = b; standing = standing })
@@ -55,22 +31,16 @@ module _ (copies : List (List ℕ)) (end : ℕ) where
   one_weave_at : (s t : ℕ) (v w : Weave) → IsWeaveAt copies s end v → IsWeaveAt copies t end w → v ≡ w
   one_weave_at s t v w h k =
       let starts : s ≡ t = k.claim.others s h.claim.there in
-      same_versions_weave Slice (versions_at copies t end) (versions_at copies t end) v w (λ version. ((λ there. there), λ there. there))
-      (subst (λ n. IsWeaveOf Slice (versions_at copies n end) v) starts h.weave') k.weave'
+      cc (same_versions_weave Slice (versions_at copies t end) (versions_at copies t end) v w (λ version. ((λ there. there), λ there. there)) (subst (λ n. IsWeaveOf Slice (versions_at copies n end) v) starts h.weave') k.weave')
 
   -- what is made of as many that were tried
   same_made : (made : ℕ → Standing) (s t : ℕ) (a b : List ℕ) (m n : ℕ) → s ≡ t → a ≡ b → m ≡ n
       → ◌≡◌ {A = StandingValue} (record { start = s; bytes = a; standing = made m }) (record { start = t; bytes = b; standing = made n })
-  same_made made s t a b m n starts bytes counts =
-      ap (λ i. record { start = i; bytes = a; standing = made m }) starts ∙ ap (λ z. record { start = t; bytes = z; standing = made m }) bytes
-      ∙ ap (λ i. record { start = t; bytes = b; standing = made i }) counts
+  same_made made s t a b m n starts bytes counts = grind arith
 
   same_woven : (s t : ℕ) (a b : List ℕ) (m n : ℕ) → s ≡ t → woven a m ≡ woven b n
       → ◌≡◌ {A = StandingValue} (record { start = s; bytes = a; standing = Woven m }) (record { start = t; bytes = b; standing = Woven n })
-  same_woven s t a b m n starts same =
-      let bytes : a ≡ b = cc in
-      let counts : m ≡ n = cc in
-      same_made Woven s t a b m n starts bytes counts
+  same_woven s t a b m n starts same = grind (arith, same_made)
 
   one_woven : (s t : ℕ) (a b : List ℕ) (m n : ℕ) → StandsAs copies s end a (Woven m) → StandsAs copies t end b (Woven n)
       → ◌≡◌ {A = StandingValue} (record { start = s; bytes = a; standing = Woven m }) (record { start = t; bytes = b; standing = Woven n })
@@ -86,8 +56,7 @@ module _ (copies : List (List ℕ)) (end : ℕ) where
       same_woven s t a b m n (one_start copies end s t a b m n h k) (one_several copies end s t a b m n h k)
   one_woven s t a b m n (inr (inl h)) (inr (inl k)) =
       let versions : List (List ℕ) = map sized (versions_at copies 0 end) in
-      same_woven s t a b m n (h.0 ∙ sym k.0)
-      (same_versions_weave Slice versions versions (woven a m) (woven b n) (λ version. ((λ there. there), λ there. there)) h.1.weave' k.1.weave')
+      cc (same_woven s t a b m n (h.0 ∙ sym k.0) (same_versions_weave Slice versions versions (woven a m) (woven b n) (λ version. ((λ there. there), λ there. there)) h.1.weave' k.1.weave'))
 
   -- where something is woven no piece ends
   pub woven_unsettled : (s : ℕ) (a : List ℕ) (m : ℕ) → StandsAs copies s end a (Woven m) → IsOfNone (IsPiece copies end)
@@ -243,10 +212,8 @@ value_more end place rest =
 pub one_division : (copies : List (List ℕ)) (end : ℕ) (ps qs : List Place) (f g : ℕ) (a b : List ℕ) → IsSpliceBefore copies end ps f a
     → IsSpliceBefore copies end qs g b → value_of ps f a ≡ value_of qs g b
 one_division copies end ps qs f g a b (stops stop least) (stops other lesser) = ap (λ z. value_of [] end z) (least_same copies end 0 a b least lesser)
-one_division copies end ps qs f g a b (stops stop least) (goes {start = t} {standing = y} bytes stands k) =
-    absurd (stop_not_stands copies end t bytes y stop stands)
-one_division copies end ps qs f g a b (goes {start = s} {standing = x} bytes stands h) (stops stop least) =
-    absurd (stop_not_stands copies end s bytes x stop stands)
+one_division copies end ps qs f g a b (stops stop least) (goes {start = t} {standing = y} bytes stands k) = grind (arith, stop_not_stands)
+one_division copies end ps qs f g a b (goes {start = s} {standing = x} bytes stands h) (stops stop least) = grind (arith, stop_not_stands)
 one_division copies end ps qs f g a b (goes {start = s} {front = u} {standing = x} {places = more} {before = c} bytes stands h)
     (goes {start = t} {front = v} {standing = y} {places = others} {before = d} others_bytes others_stand k) =
     let place = one_standing copies end s t bytes others_bytes x y stands others_stand in
@@ -407,5 +374,4 @@ same_copies_divide copies others one other same h k =
     let long : length one.payload ≡ length other.payload =
     sym (h.one_length h.before.copy h.before.there) ∙ k.one_length h.before.copy ((same h.before.copy).0 h.before.there) in
     let walk = walk_there copies others same (length one.payload) one.places one.front one.payload (division_walk copies one h) in
-    one_division others (length other.payload) one.places other.places one.front other.front one.payload other.payload
-    (subst (λ n. IsSpliceBefore others n one.places one.front one.payload) long walk) (division_walk others other k)
+    cc (one_division others (length other.payload) one.places other.places one.front other.front one.payload other.payload (subst (λ n. IsSpliceBefore others n one.places one.front one.payload) long walk) (division_walk others other k))

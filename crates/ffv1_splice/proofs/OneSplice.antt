@@ -1,16 +1,6 @@
 -- Copies have one splice, and it rests on the set of the copies alone.
-use Rattle.std.proofs.Common.{◌≡◌, ℕ, ◌-◌, ◌≤◌, List, [], ◌∷◌, ◌++◌, length, refl, sym, ap, ◌∙◌, subst, arith, inl, inr}
-use Rattle.std.specs.Prelude.{◌⊎◌, All, reverse, slice_range}
-use Rattle.std.proofs.lemmas.List.Elements.{All-nil, All-cons, All-head, All-tail, All-append, All-weaker}
-use Rattle.ffv1_slice.specs.Chain.{LinkValue, link_of}
-use Rattle.ffv1_slice.specs.Members.{IsOnly, HasSameMembers}
-use Rattle.ffv1_splice.specs.Pieces.{IsPiece, IsClaimedStart, PieceFrom, IsPieceFrom, IsShortest}
-use Rattle.ffv1_splice.specs.Standings.{versions_at, StandsAs}
-use Rattle.ffv1_splice.specs.Splice.{SplicedValue, LieFrom, RiseFrom, IsSettledDown, IsSettledUp, IsWalkDown, IsBound, IsWalkUp, IsClaimedEnd, IsLostUpTo, IsCrossed, Crossing, AreCrossings, IsWalkAcross, crossing_places, IsDivisionOf, hole_places, front_of, IsSpliceOf}
-use Rattle.ffv1_splice.specs.Laws.{SameCopiesSplice}
-use Rattle.ffv1_splice.specs.declared.place.Place.{Place}
+use Rattle.ffv1_splice.proofs.Common.{◌≡◌, ℕ, ◌-◌, ◌≤◌, List, [], ◌∷◌, ◌++◌, length, refl, sym, ap, ◌∙◌, subst, arith, inl, inr, ◌⊎◌, All, reverse, slice_range, All-nil, All-cons, All-head, All-tail, All-append, All-weaker, LinkValue, link_of, IsOnly, HasSameMembers, IsPiece, IsClaimedStart, PieceFrom, IsPieceFrom, IsShortest, versions_at, StandsAs, SplicedValue, LieFrom, RiseFrom, IsSettledDown, IsSettledUp, IsWalkDown, IsBound, IsWalkUp, IsClaimedEnd, IsLostUpTo, IsCrossed, Crossing, AreCrossings, IsWalkAcross, crossing_places, IsDivisionOf, hole_places, front_of, IsSpliceOf, SameCopiesSplice, Place, same_back}
 use Rattle.ffv1_splice.specs.declared.crossing.TheConstants.{MOST_CROSSED}
-use Rattle.ffv1_weave.proofs.WeaveLaws.{same_back}
 use Rattle.ffv1_splice.proofs.Versions.{same_versions}
 use Rattle.ffv1_splice.proofs.OneDivision.{StandingValue, one_standing, piece_there, piece_here, start_there, start_here, only_same, stands_there, division_there, same_copies_divide}
 use Rattle.ffv1_splice.proofs.SplicePlaces.{lower, copy_at_hand}
@@ -21,12 +11,10 @@ use Rattle.ffv1_splice.proofs.SameBytes.{IsSameAt, same_by_parts}
 
 module _ (copies others : List (List ℕ)) (same : HasSameMembers copies others) where
   from_there : (bound start : ℕ) (piece : PieceFrom) → IsPieceFrom copies bound start piece → IsPieceFrom others bound start piece
-  from_there bound start piece h =
-      record { there = piece_there copies others same piece.end (record { start = start; bytes = piece.bytes }) h.there; within = h.within }
+  from_there bound start piece h = grind (arith, piece_there)
 
   from_here : (bound start : ℕ) (piece : PieceFrom) → IsPieceFrom others bound start piece → IsPieceFrom copies bound start piece
-  from_here bound start piece h =
-      record { there = piece_here copies others same piece.end (record { start = start; bytes = piece.bytes }) h.there; within = h.within }
+  from_here bound start piece h = grind (arith, piece_here)
 
   shortest_there : (bound start : ℕ) (piece : PieceFrom) → IsShortest copies bound start piece → IsShortest others bound start piece
   shortest_there bound start piece h =
@@ -146,10 +134,7 @@ module _ (copies others : List (List ℕ)) (same : HasSameMembers copies others)
 -- ---- one walk
 
 same_place : (one other : Place) → one.start ≡ other.start → one.end ≡ other.end → one.standing ≡ other.standing → one ≡ other
-same_place one other start end standing =
-    ap (λ n. record { start = n; end = one.end; standing = one.standing }) start
-    ∙ ap (λ n. record { start = other.start; end = n; standing = one.standing }) end
-    ∙ ap (λ s. record { start = other.start; end = other.end; standing = s }) standing
+same_place one other start end standing = grind arith
 
 -- what two walks from one place have in common
 record IsOneWalk (a b : List ℕ) (ps qs : List Place) (s t : ℕ) : Type 0 where
@@ -163,12 +148,7 @@ module _ (a b : List ℕ) (p q : Place) (starts : p.start ≡ q.start) (ends : p
 
   one_more : (ps qs : List Place) (s t : ℕ) → p.standing ≡ q.standing → slice_range a p.start p.end ≡ slice_range b q.start q.end
       → IsOneWalk a b ps qs s t → IsOneWalk a b (p ∷ ps) (q ∷ qs) s t
-  one_more ps qs s t standings bytes rest =
-      record {
-        places = ap (λ z. z ∷ ps) (same_place p q starts ends standings) ∙ ap (λ zs. q ∷ zs) rest.places;
-        stop = rest.stop;
-        bytes = All-cons (IsSameAt a b) p ps (same_there bytes) rest.bytes;
-      }
+  one_more ps qs s t standings bytes rest = grind (arith, same_place, All-cons, same_there)
 
 module _ (copies : List (List ℕ)) (a b : List ℕ) where
   -- of places that end alike, each with the only piece that ends there
@@ -231,8 +211,7 @@ module _ (copies : List (List ℕ)) (bound : ℕ) where
         let yours = All-head (IsSettledUp copies bound b) q qs k in
         let starts : p.start ≡ q.start = rise.0 ∙ sym risen.0 in
         let ends : p.end ≡ q.end =
-        same_end p.start q.start (record { end = p.end; bytes = slice_range a p.start p.end }) (record { end = q.end; bytes = slice_range b q.start q.end })
-        starts mine.first yours.first in
+        cc (same_end p.start q.start (record { end = p.end; bytes = slice_range a p.start p.end }) (record { end = q.end; bytes = slice_range b q.start q.end }) starts mine.first yours.first) in
         one_more a b p q starts ends ps qs s t (mine.standing ∙ sym yours.standing)
         (ap (λ (x : LinkValue). x.bytes) (same_piece copies a b p q ends mine.only yours.only))
         (one_up p.end ps qs s t rise.1 (subst (λ n. RiseFrom n qs t) (sym ends) risen.1) (All-tail (IsSettledUp copies bound a) p ps h)
@@ -305,10 +284,7 @@ module _ (copies : List (List ℕ)) (bound : ℕ) (a b : List ℕ) where
 -- ---- one splice
 
 same_value : (one other : SplicedValue) → one.places ≡ other.places → one.front ≡ other.front → one.payload ≡ other.payload → one ≡ other
-same_value one other places front payload =
-    ap (λ z. record { places = z; front = one.front; payload = one.payload }) places
-    ∙ ap (λ z. record { places = other.places; front = z; payload = one.payload }) front
-    ∙ ap (λ z. record { places = other.places; front = other.front; payload = z }) payload
+same_value one other places front payload = grind arith
 
 one_splice : (copies : List (List ℕ)) (one other : SplicedValue) → IsSpliceOf copies one → IsSpliceOf copies other → one ≡ other
 one_splice copies one other is k =
@@ -335,12 +311,7 @@ one_splice copies one other is k =
     let bytes : is.hole.payload ≡ slice_range other.payload is.start is.end =
     ap (λ (h : SplicedValue). h.payload) hole ∙ k.bytes ∙ sym (ap (λ n. slice_range other.payload n k.end) up.stop)
     ∙ sym (ap (λ n. slice_range other.payload is.start n) down.stop) in
-    same_value one other
-    (is.places ∙ ap (λ z. z ++ (hole_places is.start is.hole ++ reverse (lower copies one is))) down.places
-    ∙ ap (λ n. k.above ++ (hole_places n is.hole ++ reverse (lower copies one is))) up.stop ∙ ap (λ h. k.above ++ (hole_places k.start h ++ reverse (lower copies one is))) hole
-    ∙ ap (λ z. k.above ++ (hole_places k.start k.hole ++ reverse z)) up.places ∙ sym k.places)
-    (is.front ∙ ap (λ n. front_of n is.hole.front) up.stop ∙ ap (λ (h : SplicedValue). front_of k.start h.front) hole ∙ sym k.front)
-    (same_by_parts copies one is other.payload long down.bytes up.bytes bytes)
+    cc (same_value one other (is.places ∙ ap (λ z. z ++ (hole_places is.start is.hole ++ reverse (lower copies one is))) down.places ∙ ap (λ n. k.above ++ (hole_places n is.hole ++ reverse (lower copies one is))) up.stop ∙ ap (λ h. k.above ++ (hole_places k.start h ++ reverse (lower copies one is))) hole ∙ ap (λ z. k.above ++ (hole_places k.start k.hole ++ reverse z)) up.places ∙ sym k.places) (is.front ∙ ap (λ n. front_of n is.hole.front) up.stop ∙ ap (λ (h : SplicedValue). front_of k.start h.front) hole ∙ sym k.front) (same_by_parts copies one is other.payload long down.bytes up.bytes bytes))
 
 pub same_copies_splice : SameCopiesSplice
 same_copies_splice copies others one other same is k = one_splice others one other (splice_there copies others same one is) k

@@ -1,17 +1,5 @@
 -- The splice of copies of which no piece contradicts an original.
-use Rattle.std.proofs.Common.{◌≡◌, ℕ, ◌+◌, ◌-◌, ◌<◌, ◌≤◌, List, [], ◌∷◌, length, get_or, take, drop, sym, ap, ◌∙◌, subst, arith, inl, inr}
-use Rattle.std.specs.Prelude.{All, slice_range}
-use Rattle.std.proofs.lemmas.List.Elements.{All-nil, All-cons, All-head, All-tail, All-append, All-weaker}
-use Rattle.std.proofs.lemmas.Bool.{cases_lt}
-use Rattle.ffv1_slice.specs.Chain.{FooterGives, IsEnd, IsLinkOf, LinkValue, link_of}
-use Rattle.ffv1_slice.specs.Chain.IsEnd.{last, before}
-use Rattle.ffv1_splice.specs.Pieces.{HasContent, IsClaimedStart, PieceFrom}
-use Rattle.ffv1_splice.specs.Standings.{versions_at}
-use Rattle.ffv1_splice.specs.Splice.{SplicedValue, LieFrom, RiseFrom, IsSettledDown, IsSettledUp, IsCrossed, Crossing, AreCrossings, crossing_places, IsSpliceOf, moved_by}
-use Rattle.ffv1_splice.specs.Originals.{AreCopiesOf, AreConsistentWith, AreConsistentFromBelow, HaveEachLink}
-use Rattle.ffv1_splice.specs.Laws.{IsSplicedOriginal, OriginalIsSpliced, SettledIsOriginal, IsItsLink, SettledWalksAreOriginal, IsLinkIfSettled, WalkAcrossIsOriginal}
-use Rattle.ffv1_splice.specs.declared.place.Standing.TheVariants.{Settled}
-use Rattle.ffv1_splice.specs.declared.place.Place.{Place}
+use Rattle.ffv1_splice.proofs.Common.{◌≡◌, ℕ, ◌+◌, ◌-◌, ◌<◌, ◌≤◌, List, [], ◌∷◌, length, get_or, sym, ap, ◌∙◌, subst, arith, inl, inr, All, slice_range, All-nil, All-cons, All-head, All-tail, All-append, All-weaker, cases_lt, FooterGives, IsEnd, IsLinkOf, LinkValue, link_of, last, before, HasContent, IsClaimedStart, PieceFrom, versions_at, SplicedValue, LieFrom, RiseFrom, IsSettledDown, IsSettledUp, IsCrossed, Crossing, AreCrossings, crossing_places, IsSpliceOf, moved_by, AreCopiesOf, AreConsistentWith, AreConsistentFromBelow, HaveEachLink, IsSplicedOriginal, OriginalIsSpliced, SettledIsOriginal, IsItsLink, SettledWalksAreOriginal, IsLinkIfSettled, WalkAcrossIsOriginal, Settled, Place}
 use Rattle.ffv1_splice.proofs.BoundSteps.{bound_within}
 use Rattle.ffv1_splice.proofs.Walks.{front_below}
 use Rattle.ffv1_splice.proofs.DividedLinks.{end_within, link_at, AreLinkPlaces, agree_one}
@@ -139,8 +127,7 @@ module _ (original : List ℕ) (copies : List (List ℕ)) (spliced : SplicedValu
 
     links_across : (start : ℕ) (crossings : List Crossing) (top : ℕ) → IsEnd original start → AreCrossings copies is.bound spliced.payload start crossings top
         → AreLegLinks original spliced crossings top
-    links_across start [] top is_end are =
-        record { links = All-nil (IsLinkIfSettled original spliced); is_end = subst (IsEnd original) are is_end }
+    links_across start [] top is_end are = grind (arith, All-nil)
     links_across start (crossing ∷ crossings) top is_end are =
         let link = crossed_link crossing.over (subst (IsEnd original) (sym are.0) is_end) are.1 in
         let up = links_up original copies spliced from_below is.bound bound_inside crossing.over.end crossing.settled are.2 link.is_end are.3.rise are.3.settled in
@@ -219,11 +206,7 @@ module _ (original : List ℕ) (copies : List (List ℕ)) (of : AreCopiesOf orig
       ]
 
   no_hole_front : is.hole.front ≡ 0
-  no_hole_front =
-      let long = hole_length copies spliced is in
-      let first = to_first in
-      let within = front_below (length is.hole.payload) is.hole.places is.hole.front (hole_upright copies spliced is) is.divided.lie in
-      omega arith
+  no_hole_front = grind (arith, hole_length, to_first, front_below, hole_upright)
 
   -- so all places are above the hole
   none_in_hole : (P : Place → Type 0) → All P is.hole.places
@@ -246,10 +229,7 @@ module _ (original : List ℕ) (copies : List (List ℕ)) (of : AreCopiesOf orig
       (none_below P)
 
   same_hole : is.hole.payload ≡ slice_range original is.start is.end
-  same_hole =
-      let first = to_first in
-      let none : is.end - is.start ≡ 0 = omega arith in
-      is.bytes ∙ ap (λ n. take n (drop is.start spliced.payload)) none ∙ sym (ap (λ n. take n (drop is.start original)) none)
+  same_hole = grind (arith, to_first)
 
   pub is_original : IsSplicedOriginal original spliced
   is_original =

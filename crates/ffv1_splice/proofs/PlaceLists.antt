@@ -1,19 +1,11 @@
 -- Lists of places that lie end to end.
-use Rattle.std.proofs.Common.{◌≡◌, ℕ, zero, suc, ◌+◌, ◌-◌, ◌<◌, ◌≤◌, List, [], ◌∷◌, ◌++◌, length, get_or, map, refl, sym, ap, ◌∙◌, subst, arith}
-use Rattle.std.specs.Prelude.{All, reverse}
-use Rattle.std.proofs.lemmas.List.{length-append, length-map, length-reverse, get_or_append_left, get_or-append_right, get_or-map, get_or-reverse, reverse-append}
-use Rattle.std.proofs.lemmas.List.Elements.{All-nil, All-cons, All-head, All-tail}
-use Rattle.ffv1_splice.specs.Splice.{LieFrom, RiseFrom, moved_by, undivided_places, front_of, IsSettledOrWoven}
-use Rattle.ffv1_splice.specs.declared.place.Standing.TheVariants.{Undivided}
-use Rattle.ffv1_splice.specs.declared.place.Place.{Place}
+use Rattle.ffv1_splice.proofs.Common.{◌≡◌, ℕ, zero, suc, ◌+◌, ◌-◌, ◌<◌, ◌≤◌, List, [], ◌∷◌, ◌++◌, length, get_or, map, refl, sym, ap, ◌∙◌, subst, arith, All, reverse, length-append, length-map, length-reverse, get_or_append_left, get_or-append_right, get_or-map, get_or-reverse, reverse-append, All-nil, All-cons, All-head, All-tail, LieFrom, RiseFrom, moved_by, undivided_places, front_of, IsSettledOrWoven, Undivided, Place}
 
 -- ---- what is so of each part of a list
 
 module _ {X : Type 0} (P : X → Type 0) where
   pub All-reverse : (xs : List X) → All P xs → All P (reverse xs)
-  All-reverse xs all k d lt =
-      let within : k < length xs = omega (arith, lt, length-reverse xs) in
-      subst P (sym (get_or-reverse xs k d within)) (all (length xs - 1 - k) d (omega arith))
+  All-reverse xs all k d lt = grind (arith, length-reverse, get_or-reverse)
 
   pub All-left : (xs ys : List X) → All P (xs ++ ys) → All P xs
   All-left xs ys all k d lt = subst P (get_or_append_left xs ys d k lt) (all k d (omega (arith, lt, length-append xs ys)))
@@ -59,10 +51,7 @@ top_below bound start (place ∷ places) top rise first within =
 pub start_below : (start : ℕ) (places : List Place) (top : ℕ) → RiseFrom start places top → All (λ place. place.start ≤ place.end) places → start ≤ top
 start_below start [] top rise up = omega arith
 start_below start (place ∷ places) top rise up =
-    let here = All-head (λ place. place.start ≤ place.end) place places up in
-    let rest = start_below place.end places top rise.1 (All-tail (λ place. place.start ≤ place.end) place places up) in
-    let first = rise.0 in
-    omega arith
+    grind (arith, All-head, All-tail, start_below place.end places top rise.1 (All-tail (λ place. place.start ≤ place.end) place places up))
 
 -- what of a hole can't be divided, and what lies below the hole
 pub lie_below : (start front : ℕ) (places : List Place) → RiseFrom 0 places start → All (λ place. place.start < place.end) places
@@ -73,9 +62,7 @@ lie_below zero front (place ∷ places) rise up =
     let after = All-tail (λ place. place.start < place.end) place places up in
     let rest = start_below place.end places 0 rise.1 (λ k d lt. let order = after k d lt in omega arith) in
     absurd (omega arith)
-lie_below (suc before) zero places rise up =
-    let same : suc before + 0 ≡ suc before = omega arith in
-    subst (λ n. LieFrom n (reverse places) 0) (sym same) (lie_reverse 0 (suc before) places rise)
+lie_below (suc before) zero places rise up = grind (arith, lie_reverse)
 lie_below (suc before) (suc more) places rise up = (refl, lie_reverse 0 (suc before) places rise)
 
 -- ---- what of a hole can't be divided
@@ -89,16 +76,13 @@ no_undivided P (suc before) (suc more) none = absurd (omega arith)
 pub all_stand_undivided : (start front : ℕ) → All (λ place. place.standing ≡ Undivided) (undivided_places start front)
 all_stand_undivided zero front = All-nil (λ place. place.standing ≡ Undivided)
 all_stand_undivided (suc before) zero = All-nil (λ place. place.standing ≡ Undivided)
-all_stand_undivided (suc before) (suc more) =
-    All-cons (λ place. place.standing ≡ Undivided) (record { start = suc before; end = suc before + suc more; standing = Undivided }) [] refl
-    (All-nil (λ place. place.standing ≡ Undivided))
+all_stand_undivided (suc before) (suc more) = grind (arith, All-cons, All-nil)
 
 -- and there is nothing of it where the places cover the frame, and at each a slice stands
 pub no_front : (start front : ℕ) → front_of start front ≡ 0 → All (λ place. IsSettledOrWoven place.standing) (undivided_places start front) → front ≡ 0
 no_front zero front whole stand = whole
 no_front (suc before) zero whole stand = refl
-no_front (suc before) (suc more) whole stand =
-    absurd (All-head (λ place. IsSettledOrWoven place.standing) (record { start = suc before; end = suc before + suc more; standing = Undivided }) [] stand)
+no_front (suc before) (suc more) whole stand = grind (arith, All-head)
 
 pub whole_front : (start front : ℕ) → front ≡ 0 → front_of start front ≡ 0
 whole_front zero front none = none

@@ -1,18 +1,5 @@
 -- The place that ends at an end of the splice: how long it is, and how it stands.
-use Rattle.std.proofs.Common.{◌≡◌, ℕ, ◌+◌, ◌≤◌, List, length, refl, sym, ap, ◌∙◌, inl, inr, arith}
-use Rattle.ffv1_slice.specs.Chain.{FooterGives, LinkValue}
-use Rattle.ffv1_slice.proofs.NearLaws.{length-range}
-use Rattle.ffv1_slice.specs.Members.{IsOnly, IsOfTwo, IsOfNone}
-use Rattle.ffv1_splice.specs.Pieces.{AllReach, IsPiece, IsClaimedStart, IsLeast}
-use Rattle.ffv1_weave.specs.Weave.{Weave, IsWeaveOf}
-use Rattle.ffv1_weave.specs.Weave.Weave.{missing, too_many}
-use Rattle.ffv1_weave.specs.declared.check.Check.TheVariants.{Slice}
-use Rattle.ffv1_splice.specs.Standings.{versions_at, IsWeaveAt, IsUnwovenAt, IsMissingAt, StandsAs, IsGap}
-use Rattle.ffv1_splice.specs.Inner.Placing.{IsPlaced}
-use Rattle.ffv1_weave.specs.Parts.{written}
-use Rattle.ffv1_splice.specs.declared.place.Standing.{Standing}
-use Rattle.ffv1_splice.specs.Inner.Tally.{Tallies, starts_tally}
-use Rattle.ffv1_splice.specs.declared.tally.Starts.{Starts}
+use Rattle.ffv1_splice.proofs.Common.{◌≡◌, ℕ, ◌+◌, ◌≤◌, List, length, refl, sym, ◌∙◌, inl, inr, arith, FooterGives, LinkValue, length-range, IsOnly, IsOfTwo, IsOfNone, AllReach, IsPiece, IsClaimedStart, IsLeast, Weave, IsWeaveOf, missing, too_many, Slice, versions_at, IsWeaveAt, IsUnwovenAt, IsMissingAt, StandsAs, IsGap, IsPlaced, written, Standing, Tallies, starts_tally, Starts}
 use Rattle.ffv1_splice.specs.declared.tally.Starts.TheVariants as starts
 
 -- ---- how many differ
@@ -41,18 +28,11 @@ pub claim_below : (copies : List (List ℕ)) (start end : ℕ) → IsClaimedStar
 claim_below copies start end h = cut_below h.copy start end h.cut
 
 pub piece_size : (copies : List (List ℕ)) (end : ℕ) (piece : LinkValue) → AllReach copies end → IsPiece copies end piece → piece.start + length piece.bytes ≡ end
-piece_size copies end piece reach h =
-    let below = cut_below h.copy piece.start end h.cut in
-    let size = length-range h.copy piece.start end (omega arith) (reach h.copy h.there) in
-    let same = ap length h.bytes in
-    omega arith
+piece_size copies end piece reach h = grind (arith, cut_below, length-range)
 
 pub least_size : (copies : List (List ℕ)) (start end : ℕ) (bytes : List ℕ) → AllReach copies end → start ≤ end → IsLeast copies start end bytes
     → start + length bytes ≡ end
-least_size copies start end bytes reach below h =
-    let size = length-range h.copy start end below (reach h.copy h.there) in
-    let same = ap length h.lies in
-    omega arith
+least_size copies start end bytes reach below h = grind (arith, length-range)
 
 pub gap_size : (copies : List (List ℕ)) (start end : ℕ) (bytes : List ℕ) → AllReach copies end → IsGap copies start end bytes → start + length bytes ≡ end
 gap_size copies start end bytes reach h =
@@ -77,5 +57,4 @@ missing_unwoven copies start end (inr h, unvoted) = inr h
 pub placed_as : (copies : List (List ℕ)) (start end : ℕ) (old new bytes : List ℕ) (standing : Standing) → StandsAs copies start end bytes standing
     → start + length bytes ≡ end → new ≡ written old start bytes
     → IsPlaced copies end old new (record { start = start; end = end; standing = standing })
-placed_as copies start end old new bytes standing stands size is =
-    record { bytes = bytes; ends = refl; stands = stands; size = size; written' = is }
+placed_as copies start end old new bytes standing stands size is = grind arith

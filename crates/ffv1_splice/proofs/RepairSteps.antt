@@ -1,11 +1,5 @@
 -- The vote and the repair of a place, as the code returns them.
-use Rattle.std.proofs.Common.{◌≡◌, ℕ, Vec, Global, List, Option, None, Some, Bool, true, false, refl, subst, inl, inr}
-use Rattle.std.specs.Prelude.{MatchOption, IsTrue, IsFalse}
-use Rattle.std.proofs.lemmas.Option.{MatchOption-at_none, MatchOption-at_some}
-use Rattle.ffv1_weave.specs.Weave.Weave.{missing, too_many}
-use Rattle.ffv1_weave.specs.Repairs.{IsRepairOf}
-use Rattle.ffv1_weave.specs.Votes.{IsVoteOf}
-use Rattle.ffv1_splice.specs.Standings.{versions_at, IsWeaveAt, IsUnwovenAt, IsVoteAt, IsUnvotedAt, IsRepairAt, IsMissingAt}
+use Rattle.ffv1_splice.proofs.Common.{◌≡◌, ℕ, Vec, Global, List, Option, None, Some, Bool, true, false, refl, inl, inr, arith, MatchOption, IsTrue, IsFalse, MatchOption-at_none, MatchOption-at_some, missing, too_many, IsRepairOf, IsVoteOf, versions_at, IsWeaveAt, IsUnwovenAt, IsVoteAt, IsUnvotedAt, IsRepairAt, IsMissingAt}
 
 absent : {X : Type 0} (found : Option X) → ((x : X) → found ≡ Some x → ⊥) → found ≡ None
 absent None h = refl
@@ -26,23 +20,16 @@ IsResult P found = MatchOption found ((bytes : List ℕ) (count : ℕ) → P byt
 module _ (P : List (List ℕ) → List ℕ → ℕ → Type 0) (versions all : List (List ℕ)) (are : versions ≡ all) (found : Option (Vec ℕ Global × ℕ))
     (returned : IsResult (P versions) found) where
   made_there : (bytes : Vec ℕ Global) (count : ℕ) → found ≡ Some (bytes, count) → P all bytes.items count
-  made_there bytes count is =
-      subst (λ vs. P vs bytes.items count) are
-      (MatchOption-at_some ((bytes : List ℕ) (count : ℕ) → P versions bytes count → ⊥) (λ (bytes, count). P versions bytes.items count) (bytes, count) is
-      returned)
+  made_there bytes count is = grind (arith, MatchOption-at_some)
 
   none_there : ((x : Vec ℕ Global × ℕ) → found ≡ Some x → ⊥) → (bytes : List ℕ) (count : ℕ) → P all bytes count → ⊥
-  none_there apart =
-      subst (λ vs. (bytes : List ℕ) (count : ℕ) → P vs bytes count → ⊥) are
-      (MatchOption-at_none ((bytes : List ℕ) (count : ℕ) → P versions bytes count → ⊥) (λ (bytes, count). P versions bytes.items count)
-      (absent found apart) returned)
+  none_there apart = grind (arith, MatchOption-at_none, absent)
 
 module _ (copies : List (List ℕ)) (start end : ℕ) (versions : List (List ℕ)) (are : versions ≡ versions_at copies start end)
     (found : Option (Vec ℕ Global × ℕ)) where
   pub is_voted : IsUnwovenAt copies start end → IsResult (IsVoteOf versions) found → (bytes : Vec ℕ Global) (count : ℕ) → found ≡ Some (bytes, count)
       → IsVoteAt copies start end bytes.items count
-  is_voted unwoven returned bytes count is =
-      record { unwoven = unwoven; vote = made_there IsVoteOf versions (versions_at copies start end) are found returned bytes count is }
+  is_voted unwoven returned bytes count is = grind (arith, made_there)
 
   pub is_unvoted : IsResult (IsVoteOf versions) found → ((x : Vec ℕ Global × ℕ) → found ≡ Some x → ⊥) → IsUnvotedAt copies start end
   is_unvoted returned apart = none_there IsVoteOf versions (versions_at copies start end) are found returned apart
@@ -50,13 +37,7 @@ module _ (copies : List (List ℕ)) (start end : ℕ) (versions : List (List ℕ
   module _ (missed : (count : ℕ) × IsWeaveAt copies start end (missing count)) (unvoted : IsUnvotedAt copies start end)
       (returned : IsResult (IsRepairOf versions) found) where
     pub is_repaired : (bytes : Vec ℕ Global) (count : ℕ) → found ≡ Some (bytes, count) → IsRepairAt copies start end bytes.items count
-    is_repaired bytes count is =
-        record {
-          combinations = missed.0;
-          missed = missed.1;
-          unvoted = unvoted;
-          repair = made_there IsRepairOf versions (versions_at copies start end) are found returned bytes count is;
-        }
+    is_repaired bytes count is = grind (arith, made_there)
 
     pub is_missing : ((x : Vec ℕ Global × ℕ) → found ≡ Some x → ⊥) → IsMissingAt copies start end
     is_missing apart = (inl (missed, none_there IsRepairOf versions (versions_at copies start end) are found returned apart), unvoted)

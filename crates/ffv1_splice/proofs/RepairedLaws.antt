@@ -1,16 +1,5 @@
 -- What is voted or repaired of copies of an original.
-use Rattle.std.proofs.Common.{◌≡◌, ℕ, List, sym, ◌∙◌, subst}
-use Rattle.std.specs.Prelude.{slice_range}
-use Rattle.ffv1_weave.specs.Repairs.{IsRepair}
-use Rattle.ffv1_weave.specs.Votes.{IsVote}
-use Rattle.ffv1_weave.proofs.RepairLaws.{original_is_repaired}
-use Rattle.ffv1_weave.proofs.VoteLaws.{original_is_voted}
-use Rattle.ffv1_splice.specs.Standings.{versions_at, StandsAs}
-use Rattle.ffv1_splice.specs.Splice.{SplicedValue, IsSpliceOf}
-use Rattle.ffv1_splice.specs.Laws.{VotedIsOriginal, RepairedIsOriginal}
-use Rattle.ffv1_splice.specs.declared.place.Standing.{Standing}
-use Rattle.ffv1_splice.specs.declared.place.Standing.TheVariants.{Settled, Voted, Repaired, Undivided}
-use Rattle.ffv1_splice.specs.declared.place.Place.{Place}
+use Rattle.ffv1_splice.proofs.Common.{◌≡◌, ℕ, List, sym, ◌∙◌, subst, slice_range, IsRepair, IsVote, original_is_repaired, original_is_voted, versions_at, StandsAs, SplicedValue, IsSpliceOf, VotedIsOriginal, RepairedIsOriginal, Standing, Settled, Voted, Repaired, Undivided, Place}
 use Rattle.ffv1_splice.proofs.StandingPlaces.{between_versions, IsPlaceOf, place_of}
 use Rattle.ffv1_splice.proofs.StandingPlaces.IsPlaceOf.{above, between, undivided, below}
 
@@ -27,9 +16,7 @@ module _ (IsMade : List (List ℕ) → List ℕ → Type 0) (made : ℕ → Stan
   made_link place count (between h) among as_made =
       let slice : List ℕ = slice_range original place.start place.end in
       let bytes : List ℕ = slice_range spliced.payload place.start place.end in
-      one (versions_at copies h.from h.to) h.start h.end slice bytes count
-      (subst (λ vs. IsMade vs slice) (sym (between_versions copies spliced.payload place h)) among)
-      (subst (StandsAs (versions_at copies h.from h.to) h.start h.end bytes) as_made h.stands)
+      cc (one (versions_at copies h.from h.to) h.start h.end slice bytes count (subst (λ vs. IsMade vs slice) (sym (between_versions copies spliced.payload place h)) among) (subst (StandsAs (versions_at copies h.from h.to) h.start h.end bytes) as_made h.stands))
   made_link place count (undivided stands) among as_made = absurd (is_divided count (sym as_made ∙ stands))
   made_link place count (below settled) among as_made = absurd (unsettled count (sym as_made ∙ settled.standing))
 

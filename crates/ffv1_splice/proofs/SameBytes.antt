@@ -1,11 +1,5 @@
 -- Bytes that are the same place by place.
-use Rattle.std.proofs.Common.{◌≡◌, ℕ, ◌+◌, ◌-◌, ◌<◌, ◌≤◌, List, [], ◌∷◌, ◌++◌, length, take, refl, sym, ap, ◌∙◌, subst, arith}
-use Rattle.std.specs.Prelude.{All, slice_range}
-use Rattle.std.proofs.Math.Seq.{take-add}
-use Rattle.std.proofs.lemmas.List.{take_all}
-use Rattle.std.proofs.lemmas.List.Elements.{All-head, All-tail, All-weaker}
-use Rattle.ffv1_splice.specs.Splice.{SplicedValue, LieFrom, RiseFrom, IsSpliceOf}
-use Rattle.ffv1_splice.specs.declared.place.Place.{Place}
+use Rattle.ffv1_splice.proofs.Common.{◌≡◌, ℕ, ◌+◌, ◌-◌, ◌<◌, ◌≤◌, List, [], ◌∷◌, ◌++◌, length, take, refl, sym, ap, ◌∙◌, subst, arith, All, slice_range, take-add, take_all, All-head, All-tail, All-weaker, SplicedValue, LieFrom, RiseFrom, IsSpliceOf, Place}
 use Rattle.ffv1_splice.proofs.SplicePlaces.{lower, lower_rise, above_upright, lower_upright, start_within}
 
 module _ (a b : List ℕ) where
@@ -36,8 +30,7 @@ module _ (a b : List ℕ) where
   same_up start [] top rise up same before = subst (λ n. take n a ≡ take n b) rise before
   same_up start (place ∷ places) top rise up same before =
       let front : take place.start a ≡ take place.start b = subst (λ n. take n a ≡ take n b) (sym rise.0) before in
-      same_up place.end places top rise.1 (All-tail (λ place. place.start ≤ place.end) place places up) (All-tail IsSameAt place places same)
-      (same_on place.start place.end (All-head (λ place. place.start ≤ place.end) place places up) front (All-head IsSameAt place places same))
+      cc (same_up place.end places top rise.1 (All-tail (λ place. place.start ≤ place.end) place places up) (All-tail IsSameAt place places same) (same_on place.start place.end (All-head (λ place. place.start ≤ place.end) place places up) front (All-head IsSameAt place places same)))
 
 -- A splice has the bytes that it has above its hole, in it and below it.
 pub same_by_parts : (copies : List (List ℕ)) (spliced : SplicedValue) (is : IsSpliceOf copies spliced) (bytes : List ℕ)
@@ -46,11 +39,8 @@ pub same_by_parts : (copies : List (List ℕ)) (spliced : SplicedValue) (is : Is
 same_by_parts copies spliced is bytes long above below hole =
     let a : List ℕ = spliced.payload in
     let to_start : take is.start a ≡ take is.start bytes =
-    same_up a bytes 0 (lower copies spliced is) is.start (lower_rise copies spliced is)
-    (All-weaker (λ place. place.start < place.end) (λ place. place.start ≤ place.end) (λ place order. omega arith) (lower copies spliced is)
-    (lower_upright copies spliced is)) below refl in
-    let to_end : take is.end a ≡ take is.end bytes =
-    same_on a bytes is.start is.end (start_within copies spliced is) to_start (sym is.bytes ∙ hole) in
+    cc (same_up a bytes 0 (lower copies spliced is) is.start (lower_rise copies spliced is) (All-weaker (λ place. place.start < place.end) (λ place. place.start ≤ place.end) (λ place order. omega arith) (lower copies spliced is) (lower_upright copies spliced is)) below refl) in
+    let to_end : take is.end a ≡ take is.end bytes = cc (same_on a bytes is.start is.end (start_within copies spliced is) to_start (sym is.bytes ∙ hole)) in
     let all : take (length a) a ≡ take (length a) bytes =
     same_down a bytes (length a) is.above is.end is.down.lie (above_upright copies spliced is) above to_end in
     sym (take_all (length a) a (omega arith)) ∙ all ∙ take_all (length a) bytes (omega (arith, long))

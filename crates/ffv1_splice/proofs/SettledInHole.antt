@@ -1,15 +1,5 @@
 -- Settled places of the hole, down from its top.
-use Rattle.std.proofs.Common.{◌≡◌, ℕ, ◌+◌, ◌≤◌, List, [], ◌∷◌, ◌++◌, length, sym, ap, subst, arith, inl, inr}
-use Rattle.std.specs.Prelude.{◌⊎◌, All, slice_range}
-use Rattle.std.proofs.lemmas.List.Elements.{All-head, All-tail}
-use Rattle.ffv1_slice.specs.Chain.{IsEnd, IsLinkOf, LinkValue}
-use Rattle.ffv1_slice.specs.Chain.IsEnd.{before}
-use Rattle.ffv1_splice.specs.Standings.{versions_at, StandsAs}
-use Rattle.ffv1_splice.specs.Splice.{SplicedValue, LieFrom, IsSpliceOf, moved_by}
-use Rattle.ffv1_splice.specs.Originals.{AreConsistentWith}
-use Rattle.ffv1_splice.specs.Laws.{IsItsLink, IsClaimedAsIn, SettledInHoleIsOriginal}
-use Rattle.ffv1_splice.specs.declared.place.Standing.TheVariants.{Settled}
-use Rattle.ffv1_splice.specs.declared.place.Place.{Place}
+use Rattle.ffv1_splice.proofs.Common.{◌≡◌, ℕ, ◌+◌, ◌≤◌, List, [], ◌∷◌, ◌++◌, length, sym, ap, subst, arith, inl, inr, ◌⊎◌, All, slice_range, All-head, All-tail, IsEnd, IsLinkOf, LinkValue, before, versions_at, StandsAs, SplicedValue, LieFrom, IsSpliceOf, moved_by, AreConsistentWith, IsItsLink, IsClaimedAsIn, SettledInHoleIsOriginal, Settled, Place}
 use Rattle.ffv1_splice.proofs.ClaimedPlaces.{claims_start}
 use Rattle.ffv1_splice.proofs.Narrowed.{piece_out, claim_out}
 use Rattle.ffv1_splice.proofs.OriginalLaws.{above_links}
@@ -38,18 +28,8 @@ module _ (original : List ℕ) (copies : List (List ℕ)) (spliced : SplicedValu
 
   end_here : (end : ℕ) (higher : List Place) (place : Place) (lower : List Place) (front : ℕ) → LieFrom end (higher ++ (place ∷ lower)) front
       → All StandsInHole (higher ++ (place ∷ lower)) → 8 ≤ end
-  end_here end [] place lower front lie all =
-      let here = All-head StandsInHole place lower all in
-      let below = stands_below (versions_at copies is.start is.end) place.start place.end
-      (slice_range spliced.payload (is.start + place.start) (is.start + place.end)) place.standing here.stands in
-      let ends = lie.0 in
-      omega arith
-  end_here end (one ∷ higher) place lower front lie all =
-      let here = All-head StandsInHole one (higher ++ (place ∷ lower)) all in
-      let below = stands_below (versions_at copies is.start is.end) one.start one.end
-      (slice_range spliced.payload (is.start + one.start) (is.start + one.end)) one.standing here.stands in
-      let ends = lie.0 in
-      omega arith
+  end_here end [] place lower front lie all = grind (arith, All-head, stands_below)
+  end_here end (one ∷ higher) place lower front lie all = grind (arith, All-head, stands_below)
 
   -- down from an end of the original
   reached : (end : ℕ) (higher : List Place) (place : Place) (lower : List Place) (front : ℕ) → IsEnd original (is.start + end)

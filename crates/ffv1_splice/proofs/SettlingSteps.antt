@@ -1,17 +1,5 @@
 -- The settled walks: one place more, and bytes that are written elsewhere.
-use Rattle.std.proofs.Common.{◌≡◌, ℕ, ◌+◌, ◌-◌, ◌≤◌, List, [], ◌∷◌, ◌++◌, length, get_or, take, drop, refl, sym, ap, ◌∙◌, subst, arith}
-use Rattle.std.specs.Prelude.{All, slice_range}
-use Rattle.std.proofs.Math.Seq.{drop-append_seam}
-use Rattle.std.proofs.lemmas.List.{drop-drop, take-take, take-append-le, take_all, length-take-le}
-use Rattle.std.proofs.lemmas.Slice.{between_is}
-use Rattle.std.proofs.lemmas.List.Elements.{All-nil, All-cons, All-tail, All-append}
-use Rattle.ffv1_slice.specs.Chain.{LinkValue}
-use Rattle.ffv1_slice.specs.Members.{IsOnly}
-use Rattle.ffv1_splice.specs.Pieces.{IsPiece, PieceFrom, IsShortest}
-use Rattle.ffv1_weave.specs.Parts.{written}
-use Rattle.ffv1_splice.specs.Splice.{LieFrom, RiseFrom, IsSettledDown, IsSettledUp}
-use Rattle.ffv1_splice.specs.declared.place.Standing.TheVariants.{Settled}
-use Rattle.ffv1_splice.specs.declared.place.Place.{Place}
+use Rattle.ffv1_splice.proofs.Common.{◌≡◌, ℕ, ◌+◌, ◌-◌, ◌≤◌, List, [], ◌∷◌, ◌++◌, length, get_or, take, drop, refl, sym, ap, ◌∙◌, subst, arith, All, slice_range, drop-append_seam, drop-drop, take-take, take-append-le, take_all, length-take-le, between_is, All-nil, All-cons, All-tail, All-append, LinkValue, IsOnly, IsPiece, PieceFrom, IsShortest, written, LieFrom, RiseFrom, IsSettledDown, IsSettledUp, Settled, Place}
 use Rattle.ffv1_splice.proofs.PlaceSteps.{cut_below}
 use Rattle.ffv1_splice.proofs.SpliceSteps.{drop-written}
 use Rattle.ffv1_splice.proofs.Walks.{front_below}
@@ -48,15 +36,10 @@ module _ (payload : List ℕ) (start end : ℕ) (bytes : List ℕ) (size : start
 
   -- nor before it
   pub before_written : take start (written payload start bytes) ≡ take start payload
-  before_written =
-      take-append-le start (take start payload) (bytes ++ drop (start + length bytes) payload) (omega (arith, length-take-le start payload (omega arith)))
-      ∙ take-take start start payload (omega arith)
+  before_written = grind (arith, take-append-le, length-take-le, take-take)
 
   pub here_written : slice_range (written payload start bytes) start end ≡ bytes
-  here_written =
-      let long : end - start ≡ length bytes = omega arith in
-      ap (λ n. take n (drop start (written payload start bytes))) long ∙ ap (take (length bytes)) (drop-written payload start bytes (omega arith))
-      ∙ take-append-le (length bytes) bytes (drop (start + length bytes) payload) (omega arith) ∙ take_all (length bytes) bytes (omega arith)
+  here_written = grind (arith, drop-written, take-append-le, take_all)
 
 -- ---- down
 
@@ -74,10 +57,7 @@ starts_above whole front (place ∷ places) up lie =
 
 module _ (copies : List (List ℕ)) where
   pub down_upright : (payload : List ℕ) (places : List Place) → All (IsSettledDown copies payload) places → All (λ place. place.start ≤ place.end) places
-  down_upright payload places settled k d lt =
-      let piece = (settled k d lt).only.there in
-      let below = cut_below piece.copy (get_or places k d).start (get_or places k d).end piece.cut in
-      omega arith
+  down_upright payload places settled k d lt = grind (arith, cut_below)
 
   -- settled places stay so where the bytes after the front stay
   pub down_kept : (a b : List ℕ) (places : List Place) (whole front : ℕ) → LieFrom whole places front → All (IsSettledDown copies a) places
@@ -126,10 +106,7 @@ module _ (copies : List (List ℕ)) (bound : ℕ) where
   shortest_below start piece is = cut_below is.there.there.copy start piece.end is.there.there.cut
 
   pub up_upright : (payload : List ℕ) (places : List Place) → All (IsSettledUp copies bound payload) places → All (λ place. place.start ≤ place.end) places
-  up_upright payload places settled k d lt =
-      let place : Place = get_or places k d in
-      let below = shortest_below place.start (record { end = place.end; bytes = slice_range payload place.start place.end }) (settled k d lt).first in
-      omega arith
+  up_upright payload places settled k d lt = grind (arith, shortest_below)
 
   -- settled places stay so where the bytes before the top stay
   pub up_kept : (a b : List ℕ) (places : List Place) (from top : ℕ) → RiseFrom from places top → All (IsSettledUp copies bound a) places

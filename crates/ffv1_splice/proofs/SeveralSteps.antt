@@ -1,25 +1,6 @@
 -- The starts that are claimed at an end, tried one after the other.
-use Rattle.std.proofs.Common.{◌≡◌, ℕ, Vec, Global, ◌+◌, ◌-◌, ◌<◌, ◌≤◌, List, [], ◌∷◌, ◌++◌, length, get_or, map, min, mul-zero, Option, Some, None, replicate, refl, sym, ap, ◌∙◌, subst, arith, inl, inr}
-use Rattle.std.specs.Prelude.{Contains, MatchOption, sum}
-use Rattle.std.proofs.lemmas.Bool.{cases_lt, cases_eq}
-use Rattle.std.proofs.lemmas.List.{ext_get_or, get_or_append_left, get_or-append_right, get_or-replicate, length-append, length-replicate}
-use Rattle.std.proofs.Math.ListN.{get_or-eq_default}
-use Rattle.std.proofs.Math.Seq.{get_or-append_seam}
-use Rattle.std.proofs.lemmas.List.Sums.{sum_by-append}
-use Rattle.std.proofs.lemmas.List.Folds.{sum_by-replicate}
-use Rattle.ffv1_weave.specs.Weave.{Weave, IsWeaveOf}
-use Rattle.ffv1_weave.specs.Weave.Weave.{woven, disputed, missing, too_many}
-use Rattle.ffv1_weave.specs.declared.check.Check.TheVariants.{Slice}
-use Rattle.ffv1_weave.proofs.WeaveLaws.{same_versions_weave, weave_as}
-use Rattle.ffv1_bits.specs.Parity.{AreBytes}
-use Rattle.ffv1_slice.specs.Chain.{FooterGives}
-use Rattle.ffv1_slice.specs.Members.{HasSameMembers, IsOfTwo, IsOfNone}
-use Rattle.ffv1_splice.specs.Pieces.{HasContent, IsPiece, IsClaimedStart}
-use Rattle.ffv1_splice.specs.Standings.{versions_at, sized, IsWeaveOfSeveral}
-use Rattle.ffv1_splice.specs.declared.several.Tried.{Tried}
+use Rattle.ffv1_splice.proofs.Common.{◌≡◌, ℕ, Vec, Global, ◌+◌, ◌-◌, ◌<◌, ◌≤◌, List, [], ◌∷◌, ◌++◌, length, get_or, map, min, mul-zero, Option, Some, None, replicate, refl, sym, ap, ◌∙◌, subst, arith, inl, inr, Contains, MatchOption, sum, cases_lt, cases_eq, ext_get_or, get_or_append_left, get_or-append_right, get_or-replicate, length-append, length-replicate, get_or-eq_default, get_or-append_seam, sum_by-append, sum_by-replicate, Weave, IsWeaveOf, woven, disputed, missing, too_many, Slice, same_versions_weave, weave_as, AreBytes, FooterGives, HasSameMembers, IsOfTwo, IsOfNone, HasContent, IsPiece, IsClaimedStart, versions_at, sized, IsWeaveOfSeveral, Tried, IsNextClaimedStart, TriedValue, capped, tried_more, tried_tally, AreMissing, AreTriedBefore, none_woven, one_woven, undecided}
 use Rattle.ffv1_splice.specs.declared.several.Tried.TheVariants as tries
-use Rattle.ffv1_splice.specs.Inner.Several.{IsNextClaimedStart, TriedValue, capped, tried_more, tried_tally, AreMissing, AreTriedBefore}
-use Rattle.ffv1_splice.specs.Inner.Several.TriedValue.{none_woven, one_woven, undecided}
 use Rattle.ffv1_splice.proofs.FirstSlices.{same_sized}
 use Rattle.ffv1_splice.proofs.TallySteps.{last, start_on, start_back, one_cut}
 
@@ -31,31 +12,22 @@ padded tried end = tried ++ replicate (end - length tried) 0
 
 length-padded : (tried : List ℕ) (end : ℕ) → length tried ≤ end → length (padded tried end) ≡ end
 unfolding padded
-length-padded tried end within =
-    omega (arith, length-append tried (replicate (end - length tried) 0), length-replicate {A = ℕ} (end - length tried) 0)
+length-padded tried end within = grind (arith, length-append, replicate, length-replicate)
 
 padded_before : (tried : List ℕ) (end i : ℕ) → i < length tried → get_or (padded tried end) i 0 ≡ get_or tried i 0
 unfolding padded
 padded_before tried end i lt = get_or_append_left tried (replicate (end - length tried) 0) 0 i lt
 
 pub zeros_anywhere : (n i : ℕ) → get_or {A = ℕ} (replicate n 0) i 0 ≡ 0
-zeros_anywhere n i = elim (cases_lt i n) [
-  | inl below ↦ get_or-replicate n i 0 0 below
-  | inr past ↦ get_or-eq_default (replicate n 0) 0 (omega (arith, length-replicate {A = ℕ} n 0))
-]
+zeros_anywhere n i = grind (arith, cases_lt, get_or-replicate, get_or-eq_default, replicate, length-replicate)
 
 padded_after : (tried : List ℕ) (end i : ℕ) → length tried ≤ i → get_or (padded tried end) i 0 ≡ 0
 unfolding padded
-padded_after tried end i low =
-    get_or-append_right tried (replicate (end - length tried) 0) (length tried) i 0 refl low ∙ zeros_anywhere (end - length tried) (i - length tried)
+padded_after tried end i low = grind (arith, get_or-append_right, replicate, zeros_anywhere)
 
 sum-padded : (tried : List ℕ) (end : ℕ) → sum (padded tried end) ≡ sum tried
 unfolding padded
-sum-padded tried end =
-    let n : ℕ = end - length tried in
-    let total : sum (tried ++ replicate n 0) ≡ sum tried + sum (replicate n 0) = sum_by-append (λ x. x) tried (replicate n 0) in
-    let none : sum (replicate n 0) ≡ 0 = sum_by-replicate (λ x. x) n 0 ∙ mul-zero n in
-    omega arith
+sum-padded tried end = grind (arith, replicate, sum_by-append, sum_by-replicate, mul-zero)
 
 -- the same with the number from one more place
 grown : List ℕ → (start count : ℕ) → List ℕ
@@ -67,8 +39,7 @@ length-grown tried start count within = omega (arith, length-append (padded trie
 
 grown_before : (tried : List ℕ) (start count i : ℕ) → length tried ≤ start → i < length tried → get_or (grown tried start count) i 0 ≡ get_or tried i 0
 unfolding grown
-grown_before tried start count i within lt =
-    get_or_append_left (padded tried start) (count ∷ []) 0 i (omega (arith, length-padded tried start within)) ∙ padded_before tried start i lt
+grown_before tried start count i within lt = grind (arith, get_or_append_left, padded, length-padded, padded_before)
 
 grown_at : (tried : List ℕ) (start count : ℕ) → length tried ≤ start → get_or (grown tried start count) start 0 ≡ count
 unfolding grown
@@ -77,28 +48,15 @@ grown_at tried start count within =
 
 grown_else : (tried : List ℕ) (start count i : ℕ) → length tried ≤ start → length tried ≤ i → (i ≡ start → ⊥) → get_or (grown tried start count) i 0 ≡ 0
 unfolding grown
-grown_else tried start count i within low apart = elim (cases_lt i start) [
-  | inl below ↦ get_or_append_left (padded tried start) (count ∷ []) 0 i (omega (arith, length-padded tried start within)) ∙ padded_after tried start i low
-  | inr above ↦ elim (cases_eq i start) [
-    | inl same ↦ absurd (apart same)
-    | inr other ↦ get_or-eq_default (padded tried start ++ count ∷ []) 0
-        (omega (arith, length-append (padded tried start) (count ∷ []), length-padded tried start within))
-  ]
-]
+grown_else tried start count i within low apart =
+    grind (arith, cases_lt, get_or_append_left, padded, length-padded, padded_after, cases_eq, get_or-eq_default, length-append)
 
 sum-grown : (tried : List ℕ) (start count : ℕ) → sum (grown tried start count) ≡ sum tried + count
 unfolding grown
-sum-grown tried start count =
-    let total : sum (padded tried start ++ count ∷ []) ≡ sum (padded tried start) + sum (count ∷ []) = sum_by-append (λ x. x) (padded tried start) (count ∷ []) in
-    omega (arith, sum-padded tried start)
+sum-grown tried start count = grind (arith, padded, sum_by-append, sum-padded)
 
 counted_more : (tried : List ℕ) (start before count : ℕ) → before ≡ capped (sum tried) → capped (before + count) ≡ capped (sum (grown tried start count))
-counted_more tried start before count is =
-    let total = sum-grown tried start count in
-    ap (λ n. capped (n + count)) is ∙ capped_more (sum tried) count ∙ ap capped (sym total)
-  where
-    capped_more : (n m : ℕ) → capped (capped n + m) ≡ capped (n + m)
-    capped_more n m = omega arith
+counted_more tried start before count is = grind (arith, sum-grown)
 
 -- ---- what comes of one start
 
@@ -107,9 +65,7 @@ module _ (copies : List (List ℕ)) (end : ℕ) where
   IsWeaveFrom start weave = IsWeaveOf Slice (map sized (versions_at copies start end)) weave
 
   pub one_weave_from : (start : ℕ) (one other : Weave) → IsWeaveFrom start one → IsWeaveFrom start other → one ≡ other
-  one_weave_from start one other h k =
-      let versions : List (List ℕ) = map sized (versions_at copies start end) in
-      same_versions_weave Slice versions versions one other (λ version. ((λ there. there), λ there. there)) h k
+  one_weave_from start one other h k = grind (arith, same_versions_weave)
 
   -- where something else than a slice or nothing comes of a claimed start, no start of several is the one
   pub not_claim_alone : (from : ℕ) (weave : Weave) → IsClaimedStart copies end from → IsWeaveFrom from weave
@@ -147,10 +103,7 @@ module _ (copies : List (List ℕ)) (end : ℕ) where
 
   module _ (from start : ℕ) (next : IsNextClaimedStart copies end from start) where
     claim_below : (other : ℕ) → other < start + 1 → IsClaimedStart copies end other → (other ≡ start → ⊥) → other < from
-    claim_below other lt claim apart = elim (cases_lt other from) [
-      | inl below ↦ below
-      | inr above ↦ let least = next.least other claim above in absurd (apart (omega arith))
-    ]
+    claim_below other lt claim apart = grind (arith, cases_lt)
 
     missing_more : (IsApart : ℕ → Type 0) (tried : List ℕ) (count : ℕ) → AreMissing copies end from IsApart tried
         → ((other : ℕ) → other ≡ start → (IsApart other → ⊥) → IsWeaveFrom other (missing count))
@@ -264,10 +217,6 @@ module _ (copies : List (List ℕ)) (end : ℕ) where
         )
     tried_end undecided h = h
 
-  -- what was tried before the first start
-  pub tried_none : AreTriedBefore copies end 0 (none_woven 0)
-  tried_none = ([], record { places = refl; missing' = λ start lt claim apart. absurd (omega arith); no_claim = λ start no_claim. refl }, refl)
-
 -- ---- as the code has it
 
 module _ (copies : List (List ℕ)) (end : ℕ) where
@@ -309,8 +258,7 @@ module _ (copies : List (List ℕ)) (end s t : ℕ) (a b : List ℕ) (m n : ℕ)
 
   same_weave : woven a (get_or h.tried s 0) ≡ woven b (get_or k.tried s 0)
   same_weave =
-      one_weave_from copies end s (woven a (get_or h.tried s 0)) (woven b (get_or k.tried s 0)) h.weave'
-      (subst (λ p. IsWeaveFrom copies end p (woven b (get_or k.tried p 0))) (sym one_start) k.weave')
+      cc (one_weave_from copies end s (woven a (get_or h.tried s 0)) (woven b (get_or k.tried s 0)) h.weave' (subst (λ p. IsWeaveFrom copies end p (woven b (get_or k.tried p 0))) (sym one_start) k.weave'))
 
   same_number : (p : ℕ) → IsClaimedStart copies end p → get_or h.tried p 0 ≡ get_or k.tried p 0
   same_number p claim = elim (cases_eq p s) [
@@ -323,18 +271,11 @@ module _ (copies : List (List ℕ)) (end s t : ℕ) (a b : List ℕ) (m n : ℕ)
   ]
 
   same_tried : h.tried ≡ k.tried
-  same_tried = ext_get_or 0 h.tried k.tried (h.places ∙ sym k.places) (λ p lt. elim (cases_eq (get_or h.tried p 0) (get_or k.tried p 0)) [
-    | inl same ↦ same
-    | inr apart ↦
-        let no_claim : IsClaimedStart copies end p → ⊥ = λ claim. apart (same_number p claim) in
-        h.no_claim p no_claim ∙ sym (k.no_claim p no_claim)
-  ])
+  same_tried =
+      cc (ext_get_or 0 h.tried k.tried (h.places ∙ sym k.places) (λ p lt. elim (cases_eq (get_or h.tried p 0) (get_or k.tried p 0)) [ inl same ↦ same | inr apart ↦ let no_claim : IsClaimedStart copies end p → ⊥ = λ claim. apart (same_number p claim) in h.no_claim p no_claim ∙ sym (k.no_claim p no_claim) ]))
 
   pub one_several : woven a m ≡ woven b n
-  one_several =
-      let bytes : a ≡ b = let e = same_weave in cc in
-      let counts : m ≡ n = h.counted ∙ ap (λ tried. capped (sum tried)) same_tried ∙ sym k.counted in
-      ap (λ z. woven z m) bytes ∙ ap (woven b) counts
+  one_several = grind (arith, same_weave, same_tried)
 
 -- ---- the same copies
 

@@ -1,25 +1,7 @@
 -- Two copies of a slice, of which one is damaged in its first byte, and the other in its size field, so that they claim two starts: it is
 -- woven from the one at which it begins.
-use Rattle.std.proofs.Common.{◌≡◌, ℕ, zero, suc, ◌<◌, true, List, [], ◌∷◌, length, get_or, map, replicate, refl, sym, ap, ◌∙◌, subst, arith, inl, inr, ltb, ltb-true}
-use Rattle.std.specs.Prelude.{◌⊎◌, Contains, slice_range}
-use Rattle.std.specs.List.{list_all}
-use Rattle.std.proofs.lemmas.Bool.{and_parts}
-use Rattle.std.proofs.lemmas.List.{ext_get_or}
-use Rattle.ffv1_bits.specs.Bits.{number_bits, bits_of}
-use Rattle.ffv1_bits.specs.Parity.{AreBytes, PassesParity, polynomial_of, divided, remainder_of}
-use Rattle.ffv1_slice.specs.Chain.{FooterGives}
-use Rattle.ffv1_slice.specs.Members.{IsOfNone}
+use Rattle.ffv1_splice.proofs.Common.{◌≡◌, ℕ, zero, suc, ◌<◌, true, List, [], ◌∷◌, length, get_or, map, replicate, refl, sym, ap, ◌∙◌, subst, arith, inl, inr, ltb, ltb-true, ◌⊎◌, Contains, slice_range, list_all, and_parts, ext_get_or, number_bits, bits_of, AreBytes, PassesParity, polynomial_of, divided, remainder_of, FooterGives, IsOfNone, splits, IsSegment, IsCombinationBy, IsTriedBy, IsWeaveOf, woven, missing, Slice, tried_combination, IsPiece, IsClaimedStart, versions_at, sized, StandsAs, Woven}
 use Rattle.ffv1_slice.proofs.NearVectors as vectors
-use Rattle.ffv1_weave.specs.Splits.{splits}
-use Rattle.ffv1_weave.specs.Boundaries.{IsSegment}
-use Rattle.ffv1_weave.specs.Combinations.{IsCombinationBy, IsTriedBy}
-use Rattle.ffv1_weave.specs.Weave.{IsWeaveOf}
-use Rattle.ffv1_weave.specs.Weave.Weave.{woven, missing}
-use Rattle.ffv1_weave.specs.declared.check.Check.TheVariants.{Slice}
-use Rattle.ffv1_weave.proofs.Tried.{tried_combination}
-use Rattle.ffv1_splice.specs.Pieces.{IsPiece, IsClaimedStart}
-use Rattle.ffv1_splice.specs.Standings.{versions_at, sized, StandsAs}
-use Rattle.ffv1_splice.specs.declared.place.Standing.TheVariants.{Woven}
 use Rattle.ffv1_splice.proofs.FirstSlices.{same_inside}
 use Rattle.ffv1_splice.proofs.SeveralSteps.{zeros_anywhere}
 use Rattle.ffv1_splice.proofs.Vectors.{slice_with, first_of, tried_first, twice_one, twice_few, first_slice_passes}
@@ -59,10 +41,8 @@ later_fails passes = absurd (omega arith)
 
 claim_which : (copy : List ℕ) (start : ℕ) → Contains damaged_copies copy → FooterGives copy start 11
     → ((copy ≡ damaged_first) × (start ≡ 0)) ⊎ ((copy ≡ damaged_size) × (start ≡ 1))
-claim_which copy start (zero, lt, is) cut =
-    let claim : FooterGives damaged_first start 11 = subst (λ c. FooterGives c start 11) (sym is) cut in inl (sym is, omega arith)
-claim_which copy start (suc zero, lt, is) cut =
-    let claim : FooterGives damaged_size start 11 = subst (λ c. FooterGives c start 11) (sym is) cut in inr (sym is, omega arith)
+claim_which copy start (zero, lt, is) cut = grind arith
+claim_which copy start (suc zero, lt, is) cut = grind arith
 claim_which copy start (suc (suc k), lt, is) cut = absurd (omega arith)
 
 first_claim : IsClaimedStart damaged_copies 11 0
@@ -94,25 +74,10 @@ right_there : Contains two vectors.first_slice
 right_there = (1, omega arith, refl)
 
 first_byte : IsSegment 0 two 0 1
-first_byte =
-    record {
-      some = omega arith;
-      first = inl refl;
-      last = inl (record {
-        one = damaged_first;
-        other = vectors.first_slice;
-        one_there = damaged_there;
-        other_there = right_there;
-        parted = inr (record { last = 0; next = refl; differ = λ same. absurd (omega arith); after = λ i low lt. absurd (omega arith) });
-      });
-      within = λ i low lt boundary. absurd (omega arith);
-    }
+first_byte = grind (arith, damaged_there, right_there)
 
 same_rest : (i : ℕ) (one other : List ℕ) → Contains two one → Contains two other → get_or one (suc i) 0 ≡ get_or other (suc i) 0
-same_rest i one other there here = rest one there ∙ sym (rest other here)
-  where
-    rest : (version : List ℕ) → Contains two version → get_or version (suc i) 0 ≡ get_or damaged_first (suc i) 0
-    rest version there = elim (which version there) [ inl is ↦ ap (λ v. get_or v (suc i) 0) is | inr is ↦ ap (λ v. get_or v (suc i) 0) is ]
+same_rest i one other there here = grind (arith, which)
 
 length_eleven : (version : List ℕ) → Contains two version → length version ≡ 11
 length_eleven version there = elim (which version there) [ inl is ↦ ap length is | inr is ↦ ap length is ]
@@ -129,12 +94,7 @@ either bytes is =
     at version there front (suc i) = is.agrees (suc i) (λ one other in_one in_other. same_rest i one other in_one in_other) version there
 
 itself : (version : List ℕ) → Contains two version → IsCombinationBy (first_of splits (omega arith)) two version
-itself version here =
-    record {
-      same_length = λ other there. length_eleven version here ∙ sym (length_eleven other there);
-      agrees = λ i agree other there. agree version other here there;
-      parts = λ start end part. (version, here, refl);
-    }
+itself version here = grind (arith, length_eleven)
 
 abbrev numbered : ℕ → List ℕ
 numbered zero = damaged_first

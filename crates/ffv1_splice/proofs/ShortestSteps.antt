@@ -1,21 +1,5 @@
 -- The shortest piece from a place: of one copy end by end, of copies one by one, and of ends that lie further and further from there.
-use Rattle.std.proofs.Common.{◌≡◌, ℕ, ◌+◌, ◌-◌, ◌<◌, ◌≤◌, true, false, eqb, Bool, List, [], ◌∷◌, ◌++◌, Bor, Option, Some, None, length, take, drop, refl, sym, ap, ◌∙◌, subst, arith, inl, inr}
-use Rattle.std.specs.Prelude.{◌⊎◌, ◌↔◌, Contains, MatchOption, slice_range}
-use Rattle.std.specs.Option.{option_eq}
-use Rattle.std.proofs.lemmas.Bool.{cases_lt, eqb-true, eqb-false, true_from_ne_false}
-use Rattle.std.proofs.Math.Seq.{take-add}
-use Rattle.std.proofs.lemmas.List.{drop-drop}
-use Rattle.std.proofs.lemmas.List.Elements.{Contains-append_left, Contains-append_right, Contains-append_cases}
-use Rattle.ffv1_bits.specs.Bits.{bits_of}
-use Rattle.ffv1_bits.specs.Limits.{slice_limit}
-use Rattle.ffv1_bits.specs.Parity.{AreBytes, PassesParity, divided, remainder_of, polynomial_of}
-use Rattle.ffv1_bits.proofs.Bytes.{AreBytes-range}
-use Rattle.ffv1_slice.specs.Chain.{FooterGives, footer_before}
-use Rattle.ffv1_slice.specs.Members.{IsOfNone}
-use Rattle.ffv1_slice.proofs.NearLaws.{length-range}
-use Rattle.ffv1_splice.specs.Inner.Claims.{LacksClaims}
-use Rattle.ffv1_splice.specs.Pieces.{HasContent, IsPiece, PieceFrom, IsPieceFrom, IsShortest}
-use Rattle.ffv1_weave.proofs.ChoiceSteps.{alone}
+use Rattle.ffv1_splice.proofs.Common.{◌≡◌, ℕ, ◌+◌, ◌-◌, ◌<◌, ◌≤◌, true, false, eqb, Bool, List, [], ◌∷◌, ◌++◌, Bor, Option, Some, None, length, take, drop, refl, sym, ap, ◌∙◌, subst, arith, inl, inr, ◌⊎◌, ◌↔◌, Contains, MatchOption, slice_range, option_eq, cases_lt, eqb-true, eqb-false, true_from_ne_false, take-add, drop-drop, Contains-append_left, Contains-append_right, Contains-append_cases, bits_of, slice_limit, AreBytes, PassesParity, divided, remainder_of, polynomial_of, AreBytes-range, FooterGives, IsOfNone, length-range, LacksClaims, HasContent, IsPiece, PieceFrom, IsPieceFrom, IsShortest, alone}
 
 -- ---- one copy
 
@@ -30,20 +14,11 @@ in_itself copy = (0, omega arith, refl)
 
 pub piece_of_end : (copy : List ℕ) (bound start end : ℕ) → EndsPiece copy start end → end ≤ bound
     → IsPieceFrom (copy ∷ []) bound start (record { end = end; bytes = slice_range copy start end })
-piece_of_end copy bound start end h within =
-    record {
-      there = record { copy = copy; there = in_itself copy; cut = h.cut; content = h.content; bytes = refl; passes = h.passes };
-      within = within;
-    }
+piece_of_end copy bound start end h within = grind (arith, in_itself)
 
 pub end_of_piece : (copy : List ℕ) (start end : ℕ) (bytes : List ℕ) → IsPiece (copy ∷ []) end (record { start = start; bytes = bytes })
     → EndsPiece copy start end × (bytes ≡ slice_range copy start end)
-end_of_piece copy start end bytes h =
-    let same : h.copy ≡ copy = alone copy h.copy h.there in
-    let lies : bytes ≡ slice_range copy start end = h.bytes ∙ ap (λ c. slice_range c start end) same in (
-      record { cut = subst (λ c. FooterGives c start end) same h.cut; content = h.content; passes = subst PassesParity lies h.passes },
-      lies,
-    )
+end_of_piece copy start end bytes h = grind (arith, alone)
 
 -- where a footer's start was compared with a place
 pub claims : (P : ℕ → Type 0) (Q : Type 0) (found : Option ℕ) (start : ℕ) → MatchOption found Q P → option_eq eqb found (Some start) ≡ true → P start
@@ -67,9 +42,7 @@ claims_if copy start end found returned h is = (
 
 -- a size field has three bytes
 pub cut_is_short : (copy : List ℕ) (start end : ℕ) → AreBytes copy → FooterGives copy start end → end ≤ start + slice_limit
-cut_is_short copy start end small cut =
-    let footer : AreBytes (footer_before copy end) = AreBytes-range copy (end - 8) end small in
-    omega (arith, footer 0, footer 1, footer 2)
+cut_is_short copy start end small cut = grind (arith, AreBytes-range)
 
 -- ---- end by end
 
@@ -78,9 +51,7 @@ pub range_on : (xs : List ℕ) (a b c : ℕ) → a ≤ b → b ≤ c → slice_r
 range_on xs a b c low high =
     let on : a + (b - a) ≡ b = omega arith in
     let whole : b - a + (c - b) ≡ c - a = omega arith in
-    ap (λ n. take (b - a) (drop a xs) ++ take (c - b) (drop n xs)) (sym on)
-    ∙ ap (λ ys. take (b - a) (drop a xs) ++ take (c - b) ys) (sym (drop-drop (b - a) a xs))
-    ∙ sym (take-add (b - a) (c - b) (drop a xs)) ∙ ap (λ n. take n (drop a xs)) whole
+    cc (drop-drop (b - a) a xs, take-add (b - a) (c - b) (drop a xs))
 
 nothing_left : 0 ≡ remainder_of (bits_of [])
 unfolding bits_of remainder_of divided polynomial_of
@@ -110,48 +81,23 @@ module _ (copy : List ℕ) (start judged end left : ℕ) (so_far : AreJudged cop
   pub left_on : (next : ℕ)
       → ((front : List ℕ) → left ≡ remainder_of (bits_of front) → next ≡ remainder_of (bits_of (front ++ slice_range copy judged end)))
       → next ≡ remainder_of (bits_of (slice_range copy start end))
-  left_on next after =
-      after (slice_range copy start judged) so_far.left'
-      ∙ ap (λ bytes. remainder_of (bits_of bytes)) (range_on copy start judged end so_far.from so_far.to)
+  left_on next after = grind (arith, range_on)
 
   none_on : (EndsPiece copy start end → ⊥) → (earlier : ℕ) → earlier < end + 1 → EndsPiece copy start earlier → ⊥
-  none_on none earlier before h =
-      elim (cases_lt earlier end) [
-        | inl under ↦ so_far.none earlier under h
-        | inr over ↦ let same : earlier ≡ end = omega arith in none (subst (EndsPiece copy start) same h)
-      ]
+  none_on none earlier before h = grind (arith, cases_lt)
 
   -- ends that no footer claims for the start
   pub judged_on : (next : ℕ) → end ≤ next → LacksClaims copy start end next → AreJudged copy start judged next left
-  judged_on next order none =
-      record {
-        from = so_far.from;
-        to = omega (arith, so_far.to);
-        left' = so_far.left';
-        none = λ earlier before h. elim (cases_lt earlier end) [
-          | inl under ↦ so_far.none earlier under h
-          | inr over ↦ none earlier over before h.cut
-        ];
-      }
+  judged_on next order none = grind (arith, cases_lt)
 
   -- a claimed end where something is left
   pub judged_failed : (next : ℕ) → next ≡ remainder_of (bits_of (slice_range copy start end)) → (next ≡ 0 → ⊥) → AreJudged copy start end (end + 1) next
-  judged_failed next is some =
-      record { from = omega (arith, so_far.from, so_far.to); to = omega arith; left' = is; none = none_on (λ h. some (is ∙ h.passes.1)) }
+  judged_failed next is some = grind (arith, none_on)
 
   -- a claimed end where nothing is left
   pub judged_passed : (bound : ℕ) → FooterGives copy start end → HasContent start end → 0 ≡ remainder_of (bits_of (slice_range copy start end)) → end ≤ bound
       → end ≤ length copy → IsShortest (copy ∷ []) bound start (record { end = end; bytes = slice_range copy start end })
-  judged_passed bound cut content is within room =
-      let size : length (slice_range copy start end) ≡ end - start = length-range copy start end (omega arith) room in
-      let here : EndsPiece copy start end = record { cut = cut; content = content; passes = (omega arith, sym is) } in
-      record {
-        there = piece_of_end copy bound start end here within;
-        least = λ other p. elim (cases_lt other.end end) [
-          | inl earlier ↦ absurd (so_far.none other.end earlier (end_of_piece copy start other.end other.bytes p.there).0)
-          | inr later ↦ later
-        ];
-      }
+  judged_passed bound cut content is within room = grind (arith, length-range, piece_of_end, cases_lt, end_of_piece)
 
   -- where no end is left within the bound that a footer claims, no piece ends there
   pub judged_all : (bound : ℕ) → AreBytes copy → ((later : ℕ) → end ≤ later → later ≤ bound → later ≤ start + slice_limit → FooterGives copy start later → ⊥)
@@ -168,21 +114,12 @@ module _ (copy : List ℕ) (start judged end left : ℕ) (so_far : AreJudged cop
 -- a piece of one of the copies
 pub piece_in : (copies : List (List ℕ)) (copy : List ℕ) (start end : ℕ) (bytes : List ℕ) → Contains copies copy
     → IsPiece (copy ∷ []) end (record { start = start; bytes = bytes }) → IsPiece copies end (record { start = start; bytes = bytes })
-piece_in copies copy start end bytes there h =
-    record {
-      copy = h.copy;
-      there = subst (Contains copies) (sym (alone copy h.copy h.there)) there;
-      cut = h.cut;
-      content = h.content;
-      bytes = h.bytes;
-      passes = h.passes;
-    }
+piece_in copies copy start end bytes there h = grind (arith, alone)
 
 -- where no copy has a piece, one of them has none
 pub none_of_one : (copies : List (List ℕ)) (copy : List ℕ) (bound start : ℕ) → Contains copies copy → IsOfNone (IsPieceFrom copies bound start)
     → IsOfNone (IsPieceFrom (copy ∷ []) bound start)
-none_of_one copies copy bound start there none piece p =
-    none piece (record { there = piece_in copies copy start piece.end piece.bytes there p.there; within = p.within })
+none_of_one copies copy bound start there none piece p = grind (arith, piece_in)
 
 -- a piece of one more copy is its own, or one of those before
 pub piece_cases : (copies : List (List ℕ)) (copy : List ℕ) (start end : ℕ) (bytes : List ℕ)
@@ -219,18 +156,7 @@ module _ (copies : List (List ℕ)) (bound start from : ℕ) where
 
   module _ (copy : List ℕ) where
     on : (piece : PieceFrom) → IsPieceFrom copies bound start piece → IsPieceFrom (copies ++ copy ∷ []) bound start piece
-    on piece h =
-        record {
-          there = record {
-            copy = h.there.copy;
-            there = Contains-append_left copies (copy ∷ []) h.there.copy h.there.there;
-            cut = h.there.cut;
-            content = h.there.content;
-            bytes = h.there.bytes;
-            passes = h.there.passes;
-          };
-          within = h.within;
-        }
+    on piece h = grind (arith, Contains-append_left)
 
     found_on : (within : ℕ) (first : Option (Bor (List ℕ)))
         → MatchOption first (within ≡ bound)
@@ -287,27 +213,3 @@ module _ (copies : List (List ℕ)) (bound start from : ℕ) where
             omega arith,
           );
         }
-
--- ---- further and further
-
-module _ (copies : List (List ℕ)) (start : ℕ) where
-  -- a piece has more than its footer
-  pub none_in_footer : IsOfNone (IsPieceFrom copies (start + 8) start)
-  none_in_footer piece p = omega (arith, p.within, p.there.content)
-
-  -- where no piece ends within a bound, none ends within a lower one
-  pub none_lower : (within bound : ℕ) → bound ≤ within → IsOfNone (IsPieceFrom copies within start) → IsOfNone (IsPieceFrom copies bound start)
-  none_lower within bound low none piece p = none piece (record { there = p.there; within = omega (arith, p.within) })
-
-  -- a shortest piece within a bound is one within a higher bound
-  pub shortest_higher : (within bound : ℕ) (piece : PieceFrom) → within ≤ bound → IsShortest copies within start piece
-      → IsShortest copies bound start piece
-  shortest_higher within bound piece low h =
-      let early : piece.end ≤ within = h.there.within in
-      record {
-        there = record { there = h.there.there; within = omega arith };
-        least = λ other p. elim (cases_lt within other.end) [
-          | inl later ↦ omega arith
-          | inr earlier ↦ h.least other (record { there = p.there; within = earlier })
-        ];
-      }

@@ -1,27 +1,7 @@
 -- A combination of what copies have whose footer gives its own size is a combination of what they have with that size too.
-use Rattle.std.proofs.Common.{◌≡◌, ℕ, zero, suc, ◌+◌, ◌-◌, ◌*◌, ◌<◌, ◌≤◌, List, [], ◌∷◌, ◌++◌, length, get_or, take, drop, map, get_or-drop, refl, sym, ap, ◌∙◌, subst, arith, inl, inr}
-use Rattle.std.specs.Prelude.{◌⊎◌, Contains, slice_range}
-use Rattle.std.proofs.lemmas.Bool.{cases_lt}
-use Rattle.std.proofs.lemmas.List.{get_or_append_left, get_or-append_right, get_or-take, length-take-le}
-use Rattle.std.proofs.lemmas.Nat.{be_bytes_4}
-use Rattle.std.proofs.Math.ListN.{get_or-eq_default}
-use Rattle.byteorder.specs.Endian.{big_bytes}
-use Rattle.byteorder.specs.Numbers.{length-bytes_high_first}
-use Rattle.ffv1_bits.specs.Parity.{AreBytes}
-use Rattle.ffv1_bits.proofs.Bytes.{AreBytes-range}
-use Rattle.ffv1_slice.specs.Chain.{IsFramed}
-use Rattle.ffv1_weave.specs.Regions.{HaveLength, AgreeAt}
-use Rattle.ffv1_weave.specs.Combinations.{IsCombination}
-use Rattle.ffv1_weave.specs.Laws.{HasEachByte}
-use Rattle.ffv1_weave.proofs.Agreeing.{agree_past}
-use Rattle.ffv1_weave.proofs.FewByByte.{IsPlacewise}
-use Rattle.ffv1_weave.proofs.Choices.{same_range, range_at}
-use Rattle.ffv1_splice.specs.Pieces.{AllReach}
-use Rattle.ffv1_splice.specs.Standings.{versions_at, sized}
-use Rattle.ffv1_weave.proofs.Mapped.{mapped_there, mapped_of}
+use Rattle.ffv1_splice.proofs.Common.{◌≡◌, ℕ, zero, suc, ◌+◌, ◌-◌, ◌*◌, ◌<◌, ◌≤◌, List, [], ◌∷◌, ◌++◌, length, get_or, take, drop, map, get_or-drop, refl, sym, ap, ◌∙◌, subst, arith, inl, inr, ◌⊎◌, Contains, slice_range, cases_lt, get_or_append_left, get_or-append_right, get_or-take, length-take-le, be_bytes_4, get_or-eq_default, big_bytes, AreBytes, AreBytes-range, IsFramed, HaveLength, AgreeAt, IsCombination, HasEachByte, agree_past, IsPlacewise, same_range, range_at, AllReach, versions_at, sized, mapped_there, mapped_of, region_around}
 use Rattle.ffv1_splice.proofs.Versions.{version_there, version_length}
 use Rattle.ffv1_splice.proofs.FirstSlices.{length-sized, same_inside, combination_between}
-use Rattle.ffv1_weave.proofs.WiderRegions.{region_around}
 
 -- ---- bytes with their size, place by place
 
@@ -31,13 +11,7 @@ IsInField size i = (size ≤ i + 8) × (i + 5 < size)
 
 field_or_not : (size i : ℕ) → 8 ≤ size → (IsInField size i → ⊥) ⊎ IsInField size i
 unfolding IsInField
-field_or_not size i long = elim (cases_lt (i + 8) size) [
-  | inl before ↦ inl (λ h. let low = h.0 in omega arith)
-  | inr low ↦ elim (cases_lt (i + 5) size) [
-    | inl lt ↦ inr (low, lt)
-    | inr past ↦ inl (λ h. let lt = h.1 in omega arith)
-  ]
-]
+field_or_not size i long = grind (arith, cases_lt)
 
 module _ (bytes : List ℕ) (long : 8 ≤ length bytes) where
   -- what stands before the field
@@ -46,43 +20,22 @@ module _ (bytes : List ℕ) (long : 8 ≤ length bytes) where
 
   sized_past : (i : ℕ) → length bytes ≤ i + 8
       → get_or (sized bytes) i 0 ≡ get_or (big_bytes 3 (length bytes - 8) ++ drop (length bytes - 5) bytes) (i - (length bytes - 8)) 0
-  sized_past i low =
-      get_or-append_right (take (length bytes - 8) bytes) (big_bytes 3 (length bytes - 8) ++ drop (length bytes - 5) bytes) (length bytes - 8) i 0
-      length-front (omega arith)
+  sized_past i low = grind (arith, get_or-append_right, length-front)
 
   -- off the field they are as they were
   sized_off : (i : ℕ) → (IsInField (length bytes) i → ⊥) → get_or (sized bytes) i 0 ≡ get_or bytes i 0
   unfolding IsInField
-  sized_off i off = elim (cases_lt (i + 8) (length bytes)) [
-    | inl before ↦
-        get_or_append_left (take (length bytes - 8) bytes) (big_bytes 3 (length bytes - 8) ++ drop (length bytes - 5) bytes) 0 i (omega (arith, length-front))
-        ∙ get_or-take (length bytes - 8) bytes i 0 (omega arith)
-    | inr low ↦ elim (cases_lt (i + 5) (length bytes)) [
-      | inl lt ↦ absurd (off (low, lt))
-      | inr past ↦
-          let same : length bytes - 5 + (i - (length bytes - 8) - 3) ≡ i = omega arith in
-          sized_past i low
-          ∙ get_or-append_right (big_bytes 3 (length bytes - 8)) (drop (length bytes - 5) bytes) 3 (i - (length bytes - 8)) 0
-          (length-bytes_high_first 3 (length bytes - 8)) (omega arith)
-          ∙ get_or-drop (length bytes - 5) bytes (i - (length bytes - 8) - 3) 0 ∙ ap (λ k. get_or bytes k 0) same
-    ]
-  ]
+  sized_off i off = grind (arith, cases_lt, get_or_append_left, length-front, get_or-take, sized_past, get_or-append_right, get_or-drop)
 
   sized_in_own : (i : ℕ) → IsInField (length bytes) i
       → get_or (sized bytes) i 0 ≡ get_or (big_bytes 3 (length bytes - 8)) (i - (length bytes - 8)) 0
   unfolding IsInField
-  sized_in_own i field =
-      let low = field.0 in
-      let high = field.1 in
-      sized_past i low
-      ∙ get_or_append_left (big_bytes 3 (length bytes - 8)) (drop (length bytes - 5) bytes) 0 (i - (length bytes - 8))
-      (omega (arith, length-bytes_high_first 3 (length bytes - 8)))
+  sized_in_own i field = grind (arith, sized_past, get_or_append_left)
 
 -- in the field they have the size of a slice that is as long
 sized_in : (bytes : List ℕ) (size : ℕ) → 8 ≤ size → length bytes ≡ size → (i : ℕ) → IsInField size i
     → get_or (sized bytes) i 0 ≡ get_or (big_bytes 3 (size - 8)) (i - (size - 8)) 0
-sized_in bytes size long same i =
-    subst (λ n. IsInField n i → get_or (sized bytes) i 0 ≡ get_or (big_bytes 3 (n - 8)) (i - (n - 8)) 0) same (sized_in_own bytes (omega arith) i)
+sized_in bytes size long same i = grind (arith, IsInField, sized_in_own)
 
 -- so the size is put in place by place
 pub sized_placewise : (size : ℕ) → 8 ≤ size → IsPlacewise size sized
@@ -113,9 +66,7 @@ module _ (slice : List ℕ) (small : AreBytes slice) (framed : IsFramed slice) w
   footer = slice_range slice (length slice - 8) (length slice)
 
   field_bytes : big_bytes 3 (length slice - 8) ≡ get_or footer 0 0 ∷ get_or footer 1 0 ∷ get_or footer 2 0 ∷ []
-  field_bytes =
-      let bytes : AreBytes footer = AreBytes-range slice (length slice - 8) (length slice) small in
-      three_bytes (get_or footer 0 0) (get_or footer 1 0) (get_or footer 2 0) (length slice - 8) (bytes 0) (bytes 1) (bytes 2) (sym framed.size)
+  field_bytes = grind (arith, AreBytes-range, three_bytes)
 
   field_at : (j : ℕ) → j < 3 → get_or footer j 0 ≡ get_or (big_bytes 3 (length slice - 8)) j 0
   field_at zero lt = sym (ap (λ z. get_or z 0 0) field_bytes)
@@ -125,15 +76,11 @@ module _ (slice : List ℕ) (small : AreBytes slice) (framed : IsFramed slice) w
 
   own_field : (i : ℕ) → IsInField (length slice) i → get_or slice i 0 ≡ get_or (big_bytes 3 (length slice - 8)) (i - (length slice - 8)) 0
   unfolding IsInField
-  own_field i field =
-      let low = field.0 in
-      let high = field.1 in
-      sym (range_at slice (length slice - 8) (length slice) i (omega arith) (omega arith)) ∙ field_at (i - (length slice - 8)) (omega arith)
+  own_field i field = grind (arith, range_at, field_at)
 
 field_of_slice : (slice : List ℕ) (size : ℕ) → AreBytes slice → IsFramed slice → length slice ≡ size → (i : ℕ) → IsInField size i
     → get_or slice i 0 ≡ get_or (big_bytes 3 (size - 8)) (i - (size - 8)) 0
-field_of_slice slice size small framed same i =
-    subst (λ n. IsInField n i → get_or slice i 0 ≡ get_or (big_bytes 3 (n - 8)) (i - (n - 8)) 0) same (own_field slice small framed i)
+field_of_slice slice size small framed same i = grind (arith, IsInField, own_field)
 
 -- ---- what copies have between two places, with its size
 
@@ -150,13 +97,10 @@ module _ (copies : List (List ℕ)) (start end : ℕ) (slice : List ℕ) (reach 
 
   -- In the field the slice has what each version with its size has; elsewhere a version is as it was.
   same_in : (version : List ℕ) → Contains versions version → (i : ℕ) → IsInField size i → get_or slice i 0 ≡ get_or (sized version) i 0
-  same_in version here i field =
-      field_of_slice slice size small framed slice_length i field ∙ sym (sized_in version size (omega arith) (long version here) i field)
+  same_in version here i field = grind (arith, field_of_slice, sized_in, long)
 
   same_off : (version : List ℕ) → Contains versions version → (i : ℕ) → (IsInField size i → ⊥) → get_or (sized version) i 0 ≡ get_or version i 0
-  same_off version here i off =
-      let same = long version here in
-      sized_off version (omega arith) i (λ field. off (subst (λ n. IsInField n i) same field))
+  same_off version here i off = grind (arith, long, sized_off, IsInField)
 
   -- where the versions agree, they do so with their size
   agree_sized : (i : ℕ) → AgreeAt versions i → AgreeAt (map sized versions) i
@@ -171,10 +115,7 @@ module _ (copies : List (List ℕ)) (start end : ℕ) (slice : List ℕ) (reach 
 
   -- what the slice has of one version, it has of that version with its size
   same_at : (version : List ℕ) → Contains versions version → (i : ℕ) → get_or slice i 0 ≡ get_or version i 0 → get_or slice i 0 ≡ get_or (sized version) i 0
-  same_at version here i same = elim (field_or_not size i (omega arith)) [
-    | inl off ↦ same ∙ sym (same_off version here i off)
-    | inr field ↦ same_in version here i field
-  ]
+  same_at version here i same = grind (arith, field_or_not, same_off, same_in)
 
   sized_size : (version : List ℕ) → Contains versions version → length (sized version) ≡ size
   sized_size version here = let same = long version here in length-sized version (omega arith) ∙ same
@@ -250,5 +191,4 @@ module _ (copies : List (List ℕ)) (start end : ℕ) (copy slice : List ℕ) (r
 
   pub sized_combination : ((version : List ℕ) → Contains (versions_at copies start end) version → AreBytes version)
       → IsCombination (map sized (versions_at copies start end)) slice
-  sized_combination are_bytes =
-      combination_sized copies start end slice reach below framed (slice_bytes are_bytes) length-slice is
+  sized_combination are_bytes = grind (arith, combination_sized, slice_bytes, length-slice)

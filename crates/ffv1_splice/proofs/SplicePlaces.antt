@@ -1,14 +1,5 @@
 -- The places of a splice: they lie end to end, above the hole, in it and below it.
-use Rattle.std.proofs.Common.{◌≡◌, ℕ, zero, suc, ◌+◌, ◌<◌, ◌≤◌, List, [], ◌++◌, length, get_or, map, sym, ap, ◌∙◌, subst, arith}
-use Rattle.std.specs.Prelude.{All, Contains, reverse, slice_range}
-use Rattle.std.proofs.lemmas.List.{append_assoc}
-use Rattle.std.proofs.lemmas.List.Elements.{All-nil, All-cons, All-append, All-map, All-weaker}
-use Rattle.ffv1_slice.proofs.NearLaws.{length-range}
-use Rattle.ffv1_splice.specs.Pieces.{HasContent}
-use Rattle.ffv1_splice.specs.Standings.{versions_at}
-use Rattle.ffv1_splice.specs.Splice.{SplicedValue, LieFrom, RiseFrom, IsSettledDown, IsSettledUp, IsCrossed, crossing_places, IsSpliceOf, moved_by, undivided_places, front_of, hole_places}
-use Rattle.ffv1_splice.specs.declared.place.Standing.TheVariants.{Undivided}
-use Rattle.ffv1_splice.specs.declared.place.Place.{Place}
+use Rattle.ffv1_splice.proofs.Common.{◌≡◌, ℕ, zero, suc, ◌+◌, ◌<◌, ◌≤◌, List, ◌++◌, length, map, sym, subst, arith, All, Contains, reverse, append_assoc, All-nil, All-cons, All-append, All-map, All-weaker, length-range, HasContent, SplicedValue, LieFrom, RiseFrom, IsSettledUp, IsCrossed, crossing_places, IsSpliceOf, moved_by, undivided_places, front_of, hole_places, Place}
 use Rattle.ffv1_splice.proofs.Versions.{version_of}
 use Rattle.ffv1_splice.proofs.Walks.{stands_below, front_below, ends_below}
 use Rattle.ffv1_splice.proofs.BoundSteps.{bound_within}
@@ -34,9 +25,7 @@ module _ (copies : List (List ℕ)) (spliced : SplicedValue) (is : IsSpliceOf co
       (all_crossings_lower P settled crossed)
 
   pub lower_rise : RiseFrom 0 (lower copies spliced is) is.start
-  lower_rise =
-      rise_append 0 is.floor is.start is.below (crossing_places is.crossings) is.up.rise
-      (crossings_rise copies is.bound spliced.payload is.floor is.crossings is.start is.across.are)
+  lower_rise = grind (arith, rise_append, crossings_rise)
 
 -- ---- what is so of all places
 
@@ -73,11 +62,7 @@ module _ (copies : List (List ℕ)) (spliced : SplicedValue) (is : IsSpliceOf co
   copy_at_hand = let of = version_of copies is.start is.end is.divided.before.copy is.divided.before.there in (of.0, of.1)
 
   pub above_upright : All (λ place. place.start ≤ place.end) is.above
-  above_upright k d lt =
-      let place : Place = get_or is.above k d in
-      let settled : IsSettledDown copies spliced.payload place = is.down.settled k d lt in
-      let content : HasContent place.start place.end = settled.only.there.content in
-      omega arith
+  above_upright k d lt = grind arith
 
   pub lower_upright : All (λ place. place.start < place.end) (lower copies spliced is)
   lower_upright =
@@ -100,10 +85,7 @@ module _ (copies : List (List ℕ)) (spliced : SplicedValue) (is : IsSpliceOf co
       top_below is.end 0 (lower copies spliced is) is.start (lower_rise copies spliced is) (omega arith) lower_within
 
   pub hole_length : is.start + length is.hole.payload ≡ is.end
-  hole_length =
-      let order = start_within in
-      let size = ap length is.bytes ∙ length-range spliced.payload is.start is.end order end_within in
-      omega arith
+  hole_length = grind (arith, start_within, length-range, end_within)
 
   -- all places lie end to end
   pub places_lie : LieFrom (length spliced.payload) spliced.places spliced.front
@@ -123,11 +105,7 @@ module _ (copies : List (List ℕ)) (spliced : SplicedValue) (is : IsSpliceOf co
       is.down.lie joined))
 
   pub hole_rising : All (λ place. place.start < place.end) is.hole.places
-  hole_rising k d lt =
-      let place : Place = get_or is.hole.places k d in
-      let below = stands_below (versions_at copies is.start is.end) place.start place.end (slice_range is.hole.payload place.start place.end) place.standing
-      (is.divided.stand k d lt) in
-      omega arith
+  hole_rising k d lt = grind (arith, stands_below)
 
   pub hole_upright : All (λ place. place.start ≤ place.end) is.hole.places
   hole_upright k d lt = let order = hole_rising k d lt in omega arith
@@ -135,9 +113,7 @@ module _ (copies : List (List ℕ)) (spliced : SplicedValue) (is : IsSpliceOf co
   undivided_upright : (start front : ℕ) → All (λ place. place.start ≤ place.end) (undivided_places start front)
   undivided_upright zero front = All-nil (λ place. place.start ≤ place.end)
   undivided_upright (suc before) zero = All-nil (λ place. place.start ≤ place.end)
-  undivided_upright (suc before) (suc more) =
-      All-cons (λ place. place.start ≤ place.end) (record { start = suc before; end = suc before + suc more; standing = Undivided }) [] (omega arith)
-      (All-nil (λ place. place.start ≤ place.end))
+  undivided_upright (suc before) (suc more) = grind (arith, All-cons, All-nil)
 
   upright : All (λ place. place.start ≤ place.end) spliced.places
   upright =

@@ -1,26 +1,13 @@
 -- The splice, place after place from the end.
-use Rattle.std.proofs.Common.{◌≡◌, ℕ, ◌+◌, ◌<◌, ◌≤◌, List, [], ◌∷◌, ◌++◌, Bor, length, take, drop, get_or, map, sym, ap, ◌∙◌, subst, arith}
-use Rattle.std.proofs.Math.Seq.{drop-append_seam}
-use Rattle.std.proofs.lemmas.List.{append-nil, append_assoc, length-append, length-drop, length-take-le, drop_all, take_all}
-use Rattle.ffv1_splice.specs.Pieces.{IsLeast}
-use Rattle.ffv1_splice.specs.Standings.{StandsAs, IsStop}
-use Rattle.ffv1_weave.specs.Parts.{written}
+use Rattle.ffv1_splice.proofs.Common.{◌≡◌, ℕ, ◌+◌, ◌<◌, ◌≤◌, List, [], ◌∷◌, ◌++◌, Bor, length, take, drop, get_or, map, sym, ap, ◌∙◌, subst, arith, drop-append_seam, append-nil, append_assoc, length-append, length-drop, length-take-le, drop_all, take_all, IsLeast, StandsAs, IsStop, written, length_at, HasOneLength, Place, value_at, length-values_of}
 use Rattle.ffv1_splice.proofs.Walks.{IsSpliceBefore}
 use Rattle.ffv1_splice.proofs.Walks.IsSpliceBefore.{stops, goes}
-use Rattle.ffv1_splice.specs.Faults.{length_at, HasOneLength}
-use Rattle.ffv1_splice.specs.declared.place.Place.{Place}
-use Rattle.ffv1_weave.proofs.References.{value_at, length-values_of}
 
 -- ---- bytes written over others
 
 pub length-written : (payload : List ℕ) (start : ℕ) (bytes : List ℕ) → start + length bytes ≤ length payload
     → length (written payload start bytes) ≡ length payload
-length-written payload start bytes h =
-    let front = length-take-le start payload (omega arith) in
-    let whole = length-append (take start payload) (bytes ++ drop (start + length bytes) payload) in
-    let back = length-append bytes (drop (start + length bytes) payload) in
-    let rest = length-drop (start + length bytes) payload in
-    omega arith
+length-written payload start bytes h = grind (arith, length-take-le, length-append, length-drop)
 
 pub drop-written : (payload : List ℕ) (start : ℕ) (bytes : List ℕ) → start + length bytes ≤ length payload
     → drop start (written payload start bytes) ≡ bytes ++ drop (start + length bytes) payload
@@ -30,9 +17,7 @@ drop-written payload start bytes h =
 
 -- what is written through a vector's slice is what the vector holds
 pub put_back : (len : ℕ) (new items : List ℕ) → len ≡ length items → length new ≡ length items → take len (new ++ drop (length new) items) ≡ new
-put_back len new items l n =
-    let none : drop (length new) items ≡ [] = ap (λ k. drop k items) n ∙ drop_all (length items) items (omega arith) in
-    ap (λ z. take len (new ++ z)) none ∙ ap (take len) (append-nil new) ∙ ap (λ k. take k new) (l ∙ sym n) ∙ take_all (length new) new (omega arith)
+put_back len new items l n = grind (arith, drop_all, append-nil, take_all)
 
 -- ---- a turn
 
@@ -46,17 +31,7 @@ module _ (copies : List (List ℕ)) where
   pub continues_more : (whole end : ℕ) (after : List Place) (place : Place) (bytes payload : List ℕ) → place.end ≡ end → place.start + length bytes ≡ end
       → end ≤ length payload → StandsAs copies place.start end bytes place.standing → Continues copies whole end after (drop end payload)
       → Continues copies whole place.start (after ++ place ∷ []) (drop place.start (written payload place.start bytes))
-  continues_more whole end after place bytes payload ends size within stands h places front before rest =
-      let here : IsSpliceBefore copies place.end (place ∷ places) front (before ++ bytes) =
-      goes bytes (subst (λ e. StandsAs copies place.start e bytes place.standing) (sym ends) stands) rest in
-      let all : IsSpliceBefore copies whole (after ++ place ∷ places) front ((before ++ bytes) ++ drop end payload) =
-      h (place ∷ places) front (before ++ bytes) (subst (λ e. IsSpliceBefore copies e (place ∷ places) front (before ++ bytes)) ends here) in
-      let back : drop place.start (written payload place.start bytes) ≡ bytes ++ drop end payload =
-      drop-written payload place.start bytes (omega arith) ∙ ap (λ n. bytes ++ drop n payload) size in
-      subst (λ ps. IsSpliceBefore copies whole ps front (before ++ drop place.start (written payload place.start bytes)))
-      (sym (append_assoc after (place ∷ []) places))
-      (subst (IsSpliceBefore copies whole (after ++ place ∷ places) front) (append_assoc before bytes (drop end payload)
-      ∙ ap (λ z. before ++ z) (sym back)) all)
+  continues_more whole end after place bytes payload ends size within stands h places front before rest = grind (arith, goes, drop-written, append_assoc)
 
   -- where it stops
   pub continues_end : (whole end : ℕ) (after : List Place) (bytes payload : List ℕ) → length bytes ≡ end → end ≤ length payload → IsStop copies end

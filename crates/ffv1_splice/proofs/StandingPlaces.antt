@@ -1,14 +1,5 @@
 -- How the places of a splice stand.
-use Rattle.std.proofs.Common.{◌≡◌, ℕ, ◌+◌, ◌≤◌, List, length, get_or, refl, sym, ap, ◌∙◌, subst, arith}
-use Rattle.std.specs.Prelude.{All, Contains, slice_range}
-use Rattle.std.proofs.lemmas.List.Elements.{All-contains, All-contains_itself}
-use Rattle.ffv1_slice.specs.Chain.{link_of}
-use Rattle.ffv1_splice.specs.Pieces.{AllReach, IsPiece}
-use Rattle.ffv1_splice.specs.Standings.{versions_at, StandsAs}
-use Rattle.ffv1_splice.specs.Splice.{SplicedValue, IsSettledDown, IsSettledUp, IsCrossed, IsSpliceOf, moved_by, IsSettledOrWoven, IsGivenBack}
-use Rattle.ffv1_splice.specs.Originals.{IsTriedAt}
-use Rattle.ffv1_splice.specs.declared.place.Standing.TheVariants.{Settled, Undivided}
-use Rattle.ffv1_splice.specs.declared.place.Place.{Place}
+use Rattle.ffv1_splice.proofs.Common.{◌≡◌, ℕ, ◌+◌, ◌≤◌, List, length, get_or, refl, sym, ◌∙◌, subst, arith, All, Contains, slice_range, All-contains, All-contains_itself, link_of, AllReach, IsPiece, versions_at, StandsAs, SplicedValue, IsSettledDown, IsSettledUp, IsCrossed, IsSpliceOf, moved_by, IsSettledOrWoven, IsGivenBack, IsTriedAt, Settled, Undivided, Place}
 use Rattle.ffv1_splice.proofs.Walks.{ends_below}
 use Rattle.ffv1_splice.proofs.Narrowed.{range_of_range, versions_of_versions, piece_out}
 use Rattle.ffv1_splice.proofs.NarrowedOriginal.{tried_narrowed}
@@ -32,15 +23,11 @@ pub record StandsBetween (copies : List (List ℕ)) (payload : List ℕ) (place 
 module _ (copies : List (List ℕ)) (payload : List ℕ) (place : Place) (h : StandsBetween copies payload place) where
   -- what the cut copies have there is what the copies have there
   pub between_versions : versions_at (versions_at copies h.from h.to) h.start h.end ≡ versions_at copies place.start place.end
-  between_versions =
-      versions_of_versions h.from h.to copies h.start h.end h.within ∙ ap (λ n. versions_at copies n (h.from + h.end)) (sym h.starts)
-      ∙ ap (λ n. versions_at copies place.start n) (sym h.ends)
+  between_versions = grind (arith, versions_of_versions)
 
   -- a slice that is among the combinations that are tried there is among those that are tried of the cut copies
   pub between_tried : (slice : List ℕ) → IsTriedAt copies place.start place.end slice → IsTriedAt (versions_at copies h.from h.to) h.start h.end slice
-  between_tried slice tried =
-      tried_narrowed h.from h.to copies h.start h.end slice h.within
-      (subst (λ s. IsTriedAt copies s (h.from + h.end) slice) h.starts (subst (λ e. IsTriedAt copies place.start e slice) h.ends tried))
+  between_tried slice tried = grind (arith, tried_narrowed)
 
 -- How a place of the splice stands: settled from above or from below, as follows from copies that are cut, or as what can't be divided.
 pub data IsPlaceOf (copies : List (List ℕ)) (spliced : SplicedValue) (is : IsSpliceOf copies spliced) : Place → Type 0 where
@@ -61,17 +48,11 @@ module _ (copies : List (List ℕ)) (spliced : SplicedValue) (is : IsSpliceOf co
   -- the bytes of the hole, as the splice has them
   pub hole_bytes : All (λ place. slice_range is.hole.payload place.start place.end
       ≡ slice_range spliced.payload (is.start + place.start) (is.start + place.end)) is.hole.places
-  hole_bytes k d lt =
-      let place : Place = get_or is.hole.places k d in
-      ap (λ bytes. slice_range bytes place.start place.end) is.bytes
-      ∙ range_of_range is.start is.end spliced.payload place.start place.end (hole_within k d lt)
+  hole_bytes k d lt = grind (arith, range_of_range, hole_within)
 
   pub hole_stands : All (λ place. StandsAs (versions_at copies is.start is.end) place.start place.end
       (slice_range spliced.payload (is.start + place.start) (is.start + place.end)) place.standing) is.hole.places
-  hole_stands k d lt =
-      let place : Place = get_or is.hole.places k d in
-      subst (λ bytes. StandsAs (versions_at copies is.start is.end) place.start place.end bytes place.standing) (hole_bytes k d lt)
-      (is.divided.stand k d lt)
+  hole_stands k d lt = grind (arith, hole_bytes)
 
   -- ---- where a place stands
 

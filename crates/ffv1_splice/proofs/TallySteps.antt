@@ -1,14 +1,5 @@
 -- The pieces that end at a place, and the starts that are claimed there, with one more copy.
-use Rattle.std.proofs.Common.{◌≡◌, ℕ, List, [], ◌∷◌, ◌++◌, refl, sym, ap, ◌∙◌, subst, arith, inl, inr}
-use Rattle.std.specs.Prelude.{◌⊎◌, Contains, slice_range}
-use Rattle.std.proofs.lemmas.List.Elements.{Contains-append_left, Contains-append_right, Contains-append_cases}
-use Rattle.ffv1_bits.specs.Parity.{PassesParity}
-use Rattle.ffv1_slice.specs.Chain.{FooterGives, LinkValue, link_of}
-use Rattle.ffv1_splice.specs.Pieces.{HasContent, IsPiece, IsClaimedStart}
-use Rattle.ffv1_weave.proofs.ChoiceSteps.{alone}
-use Rattle.ffv1_weave.proofs.FoundSteps.{two_as}
-use Rattle.ffv1_splice.specs.Inner.Tally.{Tally, Tallies, TalliesMore, TalliesBoth}
-use Rattle.ffv1_splice.specs.Inner.Tally.Tally.{none, one, two}
+use Rattle.ffv1_splice.proofs.Common.{◌≡◌, ℕ, List, [], ◌∷◌, ◌++◌, refl, ap, ◌∙◌, subst, arith, inl, inr, ◌⊎◌, Contains, slice_range, Contains-append_left, Contains-append_right, Contains-append_cases, PassesParity, FooterGives, LinkValue, link_of, HasContent, IsPiece, IsClaimedStart, alone, two_as, Tally, Tallies, TalliesMore, TalliesBoth, none, one, two}
 
 -- ---- any fact
 
@@ -21,29 +12,16 @@ tallies_same P Q two on back h = two_as P Q on h
 -- one more value
 pub tallies_more : {X : Type 0} (P Q : X → Type 0) (claim after : Tally X) (value : X) → ((x : X) → P x → Q x) → Q value → ((x : X) → Q x → P x ⊎ (x ≡ value))
     → TalliesMore claim value after → Tallies P claim → Tallies Q after
-tallies_more P Q none after value on new cases more h =
-    subst (Tallies Q) (sym more) (record { there = new; others = λ x q. elim (cases x q) [ inl p ↦ absurd (h x p) | inr same ↦ same ] })
-tallies_more P Q (one first) after value on new cases more h =
-    elim more [
-      | inl same ↦ subst (Tallies Q) (sym same.1) (record {
-        there = on first h.there;
-        others = λ x q. elim (cases x q) [ inl p ↦ h.others x p | inr is ↦ is ∙ sym same.0 ];
-      })
-      | inr apart ↦ subst (Tallies Q) (sym apart.1) (record { one = first; other = value; one_there = on first h.there; other_there = new; differ = apart.0 })
-    ]
-tallies_more P Q two after value on new cases more h =
-    subst (Tallies Q) (sym more) (two_as P Q on h)
+tallies_more P Q none after value on new cases more h = grind arith
+tallies_more P Q (one first) after value on new cases more h = grind arith
+tallies_more P Q two after value on new cases more h = grind (arith, two_as)
 
 -- and all values of another count
 pub tallies_both : {X : Type 0} (P Q R : X → Type 0) (claim others after : Tally X) → ((x : X) → P x → R x) → ((x : X) → Q x → R x) → ((x : X) → R x → P x ⊎ Q x)
     → TalliesBoth claim others after → Tallies P claim → Tallies Q others → Tallies R after
-tallies_both P Q R claim none after mine theirs cases both h k =
-    subst (Tallies R) (sym both)
-    (tallies_same P R claim mine (λ x r. elim (cases x r) [ inl p ↦ p | inr q ↦ absurd (k x q) ]) h)
-tallies_both P Q R claim (one value) after mine theirs cases both h k =
-    tallies_more P R claim after value mine (theirs value k.there) (λ x r. elim (cases x r) [ inl p ↦ inl p | inr q ↦ inr (k.others x q) ]) both h
-tallies_both P Q R claim two after mine theirs cases both h k =
-    subst (Tallies R) (sym both) (two_as Q R theirs k)
+tallies_both P Q R claim none after mine theirs cases both h k = grind (arith, tallies_same)
+tallies_both P Q R claim (one value) after mine theirs cases both h k = grind (arith, tallies_more)
+tallies_both P Q R claim two after mine theirs cases both h k = grind (arith, two_as)
 
 -- ---- one more copy
 
@@ -52,15 +30,7 @@ module _ (copies : List (List ℕ)) (copy : List ℕ) (end : ℕ) where
   last = Contains-append_right copies (copy ∷ []) copy (0, omega arith, refl)
 
   pub piece_on : (piece : LinkValue) → IsPiece copies end piece → IsPiece (copies ++ copy ∷ []) end piece
-  piece_on piece h =
-      record {
-        copy = h.copy;
-        there = Contains-append_left copies (copy ∷ []) h.copy h.there;
-        cut = h.cut;
-        content = h.content;
-        bytes = h.bytes;
-        passes = h.passes;
-      }
+  piece_on piece h = grind (arith, Contains-append_left)
 
   pub start_on : (start : ℕ) → IsClaimedStart copies end start → IsClaimedStart (copies ++ copy ∷ []) end start
   start_on start h = record { copy = h.copy; there = Contains-append_left copies (copy ∷ []) h.copy h.there; cut = h.cut; content = h.content }
@@ -118,13 +88,7 @@ module _ (copies : List (List ℕ)) (copy : List ℕ) (end : ℕ) where
 
   pub pieces-passed : (claim after : Tally LinkValue) (start : ℕ) → FooterGives copy start end → HasContent start end → PassesParity (slice_range copy start end)
       → TalliesMore claim (link_of copy start end) after → Tallies (IsPiece copies end) claim → Tallies (IsPiece (copies ++ copy ∷ []) end) after
-  pieces-passed claim after start cut content passes more h =
-      tallies_more (IsPiece copies end) (IsPiece (copies ++ copy ∷ []) end) claim after (link_of copy start end) piece_on
-      (record { copy = copy; there = last; cut = cut; content = content; bytes = refl; passes = passes })
-      (λ piece q. elim (piece_back piece q) [
-        | inl p ↦ inl p
-        | inr new ↦ inr (new.2 ∙ ap (λ s. link_of copy s end) (one_cut start piece.start cut new.0))
-      ]) more h
+  pieces-passed claim after start cut content passes more h = grind (arith, tallies_more, piece_on, last, piece_back, one_cut)
 
   -- a slice with which the pieces stay as they are is a piece that was found already, or two others differ
   pub pieces-kept : (claim : Tally LinkValue) (start : ℕ) → FooterGives copy start end → TalliesMore claim (link_of copy start end) claim
@@ -142,7 +106,4 @@ module _ (copies : List (List ℕ)) (copy : List ℕ) (end : ℕ) where
   pub starts-cut : (claim after : Tally ℕ) (start : ℕ) → FooterGives copy start end → HasContent start end → TalliesMore claim start after
       → Tallies (IsClaimedStart copies end) claim
       → Tallies (IsClaimedStart (copies ++ copy ∷ []) end) after
-  starts-cut claim after start cut content more h =
-      tallies_more (IsClaimedStart copies end) (IsClaimedStart (copies ++ copy ∷ []) end) claim after start start_on
-      (record { copy = copy; there = last; cut = cut; content = content })
-      (λ other q. elim (start_back other q) [ inl p ↦ inl p | inr new ↦ inr (one_cut start other cut new.0) ]) more h
+  starts-cut claim after start cut content more h = grind (arith, tallies_more, start_on, last, start_back, one_cut)

@@ -1,14 +1,5 @@
 -- When a link's slice is among the combinations that are tried there.
-use Rattle.std.proofs.Common.{◌≡◌, ℕ, ◌+◌, ◌-◌, ◌≤◌, List, length, map, refl, sym, ◌∙◌, subst, arith}
-use Rattle.std.specs.Prelude.{Contains, slice_range}
-use Rattle.ffv1_slice.specs.Chain.{FooterGives, IsLinkOf}
-use Rattle.ffv1_slice.proofs.NearLaws.{length-range}
-use Rattle.ffv1_weave.specs.Combinations.{IsCombination}
-use Rattle.ffv1_weave.proofs.AmongTried.{are_among_tried}
-use Rattle.ffv1_weave.proofs.FewByByte.{few_changed}
-use Rattle.ffv1_splice.specs.Pieces.{AllReach, HasContent, IsClaimedStart}
-use Rattle.ffv1_splice.specs.Standings.{versions_at, sized}
-use Rattle.ffv1_splice.specs.Laws.{LinksAreTried}
+use Rattle.ffv1_splice.proofs.Common.{◌≡◌, ℕ, ◌+◌, ◌-◌, ◌≤◌, List, length, map, refl, sym, ◌∙◌, subst, arith, Contains, slice_range, FooterGives, IsLinkOf, length-range, IsCombination, are_among_tried, few_changed, AllReach, HasContent, IsClaimedStart, versions_at, sized, LinksAreTried}
 use Rattle.ffv1_splice.proofs.DividedLinks.{end_within}
 use Rattle.ffv1_splice.proofs.FirstSlices.{combination_claim}
 use Rattle.ffv1_splice.proofs.Narrowed.{versions_of_versions, claim_out}

@@ -1,34 +1,9 @@
 -- Copies that are near the slices of a setup are near copies; two of the frame of two slices, of which each has one slice intact, are
 -- spliced to the frame; zeros, which read as a row of slices without content, have no places; a slice whose size field is lost in both
 -- copies is woven from the front; and places are written in words.
-use Rattle.std.proofs.Common.{◌≡◌, ℕ, zero, suc, ◌+◌, ◌-◌, ◌<◌, ◌≤◌, Bool, List, [], ◌∷◌, length, get_or, map, take, drop, replicate, refl, sym, ap, ◌∙◌, subst, arith, inl, inr}
-use Rattle.std.specs.Prelude.{◌⊎◌, ◌==◌, Contains, codes, slice_range}
-use Rattle.std.specs.Fmt.{digits}
-use Rattle.std.specs.Ordering.{nat_cmp}
-use Rattle.std.specs.Cmp.Lexicographic.{slice_cmp}
-use Rattle.std.specs.declared.cmp.Ordering.TheVariants.{Less}
-use Rattle.std.proofs.lemmas.List.{ext_get_or, length-take, take-replicate, drop-replicate}
-use Rattle.std.proofs.lemmas.List.Elements.{All-nil}
-use Rattle.ffv1_bits.specs.Bits.{number_bits, bits_of}
-use Rattle.ffv1_bits.specs.Parity.{AreBytes, PassesParity, polynomial_of, divided, remainder_of}
-use Rattle.ffv1_slice.specs.Setup.{SetupValue}
-use Rattle.ffv1_slice.specs.Chain.{size_before, FooterGives, IsEnd, IsLinkOf}
-use Rattle.ffv1_slice.specs.Slices.{IsSliceOf, IsOriginal}
-use Rattle.ffv1_slice.specs.Near.{starts_at, version_at, IsDamagedWithin32, IsNear}
-use Rattle.ffv1_slice.proofs.Places.{starts_none, FooterGivesAt, end_of_tile, tile_of_cut}
-use Rattle.ffv1_slice.proofs.FoundLaws.{original_cut, bytes_of_tile}
-use Rattle.ffv1_slice.proofs.NearLaws.{length-range, size_of_range}
+use Rattle.ffv1_splice.proofs.Common.{◌≡◌, ℕ, zero, suc, ◌+◌, ◌-◌, ◌<◌, ◌≤◌, Bool, List, [], ◌∷◌, length, get_or, map, take, drop, replicate, refl, sym, ap, ◌∙◌, subst, arith, inl, inr, ◌⊎◌, ◌==◌, Contains, codes, slice_range, digits, nat_cmp, slice_cmp, Less, ext_get_or, length-take, take-replicate, drop-replicate, All-nil, number_bits, bits_of, AreBytes, PassesParity, polynomial_of, divided, remainder_of, SetupValue, size_before, FooterGives, IsEnd, IsLinkOf, IsSliceOf, IsOriginal, starts_at, version_at, IsDamagedWithin32, IsNear, starts_none, FooterGivesAt, end_of_tile, tile_of_cut, original_cut, bytes_of_tile, length-range, size_of_range, splits, IsCombinationBy, HasFew, IsTriedBy, AreFew, HasContent, IsLeast, versions_at, sized, StandsAs, IsStop, SplicedValue, IsSettledDown, IsSettledUp, IsDivisionOf, IsSpliceOf, IsUndamaged, IsIntact, IsNearCopy, AreNearCopies, IsIntactInSome, standing_word, place_words, Woven, Voted, Repaired}
 use Rattle.ffv1_slice.proofs.NearVectors as vectors
-use Rattle.ffv1_weave.specs.Splits.{splits}
-use Rattle.ffv1_weave.specs.Combinations.{IsCombinationBy, HasFew, IsTriedBy}
-use Rattle.ffv1_weave.specs.Weave.{AreFew}
-use Rattle.ffv1_splice.specs.Pieces.{HasContent, IsLeast}
-use Rattle.ffv1_splice.specs.Standings.{versions_at, sized, StandsAs, IsStop}
-use Rattle.ffv1_splice.specs.Splice.{SplicedValue, IsSettledDown, IsSettledUp, IsDivisionOf, IsSpliceOf}
-use Rattle.ffv1_splice.specs.Originals.{IsUndamaged, IsIntact, IsNearCopy, AreNearCopies, IsIntactInSome}
 use Rattle.ffv1_splice.specs.Laws as laws
-use Rattle.ffv1_splice.specs.Text.{standing_word, place_words}
-use Rattle.ffv1_splice.specs.declared.place.Standing.TheVariants.{Woven, Voted, Repaired}
 use Rattle.ffv1_splice.proofs.DividedLinks.{end_within}
 use Rattle.ffv1_splice.proofs.NearCopies.{near_copies_splice}
 
@@ -53,10 +28,7 @@ module _ (setup : SetupValue) (original : List ℕ) (slices : List (List ℕ)) (
 
   -- a slice has its header before its footer
   slice_filled : (slice : List ℕ) (first : Bool) (tile : ℕ) → IsSliceOf setup slice first tile → 8 < length slice
-  slice_filled slice first tile h =
-      let after = h.is_head.header.at in
-      let size = length-take (length slice - 8) slice in
-      omega (arith, after)
+  slice_filled slice first tile h = grind (arith, length-take)
 
   pub undamaged_of_setup : AreBytes original → IsUndamaged original
   undamaged_of_setup bytes = record {
@@ -134,9 +106,7 @@ zeros_pass = (omega arith, (omega arith, refl))
 
 -- of one copy alone, the only one
 only_copy : (alone copy : List ℕ) → Contains (alone ∷ []) copy → copy ≡ alone
-only_copy alone copy there =
-    let here : there.0 ≡ 0 = omega (arith, there.1) in
-    sym there.2 ∙ ap (λ k. get_or (alone ∷ []) k copy) here
+only_copy alone copy there = grind arith
 
 -- each footer within them gives size 0
 zeros_size : (end : ℕ) → 8 ≤ end → end ≤ 16 → size_before zeros end ≡ 0
@@ -148,10 +118,7 @@ zeros_size end footer within =
     size_of_range zeros (end - 8) end (omega arith) within ∙ ap (λ slice. size_before slice (length slice)) all
 
 zeros_cut : (copy : List ℕ) (start end : ℕ) → Contains (zeros ∷ []) copy → end ≤ 16 → FooterGives copy start end → HasContent start end → ⊥
-zeros_cut copy start end there within cut content =
-    let claim : FooterGives zeros start end = subst (λ c. FooterGives c start end) (only_copy zeros copy there) cut in
-    let size = zeros_size end (omega arith) within in
-    absurd (omega arith)
+zeros_cut copy start end there within cut content = grind (arith, only_copy, cut, zeros_size)
 
 -- with the size of a slice that is as long they do not pass
 sized_zeros_fail : PassesParity (sized zeros) → ⊥
@@ -190,13 +157,7 @@ abbrev pub zeros_spliced : SplicedValue
 zeros_spliced = record { places = []; front = 16; payload = zeros }
 
 zeros_divided : IsDivisionOf (zeros ∷ []) zeros_spliced
-zeros_divided = record {
-  one_length = λ copy there. ap length (only_copy zeros copy there);
-  lie = refl;
-  stand = All-nil (λ place. StandsAs (zeros ∷ []) place.start place.end (slice_range zeros place.start place.end) place.standing);
-  stop = zeros_stop;
-  before = zeros_least;
-}
+zeros_divided = grind (arith, only_copy, All-nil, zeros_stop, zeros_least)
 
 pub zeros_are_spliced : IsSpliceOf (zeros ∷ []) zeros_spliced
 zeros_are_spliced = record {
@@ -243,12 +204,7 @@ both_sized : map sized (versions_at lost_copies 0 11) ≡ vectors.first_slice �
 both_sized = refl
 
 lost_cut : (copy : List ℕ) (start : ℕ) → Contains lost_copies copy → FooterGives copy start 11 → HasContent start 11 → ⊥
-lost_cut copy start there cut content = at there.0 there.1 there.2
-  where
-    at : (k : ℕ) → k < 2 → get_or lost_copies k copy ≡ copy → ⊥
-    at zero lt same = let claim : FooterGives (slice_with 0xFD 0xFF 0xFF 0xFF) start 11 = subst (λ c. FooterGives c start 11) (sym same) cut in absurd (omega arith)
-    at (suc zero) lt same = let claim : FooterGives (slice_with 0xFD 0 0 0) start 11 = subst (λ c. FooterGives c start 11) (sym same) cut in absurd (omega arith)
-    at (suc (suc k)) lt same = absurd (omega arith)
+lost_cut copy start there cut content = grind (arith, cut)
 
 -- ---- a slice that both copies have
 
@@ -263,26 +219,15 @@ tried_first versions count few = record { place = 0; there = omega arith; is = r
 
 module _ (slice : List ℕ) where
   twice : (copy : List ℕ) → Contains (slice ∷ slice ∷ []) copy → copy ≡ slice
-  twice copy there = at there.0 there.1 there.2
-    where
-      at : (k : ℕ) → k < 2 → get_or (slice ∷ slice ∷ []) k copy ≡ copy → copy ≡ slice
-      at zero lt same = sym same
-      at (suc zero) lt same = sym same
-      at (suc (suc k)) lt same = absurd (omega arith)
+  twice copy there = grind arith
 
   pub twice_one : (split : _) (bytes : List ℕ) → IsCombinationBy split (slice ∷ slice ∷ []) bytes → bytes ≡ slice
   twice_one split bytes is =
       let here : Contains (slice ∷ slice ∷ []) slice = (0, omega arith, refl) in
-      ext_get_or 0 bytes slice (is.same_length slice here) (λ i lt.
-      is.agrees i (λ one other in_one in_other. ap (λ v. get_or v i 0) (twice one in_one ∙ sym (twice other in_other))) slice here)
+      cc (ext_get_or 0 bytes slice (is.same_length slice here) (λ i lt. is.agrees i (λ one other in_one in_other. ap (λ v. get_or v i 0) (twice one in_one ∙ sym (twice other in_other))) slice here))
 
   twice_combination : IsCombinationBy (first_of splits (omega arith)) (slice ∷ slice ∷ []) slice
-  twice_combination =
-      record {
-        same_length = λ version there. ap length (sym (twice version there));
-        agrees = λ i agree version there. ap (λ v. get_or v i 0) (sym (twice version there));
-        parts = λ start end part. (slice, (0, omega arith, refl), refl);
-      }
+  twice_combination = grind (arith, twice)
 
   twice_tried : IsTriedBy (slice ∷ slice ∷ []) (first_of splits (omega arith)) 1
   twice_tried = tried_first (slice ∷ slice ∷ []) 1 (record {

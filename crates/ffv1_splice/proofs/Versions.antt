@@ -1,18 +1,6 @@
 -- What copies have between two places.
-use Rattle.std.proofs.Common.{◌≡◌, ℕ, ◌+◌, ◌-◌, ◌*◌, ◌/◌, ◌%◌, ◌<◌, ◌≤◌, List, [], ◌∷◌, ◌++◌, Bor, length, get_or, take, map, sym, ap, ◌∙◌, subst, arith}
-use Rattle.std.specs.Prelude.{◌^◌, All, Contains, bit_xor, slice_range}
-use Rattle.std.proofs.lemmas.List.{get_or-map, length-map, take_more, take_all}
-use Rattle.std.proofs.lemmas.List.Elements.{Contains-get_or}
-use Rattle.ffv1_slice.proofs.NearLaws.{length-range}
-use Rattle.ffv1_slice.specs.Members.{HasSameMembers}
-use Rattle.ffv1_weave.specs.Regions.{HaveLength}
-use Rattle.ffv1_weave.specs.Weave.Weave.{woven}
-use Rattle.ffv1_weave.specs.Repairs.{inverted, IsRepair}
-use Rattle.ffv1_weave.proofs.Choices.{length-written}
-use Rattle.ffv1_weave.proofs.Mapped.{mapped_there, mapped_of, same_mapped}
-use Rattle.ffv1_splice.specs.Pieces.{AllReach}
-use Rattle.ffv1_splice.specs.Standings.{versions_at, IsWeaveAt, IsVoteAt, IsRepairAt}
-use Rattle.ffv1_weave.proofs.References.{value_at, length-values_of, value_there}
+use Rattle.ffv1_splice.proofs.Common.{◌≡◌, ℕ, ◌+◌, ◌-◌, ◌*◌, ◌/◌, ◌%◌, ◌<◌, ◌≤◌, List, [], ◌∷◌, ◌++◌, Bor, length, get_or, take, map, sym, ap, ◌∙◌, subst, arith, All, Contains, bit_xor, slice_range, get_or-map, length-map, take_more, Contains-get_or, length-range, HasSameMembers, HaveLength, woven, inverted, IsRepair, length-written, mapped_there, mapped_of, same_mapped, AllReach, versions_at, IsWeaveAt, IsVoteAt, IsRepairAt, value_at, length-values_of, value_there}
+use Rattle.std.specs.Prelude.{◌^◌}
 use Rattle.ffv1_splice.proofs.PlaceSteps.{claim_below, unwoven_weave}
 
 -- ---- versions
@@ -81,10 +69,6 @@ module _ (copies : List (Bor (List ℕ))) (start end : ℕ) where
       ∙ ap (λ copy. slice_range copy start end) (value_at copies i d [] h)))
       ∙ sym (take_more (versions_at (map (λ copy. copy.now) copies) start end) i [] (omega (arith, length-versions)))
 
-  pub all_versions : (n : ℕ) → length copies ≤ n
-      → take n (versions_at (map (λ copy. copy.now) copies) start end) ≡ versions_at (map (λ copy. copy.now) copies) start end
-  all_versions n h = take_all n (versions_at (map (λ copy. copy.now) copies) start end) (omega (arith, length-versions))
-
 -- ---- how long versions are
 
 module _ (copies : List (List ℕ)) (start end : ℕ) (order : start ≤ end) (reach : AllReach copies end) where
@@ -100,8 +84,7 @@ module _ (all : List (List ℕ)) (size : ℕ) (long : HaveLength all size) (vers
 
   length_of_first : 0 < length versions → length (get_or (map (λ version. version.now) versions) 0 []) ≡ size
   length_of_first lt =
-      long (get_or (map (λ version. version.now) versions) 0 []) (subst (λ vs. Contains vs (get_or (map (λ version. version.now) versions) 0 [])) are
-      (Contains-get_or (map (λ version. version.now) versions) 0 [] (omega (arith, length-values_of versions))))
+      cc (long (get_or (map (λ version. version.now) versions) 0 []) (subst (λ vs. Contains vs (get_or (map (λ version. version.now) versions) 0 [])) are (Contains-get_or (map (λ version. version.now) versions) 0 [] (omega (arith, length-values_of versions)))))
 
   -- all are as long as the first
   pub one_length : All (λ version. length version.now ≡ length (get_or (map (λ version. version.now) versions) 0 [])) versions

@@ -1,16 +1,5 @@
 -- A division as it is found, place by place from an end, and as it is stated, place by place of the whole payload.
-use Rattle.std.proofs.Common.{◌≡◌, ℕ, ◌+◌, ◌-◌, ◌≤◌, List, [], ◌∷◌, ◌++◌, length, get_or, take, drop, refl, sym, ap, ◌∙◌, subst, arith, inl, inr, take-append-drop}
-use Rattle.std.specs.Prelude.{All, Contains, slice_range}
-use Rattle.std.proofs.Math.Seq.{drop-append_seam}
-use Rattle.std.proofs.lemmas.List.{drop-append-le, take-append-le, take_all, take-take, length-append, length-drop, length-take-le}
-use Rattle.std.proofs.lemmas.List.Elements.{All-nil, All-cons, All-head, All-tail}
-use Rattle.std.proofs.lemmas.Bool.{cases_lt}
-use Rattle.ffv1_splice.specs.Pieces.{AllReach, IsLeast}
-use Rattle.ffv1_splice.specs.Standings.{StandsAs, IsStop}
-use Rattle.ffv1_splice.specs.Splice.{SplicedValue, LieFrom, IsDivisionOf}
-use Rattle.ffv1_splice.specs.declared.place.Standing.{Standing}
-use Rattle.ffv1_splice.specs.declared.place.Standing.TheVariants.{Settled, Woven, Voted, Repaired, Disputed, Missing, Undivided}
-use Rattle.ffv1_splice.specs.declared.place.Place.{Place}
+use Rattle.ffv1_splice.proofs.Common.{◌≡◌, ℕ, ◌+◌, ◌-◌, ◌≤◌, List, [], ◌∷◌, ◌++◌, length, get_or, take, drop, refl, sym, ◌∙◌, subst, arith, take-append-drop, All, Contains, slice_range, drop-append_seam, drop-append-le, take-append-le, take_all, take-take, length-append, length-drop, length-take-le, All-nil, All-cons, All-head, All-tail, cases_lt, AllReach, IsLeast, StandsAs, IsStop, SplicedValue, LieFrom, IsDivisionOf, Standing, Settled, Woven, Voted, Repaired, Disputed, Missing, Undivided, Place}
 use Rattle.ffv1_splice.proofs.FirstSlices.{woven_below, woven_size}
 use Rattle.ffv1_splice.proofs.Versions.{vote_size, repair_size}
 use Rattle.ffv1_splice.proofs.PlaceSteps.{cut_below, claim_below, piece_size, gap_size, least_size, unwoven_weave}
@@ -26,26 +15,15 @@ pub data IsSpliceBefore (copies : List (List ℕ)) : ℕ → List Place → ℕ 
 -- ---- parts of bytes
 
 slice-front : (before bytes : List ℕ) (start end : ℕ) → end ≤ length before → slice_range (before ++ bytes) start end ≡ slice_range before start end
-slice-front before bytes start end h =
-    elim (cases_lt end start) [
-      | inl beyond ↦
-          let none : end - start ≡ 0 = omega arith in
-          ap (λ n. take n (drop start (before ++ bytes))) none ∙ sym (ap (λ n. take n (drop start before)) none)
-      | inr within ↦ ap (take (end - start)) (drop-append-le start before bytes (omega arith))
-          ∙ take-append-le (end - start) (drop start before) bytes (omega (arith, length-drop start before))
-    ]
+slice-front before bytes start end h = grind (arith, cases_lt, drop-append-le, take-append-le, length-drop)
 
 slice-back : (before bytes : List ℕ) (start end : ℕ) → length before ≡ start → start + length bytes ≡ end → slice_range (before ++ bytes) start end ≡ bytes
-slice-back before bytes start end s e =
-    let size : end - start ≡ length bytes = omega arith in
-    ap (λ n. take n (drop start (before ++ bytes))) size ∙ ap (λ n. take (length bytes) (drop n (before ++ bytes))) (sym s)
-    ∙ ap (take (length bytes)) (drop-append_seam before bytes) ∙ take_all (length bytes) bytes (omega arith)
+slice-back before bytes start end s e = grind (arith, drop-append_seam, take_all)
 
 slice-take : (bytes : List ℕ) (count start end : ℕ) → end ≤ count → count ≤ length bytes
     → slice_range (take count bytes) start end ≡ slice_range bytes start end
 slice-take bytes count start end e c =
-    sym (slice-front (take count bytes) (drop count bytes) start end (omega (arith, length-take-le count bytes c)))
-    ∙ ap (λ z. slice_range z start end) (take-append-drop count bytes)
+    cc (slice-front (take count bytes) (drop count bytes) start end (omega (arith, length-take-le count bytes c)), take-append-drop count bytes)
 
 -- ---- how long a place is
 
@@ -77,19 +55,13 @@ reach_less copies end start below reach copy there = let far = reach copy there 
 pub front_below : (end : ℕ) (places : List Place) (front : ℕ) → All (λ place. place.start ≤ place.end) places → LieFrom end places front → front ≤ end
 front_below end [] front up lie = omega arith
 front_below end (place ∷ places) front up lie =
-    let below = front_below place.start places front (All-tail (λ place. place.start ≤ place.end) place places up) lie.1 in
-    let here = All-head (λ place. place.start ≤ place.end) place places up in
-    let ends = lie.0 in
-    omega arith
+    grind (arith, All-tail, All-head, front_below place.start places front (All-tail (λ place. place.start ≤ place.end) place places up) lie.1)
 
 pub ends_below : (end : ℕ) (places : List Place) (front : ℕ) → All (λ place. place.start ≤ place.end) places → LieFrom end places front
     → All (λ place. place.end ≤ end) places
 ends_below end [] front up lie = All-nil (λ place. place.end ≤ end)
 ends_below end (place ∷ places) front up lie =
-    let here : place.start ≤ place.end = All-head (λ place. place.start ≤ place.end) place places up in
-    let ends = lie.0 in
-    let rest = ends_below place.start places front (All-tail (λ place. place.start ≤ place.end) place places up) lie.1 in
-    All-cons (λ place. place.end ≤ end) place places (omega arith) (λ k d lt. let below = rest k d lt in omega arith)
+    grind (arith, All-head, All-tail, All-cons, ends_below place.start places front (All-tail (λ place. place.start ≤ place.end) place places up) lie.1)
 
 -- ---- from the one to the other
 
@@ -105,9 +77,7 @@ module _ (copies : List (List ℕ)) where
   all_upright : (payload : List ℕ) (places : List Place)
       → All (λ place. StandsAs copies place.start place.end (slice_range payload place.start place.end) place.standing) places
       → All (λ place. place.start ≤ place.end) places
-  all_upright payload places stand k d lt =
-      let place : Place = get_or places k d in
-      let below = stands_below copies place.start place.end (slice_range payload place.start place.end) place.standing (stand k d lt) in omega arith
+  all_upright payload places stand k d lt = grind (arith, stands_below)
 
   -- some copy has what can't be divided
   copy_before : (end : ℕ) (places : List Place) (front : ℕ) (payload : List ℕ) → IsSpliceBefore copies end places front payload
@@ -172,8 +142,7 @@ module _ (copies : List (List ℕ)) where
       let far = front_below place.start places front up claim.lie.1 in
       let tail : take (place.end - place.start) (drop place.start payload) ≡ drop place.start payload =
       take_all (place.end - place.start) (drop place.start payload) (omega (arith, length-drop place.start payload)) in
-      let whole : take place.start payload ++ slice_range payload place.start place.end ≡ payload =
-      ap (λ z. take place.start payload ++ z) tail ∙ take-append-drop place.start payload in
+      let whole : take place.start payload ++ slice_range payload place.start place.end ≡ payload = cc (take-append-drop place.start payload) in
       let before = splice_before place.start places front (take place.start payload) (reach_less copies end place.start (omega arith) reach) (record {
         size = length-take-le place.start payload (omega arith);
         lie = claim.lie.1;
@@ -201,6 +170,4 @@ module _ (copies : List (List ℕ)) where
 
   pub division_walk : (spliced : SplicedValue) → IsDivisionOf copies spliced
       → IsSpliceBefore copies (length spliced.payload) spliced.places spliced.front spliced.payload
-  division_walk spliced h =
-      splice_before (length spliced.payload) spliced.places spliced.front spliced.payload (λ copy there. omega (arith, h.one_length copy there))
-      (record { size = refl; lie = h.lie; stand = h.stand; stop = h.stop; before = h.before })
+  division_walk spliced h = grind (arith, splice_before)

@@ -1,23 +1,10 @@
 -- A frame that is given back: its chain is whole, and each of its links passes its parity.
-use Rattle.std.proofs.Common.{◌≡◌, ℕ, ◌+◌, ◌≤◌, List, [], ◌∷◌, length, get_or, sym, ◌∙◌, subst, arith, inl, inr}
-use Rattle.std.specs.Prelude.{All, slice_range}
-use Rattle.std.proofs.lemmas.List.Elements.{All-head, All-tail, All-contains_itself}
-use Rattle.ffv1_bits.specs.Parity.{PassesParity}
-use Rattle.ffv1_slice.specs.Chain.{FooterGives, IsEnd, IsFramed, LinkValue, link_of}
-use Rattle.ffv1_slice.specs.Chain.IsEnd.{last, before}
-use Rattle.ffv1_slice.proofs.NearLaws.{length-range, size_of_range}
-use Rattle.ffv1_splice.specs.Pieces.{AllReach, HasContent, IsPiece}
-use Rattle.ffv1_splice.specs.Standings.{versions_at, StandsAs}
-use Rattle.ffv1_splice.specs.Splice.{SplicedValue, LieFrom, IsSpliceOf, IsSettledOrWoven, IsGivenBack}
-use Rattle.ffv1_splice.specs.declared.place.Standing.{Standing}
-use Rattle.ffv1_splice.specs.declared.place.Standing.TheVariants.{Settled, Woven}
-use Rattle.ffv1_splice.specs.declared.place.Place.{Place}
+use Rattle.ffv1_splice.proofs.Common.{◌≡◌, ℕ, ◌+◌, ◌≤◌, List, [], ◌∷◌, length, get_or, sym, subst, arith, inl, inr, All, slice_range, All-head, All-tail, All-contains_itself, PassesParity, FooterGives, IsEnd, IsFramed, LinkValue, link_of, last, before, length-range, size_of_range, AllReach, HasContent, IsPiece, versions_at, StandsAs, SplicedValue, LieFrom, IsSpliceOf, IsSettledOrWoven, IsGivenBack, Standing, Settled, Woven, Place, IsWholeFrame, GivenBackIsWhole}
 use Rattle.ffv1_splice.proofs.Walks.{reach_less}
 use Rattle.ffv1_splice.proofs.Narrowed.{piece_out}
 use Rattle.ffv1_splice.proofs.SplicePlaces.{places_lie, places_within}
 use Rattle.ffv1_splice.proofs.StandingPlaces.{IsPlaceOf, place_of}
 use Rattle.ffv1_splice.proofs.StandingPlaces.IsPlaceOf.{above, between, undivided, below}
-use Rattle.ffv1_splice.specs.Whole.{IsWholeFrame, GivenBackIsWhole}
 
 -- ---- places that are links of the frame
 
@@ -60,9 +47,7 @@ module _ (frame : List ℕ) where
       }
 
   same_start : (end start : ℕ) → FooterGives frame start end → (next : IsNextPlace end) → next.place.start ≡ start
-  same_start end start cut next =
-      let own : FooterGives frame next.place.start end = subst (FooterGives frame next.place.start) next.ends next.link.cut in
-      omega arith
+  same_start end start cut next = grind arith
 
   module _ (all : ArePlacesTo frame (length frame)) where
     places_to : (end : ℕ) → IsEnd frame end → ArePlacesTo frame end
@@ -95,17 +80,7 @@ pub record IsWholeSlice (start end : ℕ) (bytes : List ℕ) : Type 0 where
 -- a piece is one, where it is within its copy
 slice_of_piece : (copies : List (List ℕ)) (end : ℕ) (piece : LinkValue) → AllReach copies end → IsPiece copies end piece
     → IsWholeSlice piece.start end piece.bytes
-slice_of_piece copies end piece reach h =
-    let content : HasContent piece.start end = h.content in
-    let cut : FooterGives h.copy piece.start end = h.cut in
-    let long = reach h.copy h.there in
-    let size = length-range h.copy piece.start end (omega arith) long in
-    let claim = size_of_range h.copy piece.start end (omega arith) long in
-    record {
-      content = content;
-      framed = subst IsFramed (sym h.bytes) (record { footer = omega arith; size = sym claim ∙ omega arith });
-      passes = h.passes;
-    }
+slice_of_piece copies end piece reach h = grind (arith, length-range, size_of_range)
 
 module _ (copies : List (List ℕ)) (spliced : SplicedValue) (is : IsSpliceOf copies spliced) (given : IsGivenBack spliced) where
   reach_to : (end : ℕ) → end ≤ length spliced.payload → AllReach copies end
@@ -118,19 +93,9 @@ module _ (copies : List (List ℕ)) (spliced : SplicedValue) (is : IsSpliceOf co
   cut_slice from to start end bytes Settled within reach stands right =
       slice_of_piece copies (from + end) (record { start = from + start; bytes = bytes }) (reach_less copies to (from + end) within reach)
       (piece_out from to copies end (record { start = start; bytes = bytes }) within stands.there)
-  cut_slice from to start end bytes (Woven count) within reach (inl stands) right =
-      let valid = stands.weave'.0.there in
-      let content : HasContent start end = stands.claim.there.content in
-      record { content = omega arith; framed = valid.passes.0; passes = valid.passes.1 }
-  cut_slice from to start end bytes (Woven count) within reach (inr (inr stands)) right =
-      let valid = stands.weave'.0.there in
-      let content : HasContent start end = stands.claim.content in
-      record { content = omega arith; framed = valid.passes.0; passes = valid.passes.1 }
-  cut_slice from to start end bytes (Woven count) within reach (inr (inl stands)) right =
-      let valid = stands.1.weave'.0.there in
-      let content : HasContent 0 end = stands.1.content in
-      let first : start ≡ 0 = stands.0 in
-      record { content = omega arith; framed = valid.passes.0; passes = valid.passes.1 }
+  cut_slice from to start end bytes (Woven count) within reach (inl stands) right = grind arith
+  cut_slice from to start end bytes (Woven count) within reach (inr (inr stands)) right = grind arith
+  cut_slice from to start end bytes (Woven count) within reach (inr (inl stands)) right = grind arith
   cut_slice from to start end bytes standing within reach stands right = absurd right
 
   abbrev IsSliceThere : Place → Type 0
@@ -144,11 +109,7 @@ module _ (copies : List (List ℕ)) (spliced : SplicedValue) (is : IsSpliceOf co
   place_slice : (place : Place) → place.end ≤ length spliced.payload → IsSettledOrWoven place.standing → IsPlaceOf copies spliced is place
       → IsSliceThere place
   place_slice place within right (above settled) = slice_there place within settled.only.there
-  place_slice place within right (between h) =
-      let bytes : List ℕ = slice_range spliced.payload place.start place.end in
-      subst (λ s. IsWholeSlice s place.end bytes) (sym h.starts)
-      (subst (λ e. IsWholeSlice (h.from + h.start) e bytes) (sym h.ends)
-      (cut_slice h.from h.to h.start h.end bytes place.standing h.within h.reach h.stands right))
+  place_slice place within right (between h) = grind (arith, cut_slice)
   place_slice place within right (undivided stands) = absurd (subst IsSettledOrWoven stands right)
   place_slice place within right (below settled) = slice_there place within settled.only.there
 
@@ -159,12 +120,7 @@ module _ (copies : List (List ℕ)) (spliced : SplicedValue) (is : IsSpliceOf co
       (place_of copies spliced is place (All-contains_itself spliced.places k d lt))
 
   link_of_place : (place : Place) → place.end ≤ length spliced.payload → IsSliceThere place → IsLinkPlace spliced.payload place
-  link_of_place place within slice =
-      let content : HasContent place.start place.end = slice.content in
-      let size = length-range spliced.payload place.start place.end (omega arith) within in
-      let claim = size_of_range spliced.payload place.start place.end (omega arith) within in
-      let own = slice.framed.size in
-      record { content = content; cut = omega arith; passes = slice.passes }
+  link_of_place place within slice = grind (arith, length-range, size_of_range)
 
   pub whole_given_back : IsWholeFrame spliced.payload
   whole_given_back =

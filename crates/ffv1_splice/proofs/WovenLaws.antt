@@ -1,28 +1,6 @@
 -- What is woven of copies of an original.
-use Rattle.std.proofs.Common.{◌≡◌, ℕ, ◌<◌, List, length, get_or, map, refl, sym, ◌∙◌, subst, arith, inl, inr}
-use Rattle.std.specs.Prelude.{All, Contains, slice_range}
-use Rattle.std.proofs.lemmas.List.Elements.{All-contains_itself}
-use Rattle.std.proofs.lemmas.Bool.{cases_eq}
-use Rattle.ffv1_bits.specs.Parity.{AreBytes, PassesParity}
-use Rattle.ffv1_bits.proofs.Bytes.{AreBytes-range}
-use Rattle.ffv1_slice.specs.Chain.{FooterGives, IsEnd, IsLinkOf, IsFramed}
-use Rattle.ffv1_slice.specs.Chain.IsEnd.{last}
-use Rattle.ffv1_slice.specs.Members.{IsOnly, IsOfTwo}
-use Rattle.ffv1_slice.proofs.NearLaws.{length-range, size_of_range}
-use Rattle.ffv1_weave.specs.Combinations.{IsAmongTried}
-use Rattle.ffv1_weave.specs.Laws.{KeepsOriginal}
-use Rattle.ffv1_weave.specs.Weave.{Weave, IsWeaveOf, AreMany}
+use Rattle.ffv1_splice.proofs.Common.{◌≡◌, ℕ, ◌<◌, List, length, get_or, map, refl, sym, ◌∙◌, subst, arith, inl, inr, All, Contains, slice_range, All-contains_itself, cases_eq, AreBytes, PassesParity, AreBytes-range, FooterGives, IsEnd, IsLinkOf, IsFramed, last, IsOnly, IsOfTwo, length-range, size_of_range, IsAmongTried, KeepsOriginal, Weave, IsWeaveOf, AreMany, Slice, original_is_woven, HasContent, IsClaimedStart, versions_at, sized, IsWeaveAt, IsUnwovenAt, IsWeaveOfSeveral, StandsAs, SplicedValue, IsDivisionOf, IsSpliceOf, IsSettledOrWoven, IsGivenBack, AreCopiesOf, IsTriedAt, AreWeavable, KeepsLink, WovenIsOriginal, GivenBackIsOriginal, Standing, Settled, Woven, Voted, Repaired, Disputed, Missing, Undivided, Place}
 use Rattle.ffv1_weave.specs.Weave.Weave.{woven as weave_woven, missing as weave_missing}
-use Rattle.ffv1_weave.specs.declared.check.Check.TheVariants.{Slice}
-use Rattle.ffv1_weave.proofs.AmongTried.{original_is_woven}
-use Rattle.ffv1_splice.specs.Pieces.{HasContent, IsClaimedStart}
-use Rattle.ffv1_splice.specs.Standings.{versions_at, sized, IsWeaveAt, IsUnwovenAt, IsWeaveOfSeveral, StandsAs}
-use Rattle.ffv1_splice.specs.Splice.{SplicedValue, IsDivisionOf, IsSpliceOf, IsSettledOrWoven, IsGivenBack}
-use Rattle.ffv1_splice.specs.Originals.{AreCopiesOf, IsTriedAt, AreWeavable}
-use Rattle.ffv1_splice.specs.Laws.{KeepsLink, WovenIsOriginal, GivenBackIsOriginal}
-use Rattle.ffv1_splice.specs.declared.place.Standing.{Standing}
-use Rattle.ffv1_splice.specs.declared.place.Standing.TheVariants.{Settled, Woven, Voted, Repaired, Disputed, Missing, Undivided}
-use Rattle.ffv1_splice.specs.declared.place.Place.{Place}
 use Rattle.ffv1_splice.proofs.DividedLinks.{end_within, link_at, AreLinkPlaces, link_places, settled_link, same_payload}
 use Rattle.ffv1_splice.proofs.Versions.{version_of}
 use Rattle.ffv1_splice.proofs.PlaceSteps.{claim_below, unwoven_weave, missing_unwoven}
@@ -36,12 +14,7 @@ use Rattle.ffv1_splice.proofs.OriginalLaws.{settled_is_original, as_long, above_
 
 -- a link's slice has its footer
 pub framed_link : (original : List ℕ) (start end : ℕ) → IsLinkOf original start end → IsFramed (slice_range original start end)
-framed_link original start end link =
-    let cut : FooterGives original start end = link.cut in
-    let within = end_within original end link.is_end in
-    let size = length-range original start end (omega arith) within in
-    let same = size_of_range original start end (omega arith) within in
-    record { footer = omega arith; size = omega arith }
+framed_link original start end link = grind (arith, end_within, length-range, size_of_range)
 
 -- ---- a slice that is among the combinations
 
@@ -64,8 +37,7 @@ module _ (copies : List (List ℕ)) (start end : ℕ) (slice : List ℕ) (framed
   woven_slice bytes (Woven n) count is (inl h) =
       slice_of_weave slice framed passes (versions_at copies start end) bytes n (tried.claimed h.claim.there) h.weave'
   woven_slice bytes (Woven n) count is (inr (inr h)) =
-      slice_of_weave slice framed passes (map sized (versions_at copies start end)) bytes (get_or h.tried start 0)
-      (tried.several h.several (versions_bytes copies start end h.are_bytes)) h.weave'
+      cc (slice_of_weave slice framed passes (map sized (versions_at copies start end)) bytes (get_or h.tried start 0) (tried.several h.several (versions_bytes copies start end h.are_bytes)) h.weave')
   woven_slice bytes (Woven n) count is (inr (inl h)) =
       let first : IsTriedAt copies 0 end slice = subst (λ s. IsTriedAt copies s end slice) h.0 tried in
       slice_of_weave slice framed passes (map sized (versions_at copies 0 end)) bytes n (first.unclaimed h.1.content (h.1.no_claim 0)) h.1.weave'
@@ -103,13 +75,7 @@ module _ (original : List ℕ) (copies : List (List ℕ)) (spliced : SplicedValu
   -- a place that is neither woven nor repaired, missing or voted
   keeps_unless : (place : Place) → ((n : ℕ) → place.standing ≡ Woven n → ⊥) → ((n : ℕ) → place.standing ≡ Repaired n → ⊥)
       → (place.standing ≡ Missing → ⊥) → ((n : ℕ) → place.standing ≡ Voted n → ⊥) → KeepsLink original copies spliced place
-  keeps_unless place not_woven not_repaired not_missing not_voted =
-      record {
-        woven = λ n woven. absurd (not_woven n woven);
-        unrepaired = λ n repaired. absurd (not_repaired n repaired);
-        missing = λ missing. absurd (not_missing missing);
-        voted = λ n voted. absurd (not_voted n voted);
-      }
+  keeps_unless place not_woven not_repaired not_missing not_voted = grind arith
 
   keeps_settled : (place : Place) → place.standing ≡ Settled → KeepsLink original copies spliced place
   keeps_settled place settled = keeps_unless place (λ n woven. cc) (λ n repaired. cc) (λ missing. cc) (λ n voted. cc)
@@ -203,15 +169,13 @@ module _ (original : List ℕ) (copies : List (List ℕ)) (spliced : SplicedValu
       → StandsAs copies start end bytes standing → bytes ≡ slice_range original start end
   has_link start end bytes Settled link right h = (settled_link original copies weavable.agree start end bytes Settled link.is_end refl h).1
   has_link start end bytes (Woven count) link right h =
-      woven_slice copies start end (slice_range original start end) (framed_link original start end link) (weavable.passes start end link)
-      (weavable.among start end link) bytes (Woven count) count refl h
+      cc (woven_slice copies start end (slice_range original start end) (framed_link original start end link) (weavable.passes start end link) (weavable.among start end link) bytes (Woven count) count refl h)
   has_link start end bytes standing link right h = absurd right
 
   each_same : All (λ place. slice_range spliced.payload place.start place.end ≡ slice_range original place.start place.end) spliced.places
   each_same k d lt =
       let place : Place = get_or spliced.places k d in
-      has_link place.start place.end (slice_range spliced.payload place.start place.end) place.standing (places.each k d lt) (given.1 k d lt)
-      (is.stand k d lt)
+      cc (has_link place.start place.end (slice_range spliced.payload place.start place.end) place.standing (places.each k d lt) (given.1 k d lt) (is.stand k d lt))
 
   pub given_back_divided : AreLinkPlaces original (length original) spliced.places spliced.front × (spliced.payload ≡ original)
   given_back_divided = (places, same_payload original spliced (length original) places is.lie long each_same)
@@ -225,8 +189,7 @@ given_link : (original : List ℕ) (copies : List (List ℕ)) (spliced : Spliced
 given_link original copies spliced weavable is place there link right Settled stands =
     (settled_is_original original copies spliced place weavable.agree is there stands link.is_end).1
 given_link original copies spliced weavable is place there link right (Woven count) stands =
-    (woven_is_original original copies spliced place is there link (weavable.passes place.start place.end link)
-    (weavable.among place.start place.end link)).woven count stands
+    cc ((woven_is_original original copies spliced place is there link (weavable.passes place.start place.end link) (weavable.among place.start place.end link)).woven count stands)
 given_link original copies spliced weavable is place there link right standing stands = absurd (subst IsSettledOrWoven stands right)
 
 module _ (original : List ℕ) (copies : List (List ℕ)) (spliced : SplicedValue) (of : AreCopiesOf original copies) (weavable : AreWeavable original copies)
@@ -243,10 +206,7 @@ module _ (original : List ℕ) (copies : List (List ℕ)) (spliced : SplicedValu
 
   given_same : spliced.payload ≡ original
   given_same =
-      same_payload original spliced (length original) given_links (places_lie copies spliced is) (as_long original copies spliced is of weavable.agree)
-      (λ k d lt. let place : Place = get_or spliced.places k d in
-      given_link original copies spliced weavable is place (All-contains_itself spliced.places k d lt) (given_links.each k d lt) (given.1 k d lt)
-      place.standing refl)
+      cc (same_payload original spliced (length original) given_links (places_lie copies spliced is) (as_long original copies spliced is of weavable.agree) (λ k d lt. let place : Place = get_or spliced.places k d in given_link original copies spliced weavable is place (All-contains_itself spliced.places k d lt) (given_links.each k d lt) (given.1 k d lt) place.standing refl))
 
 pub given_back_is_original : GivenBackIsOriginal
 given_back_is_original original copies spliced of weavable is given =

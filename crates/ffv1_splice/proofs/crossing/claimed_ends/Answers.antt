@@ -1,8 +1,4 @@
-use Rattle.std.proofs.Common.{◌+◌, ℕ, List, get_or, take, arith, subst}
-use Rattle.ffv1_splice.specs.Splice.{IsClaimedEnd}
-use Rattle.ffv1_splice.specs.Inner.Tally.{Tallies, starts_tally}
-use Rattle.ffv1_weave.specs.References.{values_of}
-use Rattle.ffv1_weave.proofs.References.{next_value, all_values, nowhere}
+use Rattle.ffv1_splice.proofs.Common.{◌+◌, ℕ, List, get_or, take, arith, subst, IsClaimedEnd, Tallies, starts_tally, values_of, next_value, all_values, nowhere}
 use Rattle.ffv1_splice.proofs.ClaimedEnds.{ends_joined, two_of_first}
 use Rattle.ffv1_splice.proofs.crossing.claimed_ends.Goals as goal
 

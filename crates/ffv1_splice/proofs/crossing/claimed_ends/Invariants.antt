@@ -1,6 +1,5 @@
 use Rattle.std.specs.Prelude.{take, map}
-use Rattle.ffv1_splice.specs.Splice.{IsClaimedEnd}
-use Rattle.ffv1_splice.specs.Inner.Tally.{Tallies, starts_tally}
+use Rattle.ffv1_splice.proofs.Common.{IsClaimedEnd, Tallies, starts_tally}
 use Rattle.ffv1_splice.proofs.crossing.claimed_ends.Given as goal
 
 -- The ends that the copies so far claim.

@@ -1,11 +1,4 @@
-use Rattle.std.proofs.Common.{◌≡◌, ◌+◌, ℕ, List, length, subst}
-use Rattle.ffv1_slice.specs.Members.{IsOnly}
-use Rattle.ffv1_splice.specs.Pieces.{IsPiece, IsClaimedStart, PieceFrom}
-use Rattle.ffv1_splice.specs.Splice.{IsClaimedEnd}
-use Rattle.ffv1_splice.specs.Inner.Tally.{Tallies, pieces_tally, starts_tally}
-use Rattle.ffv1_splice.specs.declared.tally.Starts.{Starts}
-use Rattle.ffv1_splice.specs.declared.tally.Starts.TheVariants.{One}
-use Rattle.ffv1_weave.specs.References.{values_of}
+use Rattle.ffv1_splice.proofs.Common.{◌≡◌, ◌+◌, ℕ, List, length, subst, IsOnly, IsPiece, IsClaimedStart, PieceFrom, IsClaimedEnd, Tallies, pieces_tally, starts_tally, Starts, One, values_of}
 use Rattle.ffv1_splice.proofs.Crossings.{lost_where_claimed, lost_where_no_piece, lost_where_claim, lost_where_borne_out, is_lost}
 use Rattle.ffv1_splice.proofs.crossing.lost_up_to.Goals as goal
 

@@ -1,4 +1,4 @@
-use Rattle.std.proofs.Common.{arith}
+use Rattle.ffv1_splice.proofs.Common.{arith}
 use Rattle.ffv1_splice.proofs.ClaimedEnds.{found_claim}
 use Rattle.ffv1_splice.proofs.crossing.next_claimed.Goals as goal
 

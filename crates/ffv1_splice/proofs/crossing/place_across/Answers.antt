@@ -1,10 +1,4 @@
-use Rattle.std.proofs.Common.{◌≡◌, ◌-◌, ◌≤◌, ℕ, List, length, arith, refl, sym, ap, ◌∙◌, subst}
-use Rattle.ffv1_slice.proofs.NearLaws.{length-range}
-use Rattle.ffv1_splice.specs.Pieces.{AllReach}
-use Rattle.ffv1_splice.specs.Splice.{IsLostUpTo}
-use Rattle.ffv1_splice.specs.Standings.{versions_at}
-use Rattle.ffv1_weave.specs.References.{values_of}
-use Rattle.ffv1_weave.proofs.References.{each_value}
+use Rattle.ffv1_splice.proofs.Common.{◌≡◌, ◌-◌, ◌≤◌, ℕ, List, length, arith, refl, sym, ap, ◌∙◌, subst, length-range, AllReach, IsLostUpTo, versions_at, values_of, each_value}
 use Rattle.ffv1_splice.proofs.Versions.{version_length, length_of}
 use Rattle.ffv1_splice.proofs.Crossings.{crossed_place}
 use Rattle.ffv1_splice.proofs.crossing.place_across.Goals as goal

@@ -1,10 +1,4 @@
-use Rattle.std.proofs.Common.{◌≡◌, ◌+◌, ◌-◌, ◌++◌, ◌∷◌, [], ℕ, List, length, arith, sym, ap, ◌∙◌, subst, inr}
-use Rattle.std.specs.Prelude.{MatchOption}
-use Rattle.std.proofs.lemmas.List.{append_assoc}
-use Rattle.ffv1_splice.specs.Standings.{versions_at}
-use Rattle.ffv1_splice.specs.Splice.{IsWalkUp, IsCrossed, IsLostUpTo, Crossing}
-use Rattle.ffv1_splice.specs.declared.place.Place.{Place}
-use Rattle.ffv1_weave.specs.References.{values_of}
+use Rattle.ffv1_splice.proofs.Common.{◌≡◌, ◌+◌, ◌-◌, ◌++◌, ◌∷◌, [], ℕ, List, length, arith, sym, ap, ◌∙◌, subst, inr, MatchOption, append_assoc, versions_at, IsWalkUp, IsCrossed, IsLostUpTo, Crossing, Place, values_of}
 use Rattle.ffv1_splice.proofs.Crossings.{IsWalkSoFar, so_far_kept, walk_more, walk_stopped}
 use Rattle.ffv1_splice.proofs.crossing.walk_up.Goals as goal
 

@@ -1,4 +1,4 @@
-use Rattle.std.proofs.Common.{◌≡◌, ◌≤◌, length, map}
+use Rattle.ffv1_splice.proofs.Common.{◌≡◌, ◌≤◌, length, map}
 use Rattle.ffv1_splice.proofs.Crossings.{IsWalkSoFar}
 use Rattle.ffv1_splice.proofs.crossing.walk_up.Given as goal
 

@@ -1,11 +1,6 @@
-use Rattle.std.proofs.Common.{◌≡◌, ◌≤◌, ℕ, List, Bor, None, length, drop, arith, ap, sym, ◌∙◌, subst}
-use Rattle.std.specs.Prelude.{All}
+use Rattle.ffv1_splice.proofs.Common.{◌≡◌, ◌≤◌, ℕ, List, Bor, None, length, drop, arith, ap, sym, ◌∙◌, subst, All, values_of, each_value, IsPlaced, IsPlacedOrStop, written}
 use Rattle.ffv1_splice.proofs.Walks.{IsSpliceBefore, division_of}
-use Rattle.ffv1_weave.specs.References.{values_of}
-use Rattle.ffv1_weave.proofs.References.{each_value}
 use Rattle.ffv1_splice.proofs.PlaceSteps.{least_size}
-use Rattle.ffv1_splice.specs.Inner.Placing.{IsPlaced, IsPlacedOrStop}
-use Rattle.ffv1_weave.specs.Parts.{written}
 use Rattle.ffv1_splice.proofs.SpliceSteps.{Continues, length-written, continues_more, continues_end}
 use Rattle.ffv1_splice.proofs.dividing.divide.Goals as goal
 
@@ -13,10 +8,6 @@ use Rattle.ffv1_splice.proofs.dividing.divide.Goals as goal
 reach_end : (copies : List (Bor (List ℕ))) (old payload : List ℕ) (end : ℕ) → All (λ copy. length copy.now ≡ length old) copies
     → length payload ≡ length old → end ≤ length payload → All (λ copy. end ≤ length copy.now) copies
 reach_end copies old payload end long same within k d lt = let size = long k d lt in omega arith
-
-pub place_before-requires-clause-within : goal.place_before-requires-clause-within
-place_before-requires-clause-within c =
-    reach_end c.args.copies.now _ _ c.loop-places.end c.requires.long c.loop-places.invariant.same_length c.loop-places.invariant.within
 
 pub loop-places-preserved : goal.loop-places-preserved
 loop-places-preserved c =
@@ -37,10 +28,6 @@ loop-places-preserved c =
           (continues_more (values_of c.args.copies.now) (length c.args.payload.now) c.loop-places.end c.loop-places.places.items
           c.in-Some.place bytes payload placed.ends size within placed.stands c.loop-places.invariant.after));
     }
-
-pub least_at-requires-clause-within : goal.least_at-requires-clause-within
-least_at-requires-clause-within c =
-    reach_end c.args.copies.now _ _ c.loop-places.end c.requires.long c.loop-places.invariant.same_length c.loop-places.invariant.within
 
 pub returns : goal.returns
 returns c =

@@ -1,6 +1,5 @@
-use Rattle.std.proofs.Common.{◌≡◌, ◌≤◌, ◌++◌, ℕ, List, length, drop, map}
+use Rattle.ffv1_splice.proofs.Common.{◌≡◌, ◌≤◌, ◌++◌, ℕ, List, length, drop, map, Place}
 use Rattle.ffv1_splice.proofs.Walks.{IsSpliceBefore}
-use Rattle.ffv1_splice.specs.declared.place.Place.{Place}
 use Rattle.ffv1_splice.proofs.dividing.divide.Given as goal
 
 -- Whatever stands before the end, it is divided with the places and the bytes after it.

@@ -1,14 +1,5 @@
-use Rattle.std.proofs.Common.{◌≡◌, ◌-◌, ◌<◌, ◌^◌, ℕ, List, Vec, Global, map, refl, subst, inl, inr, arith}
-use Rattle.ffv1_slice.specs.Members.{IsOfNone}
-use Rattle.ffv1_weave.specs.Weave.{IsWeaveOf, weave_tally}
-use Rattle.ffv1_weave.specs.Weave.Weave.{woven}
-use Rattle.ffv1_weave.specs.declared.check.Check.TheVariants.{Slice}
-use Rattle.ffv1_weave.specs.declared.weaving.WeaveResult.{WeaveResult}
+use Rattle.ffv1_splice.proofs.Common.{◌≡◌, ◌-◌, ◌<◌, ◌^◌, ℕ, List, Vec, Global, map, subst, arith, IsOfNone, IsWeaveOf, weave_tally, woven, Slice, WeaveResult, same_versions_weave, values_of, HasContent, IsPiece, IsClaimedStart, versions_at, sized, IsWeaveFromFront}
 use Rattle.ffv1_weave.specs.declared.weaving.WeaveResult.TheVariants as outcomes
-use Rattle.ffv1_weave.proofs.WeaveLaws.{same_versions_weave}
-use Rattle.ffv1_weave.specs.References.{values_of}
-use Rattle.ffv1_splice.specs.Pieces.{HasContent, IsPiece, IsClaimedStart}
-use Rattle.ffv1_splice.specs.Standings.{versions_at, sized, IsWeaveFromFront}
 use Rattle.ffv1_splice.proofs.FirstSlices.{stops_no_claim, not_woven}
 use Rattle.ffv1_splice.proofs.first.first_woven.Goals as goal
 use Rattle.ffv1_splice.proofs.first.first_woven.Goals.{then-end-le-FOOTER_LENGTH-via-then-end-le-FOOTER_LENGTH, then-end-le-FOOTER_LENGTH-via-else-end-le-FOOTER_LENGTH+then-end}
@@ -44,11 +35,3 @@ returns-in_default c =
     not_woven c.in_ok-bytes.field-0 c.in_default.not-Woven bytes count
     (same_versions_weave Slice versions versions (weave_tally c.in_ok-bytes.field-0) (woven bytes count)
     (λ version. ((λ there. there), λ there. there)) claim front.weave'))
-
-pub returns-in-Woven : goal.returns-in-Woven
-returns-in-Woven c =
-    inr (inl (
-      refl,
-      front_of (values_of c.args.copies.now) c.args.end c.requires.none c.requires.no_claim (omega arith) (omega arith) c.in_ok-bytes.field-0
-          c.in-Woven.bytes c.in-Woven.count c.in-Woven.is c.in_ok-bytes.ensures,
-    ))

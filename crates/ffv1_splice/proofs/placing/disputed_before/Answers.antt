@@ -1,9 +1,4 @@
-use Rattle.std.proofs.Common.{◌≤◌, length, refl, subst, inl, arith}
-use Rattle.ffv1_slice.specs.Members.{IsOnly}
-use Rattle.ffv1_splice.specs.Pieces.{IsPiece, IsClaimedStart}
-use Rattle.ffv1_splice.specs.Inner.Tally.{Tallies, starts_tally}
-use Rattle.ffv1_weave.specs.References.{values_of}
-use Rattle.ffv1_weave.proofs.References.{each_value}
+use Rattle.ffv1_splice.proofs.Common.{◌≤◌, length, refl, subst, inl, arith, IsOnly, IsPiece, IsClaimedStart, Tallies, starts_tally, values_of, each_value}
 use Rattle.ffv1_splice.proofs.PlaceSteps.{two_not_only, two_not_none, no_claim, least_size, claim_below}
 use Rattle.ffv1_splice.proofs.placing.disputed_before.Goals as goal
 
@@ -17,22 +12,6 @@ returns-in_default c = (
   },
   refl,
 )
-
-pub least_at-requires-clause-order : goal.least_at-requires-clause-order
-least_at-requires-clause-order c =
-    let claim : IsOnly (IsClaimedStart (values_of c.args.copies.now) c.args.end) c.in-One.start =
-    subst (λ s. Tallies (IsClaimedStart (values_of c.args.copies.now) c.args.end) (starts_tally s)) c.in-One.is c.requires.claim in
-    let below = claim_below (values_of c.args.copies.now) c.in-One.start c.args.end claim.there in
-    omega arith
-
-pub write_at-requires : goal.write_at-requires
-write_at-requires c =
-    let claim : IsOnly (IsClaimedStart (values_of c.args.copies.now) c.args.end) c.in-One.start =
-    subst (λ s. Tallies (IsClaimedStart (values_of c.args.copies.now) c.args.end) (starts_tally s)) c.in-One.is c.requires.claim in
-    let below = claim_below (values_of c.args.copies.now) c.in-One.start c.args.end claim.there in
-    let size = least_size (values_of c.args.copies.now) c.in-One.start c.args.end c.least_at.result.now
-    (each_value c.args.copies.now (λ copy. c.args.end ≤ length copy) c.requires.within) (omega arith) c.least_at.ensures in
-    omega arith
 
 pub returns : goal.returns
 returns c =

@@ -1,19 +1,6 @@
-use Rattle.std.proofs.Common.{◌≤◌, length, subst, refl, arith}
-use Rattle.ffv1_slice.specs.Members.{IsOnly}
-use Rattle.ffv1_splice.specs.Pieces.{IsPiece}
-use Rattle.ffv1_splice.specs.Inner.Tally.{Tallies, pieces_tally}
-use Rattle.ffv1_weave.specs.References.{values_of}
-use Rattle.ffv1_weave.proofs.References.{each_value}
+use Rattle.ffv1_splice.proofs.Common.{◌≤◌, length, subst, refl, IsOnly, IsPiece, Tallies, pieces_tally, values_of, each_value}
 use Rattle.ffv1_splice.proofs.PlaceSteps.{piece_size}
 use Rattle.ffv1_splice.proofs.placing.place_before.Goals as goal
-
-pub write_at-requires : goal.write_at-requires
-write_at-requires c =
-    let only : IsOnly (IsPiece (values_of c.args.copies.now) c.args.end) (record { start = c.in-One.start; bytes = c.in-One.bytes.now }) =
-    subst (λ p. Tallies (IsPiece (values_of c.args.copies.now) c.args.end) (pieces_tally p)) c.in-One.is c.tally_at-starts.ensures.pieces in
-    let size = piece_size (values_of c.args.copies.now) c.args.end (record { start = c.in-One.start; bytes = c.in-One.bytes.now })
-    (each_value c.args.copies.now (λ copy. c.args.end ≤ length copy) c.requires.within) only.there in
-    omega arith
 
 pub returns-in-One : goal.returns-in-One
 returns-in-One c =

@@ -1,8 +1,5 @@
-use Rattle.std.proofs.Common.{◌++◌, ◌∷◌, ℕ, List, [], map, get_or, ap, ◌∙◌, arith}
-use Rattle.std.specs.Prelude.{slice_range}
-use Rattle.std.proofs.lemmas.List.{map-append}
-use Rattle.ffv1_weave.proofs.References.{nowhere}
-use Rattle.ffv1_splice.proofs.Versions.{next_version, all_versions}
+use Rattle.ffv1_splice.proofs.Common.{◌++◌, ◌∷◌, ℕ, List, [], map, get_or, ap, ◌∙◌, arith, slice_range, map-append, nowhere}
+use Rattle.ffv1_splice.proofs.Versions.{next_version}
 use Rattle.ffv1_splice.proofs.placing.versions_at.Goals as goal
 
 pub loop-copy-preserved : goal.loop-copy-preserved
@@ -11,6 +8,3 @@ loop-copy-preserved c =
     ap (map (λ version. version.now)) c.in_ok-push.ensures.items ∙ map-append (λ version. version.now) c.loop-copy.versions.items _
     ∙ ap (λ z. z ++ new ∷ []) c.loop-copy.invariant
     ∙ next_version c.args.copies.now c.args.start c.args.end c.loop-copy.copy-index nowhere (omega arith)
-
-pub returns : goal.returns
-returns c = c.loop-copy.invariant ∙ all_versions c.args.copies.now c.args.start c.args.end c.loop-copy.copy-index (omega arith)

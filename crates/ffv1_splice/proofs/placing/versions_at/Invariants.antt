@@ -1,5 +1,4 @@
-use Rattle.std.proofs.Common.{◌≡◌, map, take}
-use Rattle.ffv1_splice.specs.Standings.{versions_at}
+use Rattle.ffv1_splice.proofs.Common.{◌≡◌, map, take, versions_at}
 use Rattle.ffv1_splice.proofs.placing.versions_at.Given as goal
 
 -- The versions of the copies so far.

@@ -1,14 +1,4 @@
-use Rattle.std.proofs.Common.{◌≡◌, ◌-◌, ◌≤◌, ℕ, ◌+◌, List, [], Bor, Option, Some, Vec, Global, length, get_or, ap, ◌∙◌, inl, inr, arith}
-use Rattle.std.specs.Prelude.{All}
-use Rattle.ffv1_weave.specs.Parts.{written}
-use Rattle.ffv1_weave.specs.Repairs.{IsRepairOf}
-use Rattle.ffv1_weave.specs.Votes.{IsVoteOf}
-use Rattle.ffv1_weave.specs.Weave.Weave.{missing}
-use Rattle.ffv1_splice.specs.Pieces.{AllReach}
-use Rattle.ffv1_splice.specs.Standings.{versions_at, IsWeaveAt, IsRepairAt, IsUnwovenAt, IsMissingAt, IsGap}
-use Rattle.ffv1_splice.specs.declared.place.Standing.TheVariants.{Voted, Repaired, Missing}
-use Rattle.ffv1_weave.specs.References.{values_of}
-use Rattle.ffv1_weave.proofs.References.{each_value}
+use Rattle.ffv1_splice.proofs.Common.{◌≡◌, ◌-◌, ◌≤◌, ℕ, ◌+◌, List, [], Bor, Option, Some, Vec, Global, length, get_or, ap, ◌∙◌, inl, inr, arith, All, written, IsRepairOf, IsVoteOf, missing, AllReach, versions_at, IsWeaveAt, IsRepairAt, IsUnwovenAt, IsMissingAt, IsGap, Voted, Repaired, Missing, values_of, each_value}
 use Rattle.ffv1_splice.proofs.PlaceSteps.{claim_below, gap_size, unwoven_weave, missing_unwoven, placed_as}
 use Rattle.ffv1_splice.proofs.RepairSteps.{IsResult, unwoven_by, is_voted, is_unvoted, is_repaired, is_missing}
 use Rattle.ffv1_splice.proofs.Versions.{version_length, one_length, vote_size, repair_size}

@@ -1,12 +1,4 @@
-use Rattle.std.proofs.Common.{◌≡◌, ◌-◌, ◌≤◌, length, refl, ap, subst, ◌∙◌, inl, inr, arith}
-use Rattle.ffv1_weave.specs.Weave.{IsWeaveOf, weave_tally}
-use Rattle.ffv1_weave.specs.Weave.Weave.{woven, disputed, missing}
-use Rattle.ffv1_weave.specs.declared.check.Check.TheVariants.{Slice}
-use Rattle.ffv1_weave.specs.Parts.{written}
-use Rattle.ffv1_splice.specs.Standings.{versions_at, IsWeaveAt, IsGap}
-use Rattle.ffv1_splice.specs.declared.place.Standing.TheVariants.{Disputed}
-use Rattle.ffv1_weave.specs.References.{values_of}
-use Rattle.ffv1_weave.proofs.References.{each_value}
+use Rattle.ffv1_splice.proofs.Common.{◌≡◌, ◌-◌, ◌≤◌, length, refl, ap, subst, ◌∙◌, inl, inr, arith, IsWeaveOf, weave_tally, woven, disputed, missing, Slice, written, versions_at, IsWeaveAt, IsGap, Disputed, values_of, each_value}
 use Rattle.ffv1_splice.proofs.PlaceSteps.{claim_below, gap_size, stands_weave, placed_as}
 use Rattle.ffv1_splice.proofs.Versions.{version_length, one_length, weave_size}
 use Rattle.ffv1_splice.proofs.placing.weave_at.Goals as goal

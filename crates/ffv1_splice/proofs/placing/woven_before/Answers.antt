@@ -1,11 +1,4 @@
-use Rattle.std.proofs.Common.{◌≡◌, ◌+◌, ◌≤◌, ◌<◌, ℕ, List, [], Bor, Option, Some, Vec, Global, length, get_or, ap, sym, ◌∙◌, subst, arith}
-use Rattle.std.specs.Prelude.{All, MatchOption}
-use Rattle.std.proofs.lemmas.List.Elements.{Contains-get_or}
-use Rattle.ffv1_weave.specs.Parts.{written}
-use Rattle.ffv1_weave.specs.References.{values_of}
-use Rattle.ffv1_weave.proofs.References.{length-values_of, each_value}
-use Rattle.ffv1_splice.specs.Standings.{StandsAs, IsStop}
-use Rattle.ffv1_splice.specs.declared.place.Standing.TheVariants.{Woven}
+use Rattle.ffv1_splice.proofs.Common.{◌≡◌, ◌+◌, ◌≤◌, ◌<◌, ℕ, List, [], Bor, Option, Some, Vec, Global, length, get_or, ap, sym, ◌∙◌, subst, arith, All, MatchOption, Contains-get_or, written, values_of, length-values_of, each_value, StandsAs, IsStop, Woven}
 use Rattle.ffv1_splice.proofs.FirstSlices.{woven_size}
 use Rattle.ffv1_splice.proofs.PlaceSteps.{placed_as}
 use Rattle.ffv1_splice.proofs.placing.woven_before.Goals as goal

@@ -1,7 +1,4 @@
-use Rattle.std.proofs.Common.{ℕ, List, [], ◌∷◌, ◌++◌, get_or, take, arith, sym, subst}
-use Rattle.ffv1_splice.specs.Splice.{IsBound}
-use Rattle.ffv1_weave.specs.References.{values_of}
-use Rattle.ffv1_weave.proofs.References.{next_value, all_values, nowhere}
+use Rattle.ffv1_splice.proofs.Common.{ℕ, List, [], ◌∷◌, ◌++◌, get_or, take, arith, sym, subst, IsBound, values_of, next_value, all_values, nowhere}
 use Rattle.ffv1_splice.proofs.BoundSteps.{bound_uncut, bound_failed, bound_stays, bound_lower}
 use Rattle.ffv1_splice.proofs.settling.bound_below.Goals as goal
 use Rattle.ffv1_splice.proofs.settling.bound_below.Goals.{in-Some+then-start-bound+then-passes, in-Some+else-start-bound, else-start-bound-via-then-start-bound+else-passes, else-start-bound-via-else-start-bound, in_default}

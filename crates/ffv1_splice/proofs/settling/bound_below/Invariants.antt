@@ -1,5 +1,5 @@
 use Rattle.std.specs.Prelude.{take, map}
-use Rattle.ffv1_splice.specs.Splice.{IsBound}
+use Rattle.ffv1_splice.proofs.Common.{IsBound}
 use Rattle.ffv1_splice.proofs.settling.bound_below.Given as goal
 
 -- The bound of the copies so far.

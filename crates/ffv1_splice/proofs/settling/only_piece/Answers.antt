@@ -1,7 +1,4 @@
-use Rattle.std.proofs.Common.{subst, inl, inr}
-use Rattle.ffv1_splice.specs.Pieces.{IsPiece}
-use Rattle.ffv1_splice.specs.Inner.Tally.{Tallies, pieces_tally}
-use Rattle.ffv1_weave.specs.References.{values_of}
+use Rattle.ffv1_splice.proofs.Common.{subst, inl, inr, IsPiece, Tallies, pieces_tally, values_of}
 use Rattle.ffv1_splice.proofs.PlaceSteps.{none_not_only, two_not_only}
 use Rattle.ffv1_splice.proofs.settling.only_piece.Goals as goal
 

@@ -1,12 +1,4 @@
-use Rattle.std.proofs.Common.{◌≡◌, ◌≤◌, ℕ, List, [], ◌∷◌, ◌++◌, length, arith, ap, refl, sym, ◌∙◌, subst}
-use Rattle.std.specs.Prelude.{All}
-use Rattle.ffv1_slice.specs.Members.{IsOnly}
-use Rattle.ffv1_splice.specs.Pieces.{IsPiece}
-use Rattle.ffv1_splice.specs.Splice.{LieFrom, IsSettledDown}
-use Rattle.ffv1_splice.specs.declared.place.Standing.TheVariants.{Settled}
-use Rattle.ffv1_splice.specs.declared.place.Place.{Place}
-use Rattle.ffv1_weave.specs.References.{values_of}
-use Rattle.ffv1_weave.proofs.References.{each_value}
+use Rattle.ffv1_splice.proofs.Common.{◌≡◌, ◌≤◌, ℕ, List, [], ◌∷◌, ◌++◌, length, arith, refl, sym, ◌∙◌, subst, All, IsOnly, IsPiece, LieFrom, IsSettledDown, Settled, Place, values_of, each_value}
 use Rattle.ffv1_splice.proofs.PlaceSteps.{piece_size}
 use Rattle.ffv1_splice.proofs.SpliceSteps.{length-written}
 use Rattle.ffv1_splice.proofs.SettlingSteps.{lie_more, down_more}
@@ -27,8 +19,7 @@ loop-start-preserved c =
     let only : IsOnly (IsPiece copies end) (record { start = start; bytes = bytes }) = c.in-Some.ensures in
     let size = piece_size copies end (record { start = start; bytes = bytes })
     (each_value c.args.copies.now (λ copy. end ≤ length copy) reach) only.there in
-    let kept : length c.write_at.new.payload ≡ length payload =
-    ap length c.write_at.ensures ∙ length-written payload start bytes (omega arith) in
+    let kept : length c.write_at.new.payload ≡ length payload = cc (length-written payload start bytes (omega arith)) in
     record {
       same_length = kept ∙ same;
       within = omega arith;

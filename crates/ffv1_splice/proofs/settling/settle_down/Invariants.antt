@@ -1,5 +1,5 @@
-use Rattle.std.proofs.Common.{◌≡◌, ◌≤◌, length, map, All}
-use Rattle.ffv1_splice.specs.Splice.{LieFrom, IsSettledDown}
+use Rattle.ffv1_splice.proofs.Common.{◌≡◌, ◌≤◌, length, map, LieFrom, IsSettledDown}
+use Rattle.std.proofs.Common.{All}
 use Rattle.ffv1_splice.proofs.settling.settle_down.Given as goal
 
 abbrev pub invariant-loop-start : goal.invariant-loop-start

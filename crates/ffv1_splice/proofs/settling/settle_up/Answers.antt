@@ -1,30 +1,7 @@
-use Rattle.std.proofs.Common.{◌≡◌, ◌+◌, ℕ, List, [], ◌∷◌, ◌++◌, length, take, arith, ap, refl, sym, ◌∙◌, subst}
-use Rattle.std.specs.Prelude.{All}
-use Rattle.std.proofs.lemmas.List.{append_assoc, append-nil}
-use Rattle.std.proofs.lemmas.List.Elements.{All-nil}
-use Rattle.ffv1_splice.specs.Pieces.{IsShortest}
-use Rattle.ffv1_splice.specs.Splice.{IsSettledUp}
-use Rattle.ffv1_splice.specs.declared.place.Standing.TheVariants.{Settled}
-use Rattle.ffv1_splice.specs.declared.place.Place.{Place}
-use Rattle.ffv1_weave.specs.References.{values_of}
+use Rattle.ffv1_splice.proofs.Common.{◌≡◌, ◌+◌, ℕ, List, [], ◌∷◌, ◌++◌, length, take, arith, ap, refl, sym, ◌∙◌, subst, All, append_assoc, IsShortest, IsSettledUp, Settled, Place, values_of}
 use Rattle.ffv1_splice.proofs.SpliceSteps.{length-written}
 use Rattle.ffv1_splice.proofs.SettlingSteps.{take_earlier, before_written, rise_more, up_more}
 use Rattle.ffv1_splice.proofs.settling.settle_up.Goals as goal
-
-pub loop-bytes-init : goal.loop-bytes-init
-loop-bytes-init c =
-    record {
-      same_length = refl;
-      within = c.requires.within;
-      after = omega arith;
-      before = refl;
-      added = (
-        [],
-        sym (append-nil c.args.places.now.items),
-        refl,
-        All-nil (IsSettledUp (values_of c.args.copies.now) (length c.args.payload.now) c.args.payload.now),
-      );
-    }
 
 pub loop-bytes-preserved : goal.loop-bytes-preserved
 loop-bytes-preserved c =

@@ -1,6 +1,5 @@
-use Rattle.std.proofs.Common.{◌≡◌, ◌≤◌, ◌-◌, ◌++◌, List, length, take, map, All}
-use Rattle.ffv1_splice.specs.Splice.{RiseFrom, IsSettledUp}
-use Rattle.ffv1_splice.specs.declared.place.Place.{Place}
+use Rattle.ffv1_splice.proofs.Common.{◌≡◌, ◌≤◌, ◌-◌, ◌++◌, List, length, take, map, RiseFrom, IsSettledUp, Place}
+use Rattle.std.proofs.Common.{All}
 use Rattle.ffv1_splice.proofs.settling.settle_up.Given as goal
 
 -- The places that were added rise to the start, and nothing before them changed.

@@ -1,6 +1,4 @@
-use Rattle.std.proofs.Common.{◌+◌, length}
-use Rattle.ffv1_splice.specs.Pieces.{PieceFrom}
-use Rattle.ffv1_weave.specs.References.{values_of}
+use Rattle.ffv1_splice.proofs.Common.{◌+◌, length, PieceFrom, values_of}
 use Rattle.ffv1_splice.proofs.SettlingSteps.{shared_end, alone_at_end}
 use Rattle.ffv1_splice.proofs.settling.settled_from.Goals as goal
 

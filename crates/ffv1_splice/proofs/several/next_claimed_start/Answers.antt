@@ -1,10 +1,4 @@
-use Rattle.std.proofs.Common.{◌≡◌, ◌++◌, ◌∷◌, [], ℕ, List, Option, Some, get_or, take, sym, subst, arith, inl, inr}
-use Rattle.std.specs.Prelude.{Contains}
-use Rattle.std.proofs.lemmas.List.Elements.{Contains-append_cases}
-use Rattle.ffv1_bits.specs.Parity.{AreBytes}
-use Rattle.ffv1_weave.specs.References.{values_of}
-use Rattle.ffv1_weave.proofs.References.{next_value, all_values, nowhere}
-use Rattle.ffv1_weave.proofs.ChoiceSteps.{alone}
+use Rattle.ffv1_splice.proofs.Common.{◌≡◌, ◌++◌, ◌∷◌, [], ℕ, List, Option, Some, get_or, take, sym, subst, arith, inl, inr, Contains, Contains-append_cases, AreBytes, values_of, next_value, all_values, nowhere, alone}
 use Rattle.ffv1_splice.proofs.SeveralSteps.{IsNext, next_kept, next_more}
 use Rattle.ffv1_splice.proofs.several.next_claimed_start.Goals as goal
 use Rattle.ffv1_splice.proofs.several.next_claimed_start.Goals.{in-Some, in_default}
@@ -43,8 +37,3 @@ pub returns-clause-next : goal.returns-clause-next
 returns-clause-next c =
     subst (λ copies. IsNext copies c.args.end c.args.from c.loop-copy.next) (all_values c.args.copies.now c.loop-copy.copy-index (omega arith))
     c.loop-copy.invariant.next
-
-pub returns-clause-bytes : goal.returns-clause-bytes
-returns-clause-bytes c =
-    subst (λ copies. (one : List ℕ) → Contains copies one → AreBytes one) (all_values c.args.copies.now c.loop-copy.copy-index (omega arith))
-    c.loop-copy.invariant.bytes

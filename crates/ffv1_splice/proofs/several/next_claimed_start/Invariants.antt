@@ -1,6 +1,4 @@
-use Rattle.std.proofs.Common.{ℕ, List, map, take}
-use Rattle.std.specs.Prelude.{Contains}
-use Rattle.ffv1_bits.specs.Parity.{AreBytes}
+use Rattle.ffv1_splice.proofs.Common.{ℕ, List, map, take, Contains, AreBytes}
 use Rattle.ffv1_splice.proofs.SeveralSteps.{IsNext}
 use Rattle.ffv1_splice.proofs.several.next_claimed_start.Given as goal
 

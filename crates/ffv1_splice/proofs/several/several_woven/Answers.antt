@@ -1,7 +1,4 @@
-use Rattle.std.proofs.Common.{subst, inr}
-use Rattle.ffv1_weave.specs.References.{values_of}
-use Rattle.ffv1_splice.specs.Pieces.{IsPiece, IsClaimedStart}
-use Rattle.ffv1_splice.specs.Inner.Several.{AreTriedBefore, tried_tally}
+use Rattle.ffv1_splice.proofs.Common.{subst, inr, values_of, IsPiece, IsClaimedStart, AreTriedBefore, tried_tally}
 use Rattle.ffv1_splice.proofs.PlaceSteps.{none_not_only, two_not_only, two_not_none}
 use Rattle.ffv1_splice.proofs.SeveralSteps.{several_of, none_of_several}
 use Rattle.ffv1_splice.proofs.several.several_woven.Goals as goal

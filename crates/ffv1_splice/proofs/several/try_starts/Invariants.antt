@@ -1,5 +1,4 @@
-use Rattle.std.proofs.Common.{◌≤◌, ◌-◌, map}
-use Rattle.ffv1_splice.specs.Inner.Several.{AreTriedBefore, tried_tally}
+use Rattle.ffv1_splice.proofs.Common.{◌≤◌, ◌-◌, map, AreTriedBefore, tried_tally}
 use Rattle.ffv1_splice.proofs.several.try_starts.Given as goal
 
 -- What comes of the starts so far.

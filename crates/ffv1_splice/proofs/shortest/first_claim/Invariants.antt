@@ -1,4 +1,4 @@
-use Rattle.std.proofs.Common.{◌+◌, ◌-◌}
+use Rattle.ffv1_splice.proofs.Common.{◌+◌, ◌-◌}
 use Rattle.ffv1_splice.proofs.ClaimSteps.{AreUnclaimed}
 use Rattle.ffv1_splice.proofs.shortest.first_claim.Given as goal
 

@@ -1,18 +1,9 @@
-use Rattle.std.proofs.Common.{◌≡◌, ◌∙◌, ℕ, arith, sym}
-use Rattle.std.specs.Prelude.{slice_range}
-use Rattle.ffv1_bits.specs.Bits.{bits_of}
-use Rattle.ffv1_bits.specs.Parity.{remainder_of}
+use Rattle.ffv1_splice.proofs.Common.{◌≡◌, ◌∙◌, ℕ, arith, sym, slice_range, bits_of, remainder_of}
 use Rattle.ffv1_splice.proofs.ShortestSteps.{judged_first, judged_on, left_on, judged_failed, judged_passed, judged_all}
 use Rattle.ffv1_splice.proofs.shortest.first_end.Goals as goal
 
 pub loop-end-init : goal.loop-end-init
 loop-end-init c = (omega arith, judged_first c.args.copy.now c.args.start c.args.from (omega arith) c.requires.none)
-
-pub first_claim-requires-clause-content : goal.first_claim-requires-clause-content
-first_claim-requires-clause-content c = omega (arith, c.loop-end.invariant.0, c.requires.content)
-
-pub slice_bounds-remainder_after-count : goal.slice_bounds-remainder_after-count
-slice_bounds-remainder_after-count c = omega (arith, c.loop-end.invariant.1.to, c.in-Some.ensures.after)
 
 pub returns-then-left-eq0 : goal.returns-then-left-eq0
 returns-then-left-eq0 c =
@@ -25,9 +16,6 @@ returns-then-left-eq0 c =
     judged_passed c.args.copy.now c.args.start c.loop-end.judged end c.loop-end.left so_far c.args.bound first.cut
     (omega (arith, c.loop-end.invariant.0, first.after, c.requires.content)) (sym c.if-left-eq0.true ∙ is)
     (omega (arith, first.within, c.min-last.ensures)) (omega (arith, first.within, c.min-last.ensures, c.requires.room))
-
-pub loop-end-smaller : goal.loop-end-smaller
-loop-end-smaller c = let first = c.in-Some.ensures in omega (arith, first.after, first.within)
 
 pub loop-end-preserved : goal.loop-end-preserved
 loop-end-preserved c =

@@ -1,4 +1,4 @@
-use Rattle.std.proofs.Common.{◌+◌, ◌-◌, ◌<◌}
+use Rattle.ffv1_splice.proofs.Common.{◌+◌, ◌-◌, ◌<◌}
 use Rattle.ffv1_splice.proofs.ShortestSteps.{AreJudged}
 use Rattle.ffv1_splice.proofs.shortest.first_end.Given as goal
 

@@ -1,7 +1,5 @@
-use Rattle.std.proofs.Common.{◌+◌, ◌-◌, ◌≤◌}
+use Rattle.ffv1_splice.proofs.Common.{◌+◌, ◌-◌, ◌≤◌, IsOfNone, IsPieceFrom}
 use Rattle.std.specs.Prelude.{map}
-use Rattle.ffv1_slice.specs.Members.{IsOfNone}
-use Rattle.ffv1_splice.specs.Pieces.{IsPieceFrom}
 use Rattle.ffv1_splice.proofs.shortest.first_from.Given as goal
 
 -- No piece from the place ends within that distance.

@@ -1,5 +1,4 @@
-use Rattle.std.proofs.Common.{◌≡◌, ◌++◌, ◌∷◌, ◌+◌, [], ℕ, List, take, map, sym, ap, ◌∙◌, arith}
-use Rattle.std.proofs.lemmas.List.{map_push, get_or-map, length-map, take_more}
+use Rattle.ffv1_splice.proofs.Common.{◌≡◌, ◌++◌, ◌∷◌, ◌+◌, [], ℕ, List, take, map, ap, ◌∙◌, arith, map_push, get_or-map, length-map, take_more}
 use Rattle.ffv1_splice.proofs.sized.lent.Goals as goal
 
 pub loop-bytes-preserved : goal.loop-bytes-preserved
@@ -8,9 +7,7 @@ loop-bytes-preserved c =
     let item = c.bytes-item.result in
     let all : List (List ℕ) = map (λ bytes. bytes.items) c.args.all.now in
     let next : take i all ++ item.items ∷ [] ≡ take (i + 1) all =
-    ap (λ x. take i all ++ x ∷ [])
-    (ap (λ bytes. bytes.items) c.bytes-item.is ∙ sym (get_or-map (λ bytes. bytes.items) c.args.all.now i item item.items c.loop-bytes-test.true))
-    ∙ sym (take_more all i item.items (let lt = c.loop-bytes-test.true in omega (arith, length-map c.args.all.now (λ bytes. bytes.items)))) in
+    cc (get_or-map (λ bytes. bytes.items) c.args.all.now i item item.items c.loop-bytes-test.true, take_more all i item.items (let lt = c.loop-bytes-test.true in omega (arith, length-map c.args.all.now (λ bytes. bytes.items)))) in
     ap (map (λ bytes. bytes.now)) c.in_ok-push.ensures.items ∙ map_push (λ bytes. bytes.now) c.loop-bytes.lent.items _
     ∙ ap (λ z. z ++ c.as_slice.result.now ∷ []) c.loop-bytes.invariant
     ∙ ap (λ bytes. take i all ++ bytes ∷ []) c.as_slice.ensures.value ∙ next

@@ -1,4 +1,4 @@
-use Rattle.std.proofs.Common.{◌≡◌, map, take}
+use Rattle.ffv1_splice.proofs.Common.{◌≡◌, map, take}
 use Rattle.ffv1_splice.proofs.sized.lent.Given as goal
 
 abbrev pub invariant-loop-bytes : goal.invariant-loop-bytes

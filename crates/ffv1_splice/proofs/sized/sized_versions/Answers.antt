@@ -1,10 +1,4 @@
-use Rattle.std.proofs.Common.{◌≡◌, ◌≤◌, ◌++◌, ◌∷◌, [], ℕ, List, take, drop, length, map, get_or, sym, ap, ◌∙◌, arith}
-use Rattle.std.specs.Prelude.{slice_range}
-use Rattle.std.proofs.lemmas.List.{map_push}
-use Rattle.ffv1_slice.proofs.NearLaws.{length-range}
-use Rattle.ffv1_weave.specs.References.{values_of}
-use Rattle.ffv1_weave.proofs.References.{next_value, nowhere}
-use Rattle.ffv1_splice.specs.Standings.{versions_at, sized}
+use Rattle.ffv1_splice.proofs.Common.{◌≡◌, ◌≤◌, ◌++◌, ◌∷◌, [], ℕ, List, take, drop, length, map, get_or, sym, ap, ◌∙◌, arith, slice_range, map_push, length-range, values_of, next_value, nowhere, versions_at, sized}
 use Rattle.ffv1_splice.proofs.FirstSlices.{length-sized}
 use Rattle.ffv1_splice.proofs.SpliceSteps.{put_back}
 use Rattle.ffv1_splice.proofs.sized.sized_versions.Goals as goal

@@ -1,10 +1,4 @@
-use Rattle.std.proofs.Common.{◌≡◌, ◌-◌, ◌≤◌, ℕ, List, map, length, ap, subst, ◌∙◌}
-use Rattle.std.proofs.lemmas.Result.{IfOk-weaker}
-use Rattle.ffv1_weave.specs.Weave.{IsWeaveOf, weave_tally}
-use Rattle.ffv1_weave.specs.declared.check.Check.TheVariants.{Slice}
-use Rattle.ffv1_weave.specs.References.{values_of}
-use Rattle.ffv1_weave.proofs.References.{each_value}
-use Rattle.ffv1_splice.specs.Standings.{versions_at, sized}
+use Rattle.ffv1_splice.proofs.Common.{◌≡◌, ◌-◌, ◌≤◌, ℕ, List, map, length, ap, subst, ◌∙◌, IfOk-weaker, IsWeaveOf, weave_tally, Slice, values_of, each_value, versions_at, sized}
 use Rattle.ffv1_splice.proofs.Versions.{one_length}
 use Rattle.ffv1_splice.proofs.FirstSlices.{sized_length}
 use Rattle.ffv1_splice.proofs.sized.weave_sized.Goals as goal

@@ -1,13 +1,5 @@
-use Rattle.std.proofs.Common.{◌≡◌, ℕ, ◌+◌, ◌-◌, ◌≤◌, List, ◌++◌, length, drop, sym, ap, ◌∙◌, subst, arith}
-use Rattle.std.specs.Prelude.{All, map, reverse}
-use Rattle.std.proofs.lemmas.List.{append_assoc}
-use Rattle.ffv1_slice.proofs.NearLaws.{length-range}
-use Rattle.ffv1_splice.specs.Pieces.{AllReach}
-use Rattle.ffv1_splice.specs.Standings.{versions_at}
-use Rattle.ffv1_splice.specs.Splice.{SplicedValue, IsWalkUp, IsWalkAcross, IsDivisionOf, moved_by, undivided_places}
-use Rattle.ffv1_splice.specs.declared.place.Place.{Place}
-use Rattle.ffv1_weave.specs.References.{values_of}
-use Rattle.ffv1_weave.proofs.References.{each_value}
+use Rattle.ffv1_splice.proofs.Common.{◌≡◌, ℕ, ◌+◌, ◌-◌, ◌≤◌, List, ◌++◌, length, drop, sym, ap, ◌∙◌, subst, arith, All, reverse, append_assoc, length-range, AllReach, versions_at, SplicedValue, IsWalkUp, IsWalkAcross, IsDivisionOf, moved_by, undivided_places, Place, values_of, each_value}
+use Rattle.std.specs.Prelude.{map}
 use Rattle.ffv1_splice.proofs.Versions.{version_length, length_of}
 use Rattle.ffv1_splice.proofs.FillSteps.{division_long, front_is, length-below, is_hole, hole_within, filled_splice}
 use Rattle.ffv1_splice.proofs.splicing.fill.Goals as goal

@@ -1,5 +1,4 @@
-use Rattle.std.proofs.Common.{[], length, arith, ap, below_more}
-use Rattle.ffv1_weave.proofs.References.{value_at, nowhere}
+use Rattle.ffv1_splice.proofs.Common.{[], length, arith, ap, below_more, value_at, nowhere}
 use Rattle.ffv1_splice.proofs.splicing.other_length.Goals as goal
 
 pub loop-index-preserved : goal.loop-index-preserved

@@ -1,5 +1,4 @@
-use Rattle.std.proofs.Common.{◌≡◌, ◌<◌, ℕ, map}
-use Rattle.ffv1_splice.specs.Faults.{length_at}
+use Rattle.ffv1_splice.proofs.Common.{◌≡◌, ◌<◌, ℕ, map, length_at}
 use Rattle.ffv1_splice.proofs.splicing.other_length.Given as goal
 
 abbrev pub invariant-loop-index : goal.invariant-loop-index

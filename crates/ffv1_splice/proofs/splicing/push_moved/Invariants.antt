@@ -1,5 +1,4 @@
-use Rattle.std.proofs.Common.{◌≡◌, ◌++◌, map, take}
-use Rattle.ffv1_splice.specs.Splice.{moved_by}
+use Rattle.ffv1_splice.proofs.Common.{◌≡◌, ◌++◌, map, take, moved_by}
 use Rattle.ffv1_splice.proofs.splicing.push_moved.Given as goal
 
 abbrev pub invariant-loop-place : goal.invariant-loop-place

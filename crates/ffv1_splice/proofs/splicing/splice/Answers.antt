@@ -1,5 +1,4 @@
-use Rattle.std.proofs.Common.{length, ap, sym, ◌∙◌}
-use Rattle.ffv1_weave.proofs.References.{nowhere}
+use Rattle.ffv1_splice.proofs.Common.{length, ap, sym, ◌∙◌, nowhere}
 use Rattle.ffv1_splice.proofs.SpliceSteps.{length_of_first}
 use Rattle.ffv1_splice.proofs.splicing.splice.Goals as goal
 

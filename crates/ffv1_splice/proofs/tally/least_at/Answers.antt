@@ -1,7 +1,4 @@
-use Rattle.std.proofs.Common.{◌+◌, ℕ, List, [], get_or, arith, sym, ap, subst}
-use Rattle.std.specs.Prelude.{slice_range}
-use Rattle.ffv1_weave.specs.References.{values_of}
-use Rattle.ffv1_weave.proofs.References.{value_at, length-values_of, nowhere}
+use Rattle.ffv1_splice.proofs.Common.{◌+◌, ℕ, List, [], get_or, arith, sym, ap, subst, slice_range, values_of, value_at, length-values_of, nowhere}
 use Rattle.ffv1_splice.proofs.LeastSteps.{IsLeastSoFar, least_more, ord_min-now}
 use Rattle.ffv1_splice.proofs.tally.least_at.Goals as goal
 

@@ -1,4 +1,4 @@
-use Rattle.std.proofs.Common.{map}
+use Rattle.ffv1_splice.proofs.Common.{map}
 use Rattle.ffv1_splice.proofs.tally.least_at.Given as goal
 use Rattle.ffv1_splice.proofs.LeastSteps.{IsLeastSoFar}
 

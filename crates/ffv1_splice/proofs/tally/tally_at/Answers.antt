@@ -1,13 +1,4 @@
-use Rattle.std.proofs.Common.{◌≡◌, ℕ, List, [], ◌∷◌, ◌++◌, get_or, take, arith, sym, subst}
-use Rattle.std.specs.Prelude.{slice_range}
-use Rattle.ffv1_bits.specs.Parity.{PassesParity}
-use Rattle.ffv1_slice.specs.Chain.{FooterGives}
-use Rattle.ffv1_splice.specs.Pieces.{HasContent, IsPiece, IsClaimedStart}
-use Rattle.ffv1_splice.specs.Inner.Tally.{Tallies, pieces_tally, starts_tally}
-use Rattle.ffv1_splice.specs.declared.tally.Pieces.{Pieces}
-use Rattle.ffv1_splice.specs.declared.tally.Starts.{Starts}
-use Rattle.ffv1_weave.specs.References.{values_of}
-use Rattle.ffv1_weave.proofs.References.{next_value, all_values, nowhere}
+use Rattle.ffv1_splice.proofs.Common.{◌≡◌, ℕ, List, [], ◌∷◌, ◌++◌, get_or, take, arith, sym, subst, slice_range, PassesParity, FooterGives, HasContent, IsPiece, IsClaimedStart, Tallies, pieces_tally, starts_tally, Pieces, Starts, values_of, next_value, all_values, nowhere}
 use Rattle.ffv1_splice.proofs.TallySteps.{pieces-uncut, starts-uncut, pieces-failed, pieces-kept, pieces-passed, starts-cut}
 use Rattle.ffv1_splice.proofs.tally.tally_at.Goals as goal
 use Rattle.ffv1_splice.proofs.tally.tally_at.Goals.{in-Some+then-not-stays_with+then-passes, in-Some+else-not-stays_with, else-not-stays_with-via-then-not-stays_with+else-passes, else-not-stays_with-via-else-not-stays_with, in_default}

@@ -1,6 +1,5 @@
 use Rattle.std.specs.Prelude.{take, map}
-use Rattle.ffv1_splice.specs.Pieces.{IsPiece, IsClaimedStart}
-use Rattle.ffv1_splice.specs.Inner.Tally.{Tallies, pieces_tally, starts_tally}
+use Rattle.ffv1_splice.proofs.Common.{IsPiece, IsClaimedStart, Tallies, pieces_tally, starts_tally}
 use Rattle.ffv1_splice.proofs.tally.tally_at.Given as goal
 
 -- What was counted are the pieces and claimed starts of the copies so far.
