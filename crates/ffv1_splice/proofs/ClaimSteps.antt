@@ -38,8 +38,7 @@ lacks_in_all : (copy : List ℕ) (start end after : ℕ) → AreBytes copy → s
     (length (slice_range copy (end - 7) (after - 7)))
     → LacksClaims copy start end after
 lacks_in_all copy start end after small room order fits near none =
-    let size : length (slice_range copy (end - 7) (after - 7)) ≡ after - 7 - (end - 7) =
-    length-range copy (end - 7) (after - 7) (omega arith) (omega arith) in
+    let size : length (slice_range copy (end - 7) (after - 7)) ≡ after - 7 - (end - 7) = grind (arith, length-range) in
     lacks_in_window copy start end after after small room (omega arith) near (λ k low high. none k low (omega arith))
 
 -- the window up to the first byte that is the middle one, and where that stands
@@ -49,8 +48,7 @@ lacks_before : (copy : List ℕ) (start end after skipped : ℕ) → AreBytes co
     (length (slice_range copy (end - 7) (after - 7))) skipped
     → (end + skipped < after) × LacksClaims copy start end (end + skipped)
 lacks_before copy start end after skipped small room order fits near first =
-    let size : length (slice_range copy (end - 7) (after - 7)) ≡ after - 7 - (end - 7) =
-    length-range copy (end - 7) (after - 7) (omega arith) (omega arith) in
+    let size : length (slice_range copy (end - 7) (after - 7)) ≡ after - 7 - (end - 7) = grind (arith, length-range) in
     let within : end + skipped < after = omega (arith, size, first.high) in
     (within, lacks_in_window copy start end (end + skipped) after small room (omega arith) near (λ k low high. first.before k low (omega arith)))
 

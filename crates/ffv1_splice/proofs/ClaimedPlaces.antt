@@ -1,5 +1,5 @@
 -- Places by the starts that are claimed at their ends.
-use Rattle.ffv1_splice.proofs.Common.{◌≡◌, ℕ, zero, suc, ◌+◌, ◌-◌, ◌<◌, ◌≤◌, List, [], ◌∷◌, length, get_or, map, sym, ap, ◌∙◌, subst, arith, inl, inr, ◌⊎◌, All, Contains, slice_range, All-nil, All-cons, All-tail, All-contains, All-contains_itself, PassesParity, IsLinkOf, IsFramed, IsOnly, IsOfTwo, IsOfNone, IsAmongTried, IsClaimedStart, IsClaimedFrom, versions_at, sized, StandsAs, SplicedValue, LieFrom, RiseFrom, IsSettledDown, IsSpliceOf, moved_by, undivided_places, IsTriedAt, ClaimedAloneIsOriginal, SizedIsOriginal, Standing, Settled, Woven, Voted, Repaired, Disputed, Missing, Undivided, Place}
+use Rattle.ffv1_splice.proofs.Common.{◌≡◌, ℕ, zero, suc, ◌+◌, ◌-◌, ◌<◌, ◌≤◌, List, [], ◌∷◌, length, get_or, map, sym, ap, ◌∙◌, subst, arith, inl, inr, ◌⊎◌, All, Contains, slice_range, All-nil, All-cons, All-tail, All-contains, All-contains_itself, PassesParity, IsLinkOf, IsFramed, IsOnly, IsOfTwo, IsOfNone, IsAmongTried, IsClaimedStart, IsClaimedFrom, versions_at, sized, StandsAs, SplicedValue, LieFrom, RiseFrom, IsSettledDown, IsSpliceOf, moved_by, undivided_places, ClaimedAloneIsOriginal, SizedIsOriginal, Standing, Settled, Woven, Voted, Repaired, Disputed, Missing, Undivided, Place}
 use Rattle.ffv1_splice.proofs.Narrowed.{versions_of_versions, claim_in, claim_out}
 use Rattle.ffv1_splice.proofs.PlaceLists.{start_below}
 use Rattle.ffv1_splice.proofs.PlaceSteps.{claim_below, unwoven_weave, two_not_only}
@@ -78,7 +78,6 @@ module _ (copies : List (List ℕ)) (spliced : SplicedValue) (is : IsSpliceOf co
     in_hole : IsClaimedFrom copies is.start (is.start + end) start → (inner : ℕ) × (start ≡ is.start + inner)
         × IsClaimedStart (versions_at copies is.start is.end) end inner
     in_hole claim =
-        let beyond = claim.beyond in
         let at : start ≡ is.start + (start - is.start) = omega arith in
         (start - is.start, at, claim_in is.start is.end copies end (start - is.start) within (subst (IsClaimedStart copies (is.start + end)) at claim.claim))
 
@@ -152,9 +151,7 @@ claimed_alone_is_original original copies spliced place start is there only link
     let same = begins_there copies spliced is place start only (high copies spliced is place there start only.there) in
     let at = sym same in (
       same,
-      woven_is_original original copies spliced place is there (subst (λ s. IsLinkOf original s place.end) at link)
-          (subst (λ s. PassesParity (slice_range original s place.end)) at passes)
-          (subst (λ s. IsTriedAt copies s place.end (slice_range original s place.end)) at tried),
+      woven_is_original original copies spliced place is there (rw (← at) link) (rw (← at) passes) (rw (← at) tried),
     )
 
 pub sized_is_original : SizedIsOriginal

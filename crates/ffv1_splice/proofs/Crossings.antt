@@ -77,8 +77,7 @@ module _ (copies : List (List ℕ)) (bound : ℕ) where
   pub crossed_unsettled : (payload : List ℕ) (place : Place) → IsCrossed copies bound payload place → place.standing ≡ Settled → ⊥
   crossed_unsettled payload place h settled =
       let bytes : List ℕ = slice_range payload place.start place.end in
-      let stands : StandsAs (versions_at copies place.start bound) 0 h.size bytes Settled =
-      subst (StandsAs (versions_at copies place.start bound) 0 h.size bytes) settled h.stands in
+      let stands : StandsAs (versions_at copies place.start bound) 0 h.size bytes Settled = grind (arith, versions_at) in
       h.lost.none (record { start = 0; bytes = bytes }) stands.there
 
   pub crossed_no_piece : (payload : List ℕ) (place : Place) → IsCrossed copies bound payload place → (bytes : List ℕ)
@@ -87,10 +86,8 @@ module _ (copies : List (List ℕ)) (bound : ℕ) where
       let within = crossed_within payload place h in
       let ends = h.ends in
       let here : place.start ≡ place.start + 0 = omega arith in
-      h.lost.none (record { start = 0; bytes = bytes })
-      (piece_in place.start bound copies h.size (record { start = 0; bytes = bytes }) (omega arith)
-      (subst (λ s. IsPiece copies (place.start + h.size) (record { start = s; bytes = bytes })) here
-      (subst (λ e. IsPiece copies e (record { start = place.start; bytes = bytes })) ends piece)))
+      h.lost.none (record { start = 0; bytes = bytes }) (piece_in place.start bound copies h.size (record { start = 0; bytes = bytes }) (omega arith)
+      (rw (← here) (rw (← ends) piece)))
 
   crossed_kept : (a b : List ℕ) (place : Place) → slice_range a place.start place.end ≡ slice_range b place.start place.end
       → IsCrossed copies bound a place → IsCrossed copies bound b place
@@ -131,7 +128,6 @@ module _ (copies : List (List ℕ)) (bound : ℕ) where
   pub crossings_order : (payload : List ℕ) (start : ℕ) (crossings : List Crossing) (top : ℕ) → AreCrossings copies bound payload start crossings top → start ≤ top
   crossings_order payload start [] top are = omega (arith, are)
   crossings_order payload start (crossing ∷ crossings) top are =
-      let starts = are.0 in
       let rises = crossed_rising payload crossing.over are.1 in
       let on = walk_order payload crossing.over.end crossing.settled are.2 are.3 in
       let rest = crossings_order payload are.2 crossings top are.4 in
@@ -169,8 +165,7 @@ crossed_place copies versions start bound size payload old new after standing ar
     let kept : length new ≡ length old = ap length placed.written' ∙ length-written old 0 bytes (omega (arith, placed.size)) in
     let first : take (size - 0) new ≡ bytes = cc (here_written old 0 size bytes placed.size room) in
     let none : size - 0 ≡ size = omega arith in
-    let here : slice_range (take start payload ++ (new ++ after)) start (start + size) ≡ bytes =
-    cc (drop-append_seam (take start payload) (new ++ after), take-append-le size new after (omega arith)) in
+    let here : slice_range (take start payload ++ (new ++ after)) start (start + size) ≡ bytes = grind (arith, drop-append_seam, take-append-le) in
     record {
       size = size;
       ends = refl;
@@ -212,18 +207,15 @@ module _ (copies : List (List ℕ)) (bound : ℕ) where
       → IsWalkUp copies bound c crossing.over.end crossing.settled top
       → IsWalkSoFar copies bound c (places ++ (crossing.over ∷ crossing.settled)) top (crossed + 1)
   walk_more a b c places start crossed crossing top far starts over first second walk =
-      let rises = crossed_rising copies bound b crossing.over over in
       let same : take start a ≡ take start c = sym (take_earlier c b start crossing.over.end (omega arith) second ∙ first) in
       let h = so_far_kept a c places start crossed same far in
       record {
         below = h.below;
         crossings = h.crossings ++ crossing ∷ [];
         floor = h.floor;
-        are_places = ap (λ z. z ++ (crossing.over ∷ crossing.settled)) h.are_places ∙ append_assoc h.below (crossing_places h.crossings) (crossing.over ∷ crossing.settled)
-            ∙ ap (λ z. h.below ++ z) (sym (crossing_places-append h.crossings crossing));
+        are_places = grind (arith, append_assoc, crossing_places, crossing_places-append);
         up = h.up;
-        are = crossings_more copies bound c h.floor h.crossings start crossing top h.are starts
-            (crossed_kept copies bound b c crossing.over (range_before b c crossing.over.end crossing.over.start crossing.over.end (omega arith) (sym second)) over) walk;
+        are = grind (arith, crossings_more, crossed_kept, range_before);
         count = length-append h.crossings (crossing ∷ []) ∙ ap (λ n. n + 1) h.count;
       }
 

@@ -45,8 +45,7 @@ module _ (original : List ℕ) (copies : List (List ℕ)) (cuts : (start end : �
             ∙ sym (walked-fuel original end (suc end) end (omega arith) (omega arith) ∙ walked-more original end start end cut
             ∙ ap (λ z. link_of original start end ∷ z) (walked-fuel original end start start (omega arith) (omega arith)));
         whole = below.whole;
-        each = All-cons (λ place. IsLinkOf original place.start place.end) (record { start = start; end = end; standing = standing }) more
-            (record { is_end = is_end; cut = cut }) below.each;
+        each = grind (arith, All-cons);
       }
 
 -- the same bytes at places that are links from the end to the first byte

@@ -23,7 +23,6 @@ pub division_long : (copies : List (List ℕ)) (start end whole : ℕ) (divided 
     → start ≤ end → end ≤ whole → IsDivisionOf (versions_at copies start end) divided → length divided.payload ≡ end - start
 division_long copies start end whole divided one order within is =
     let of = version_of copies start end is.before.copy is.before.there in
-    let long = one of.0 of.1 in
     sym (is.one_length is.before.copy is.before.there) ∙ ap length of.2 ∙ length-range of.0 start end order (omega arith)
 
 -- ---- the payload of the frame
@@ -86,8 +85,7 @@ module _ (down up hole : List ℕ) (start bound end : ℕ) (order : start ≤ bo
   length-filled =
       let far = length-below down up bound end front below within in
       let all : List ℕ = put_mid start (end - start) (up ++ drop bound down) hole in
-      let under : take end all ≡ take start (up ++ drop bound down) ++ hole =
-      take-put_mid start (end - start) (up ++ drop bound down) hole end (omega arith) (omega arith) in
+      let under : take end all ≡ take start (up ++ drop bound down) ++ hole = grind (arith, take-put_mid) in
       let parts = ap length under ∙ length-append (take start (up ++ drop bound down)) hole in
       let first = length-take-le start (up ++ drop bound down) (omega arith) in
       let whole = ap length (sym (take-append-drop end all)) ∙ length-append (take end all) (drop end all) in
@@ -129,11 +127,7 @@ module _ (down up hole : List ℕ) (start bound end : ℕ) (order : start ≤ bo
     up = walk_kept copies bound up (put_mid start (end - start) (up ++ drop bound down) hole) 0 under floor
         (take_earlier up (put_mid start (end - start) (up ++ drop bound down) hole) floor start (crossings_order copies bound up floor crossings start across.are)
         (sym filled_before)) walk_up;
-    across = record {
-      are = crossings_kept copies bound up (put_mid start (end - start) (up ++ drop bound down) hole) floor crossings start (sym filled_before) across.are;
-      few = across.few;
-      stop = across.stop;
-    };
+    across = grind (arith, crossings_kept, put_mid, filled_before);
     divided = divided;
     bytes = sym filled_hole;
     places = are;

@@ -37,7 +37,6 @@ module _ (copies : List (List ℕ)) (end : ℕ) (reach : AllReach copies end) wh
   -- what is woven is as long as the copies are up to there
   pub front_size : (copy bytes : List ℕ) (count : ℕ) → Contains copies copy → IsWeaveFromFront copies end (woven bytes count) → 0 + length bytes ≡ end
   front_size copy bytes count there h =
-      let content : HasContent 0 end = h.content in
       let version : List ℕ = sized (slice_range copy 0 end) in
       let in_versions = mapped_there sized (versions_at copies 0 end) (slice_range copy 0 end) (version_there copies 0 end copy there) in
       let long = sized_length 0 (omega arith) version in_versions in
@@ -45,7 +44,6 @@ module _ (copies : List (List ℕ)) (end : ℕ) (reach : AllReach copies end) wh
 
   pub several_size : (start : ℕ) (bytes : List ℕ) (count : ℕ) → IsWeaveOfSeveral copies start end bytes count → start + length bytes ≡ end
   several_size start bytes count h =
-      let content : HasContent start end = h.claim.content in
       let copy : List ℕ = h.claim.copy in
       let version : List ℕ = sized (slice_range copy start end) in
       let in_versions = mapped_there sized (versions_at copies start end) (slice_range copy start end) (version_there copies start end copy h.claim.there) in

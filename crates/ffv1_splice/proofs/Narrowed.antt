@@ -46,14 +46,7 @@ module _ (from to : ℕ) where
     piece_out end piece within h =
         let of = version_of copies from to h.copy h.there in
         let content : HasContent piece.start end = h.content in
-        record {
-          copy = of.0;
-          there = of.1;
-          cut = cut_out of.0 piece.start end within (subst (λ copy. FooterGives copy piece.start end) of.2 h.cut);
-          content = omega arith;
-          bytes = h.bytes ∙ ap (λ copy. slice_range copy piece.start end) of.2 ∙ range_of_range of.0 piece.start end within;
-          passes = h.passes;
-        }
+        grind (arith, cut_out, range_of_range)
 
     pub piece_in : (end : ℕ) (piece : LinkValue) → from + end ≤ to → IsPiece copies (from + end) (record { start = from + piece.start; bytes = piece.bytes })
         → IsPiece (versions_at copies from to) end piece

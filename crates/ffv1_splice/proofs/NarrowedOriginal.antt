@@ -1,5 +1,5 @@
 -- An original that is cut to the bytes from one end of its slices up to another, and its copies that are cut there too.
-use Rattle.ffv1_splice.proofs.Common.{◌≡◌, ℕ, ◌+◌, ◌-◌, ◌<◌, ◌≤◌, List, [], ◌∷◌, length, map, sym, ap, ◌∙◌, subst, arith, refl, inl, inr, ◌⊎◌, ◌↔◌, All, Contains, slice_range, All-head, All-tail, PassesParity, AreBytes-range, FooterGives, IsEnd, IsLinkOf, LinkValue, link_of, last, before, IsOfTwo, IsDamagedWithin32, walked, walk_at, walked-none, turn_some, length-range, IsAmongTried, HasContent, IsClaimedStart, versions_at, sized, LieFrom, AreCopiesOf, AreConsistentWith, IsTriedAt, AreWeavable, IsUndamaged, IsNearCopy, AreNearCopies, IsIntactInSome, Place}
+use Rattle.ffv1_splice.proofs.Common.{◌≡◌, ℕ, ◌+◌, ◌-◌, ◌<◌, ◌≤◌, List, [], ◌∷◌, length, map, sym, ap, ◌∙◌, subst, arith, refl, inl, inr, ◌⊎◌, ◌↔◌, All, Contains, slice_range, All-head, All-tail, PassesParity, AreBytes-range, FooterGives, IsEnd, IsLinkOf, link_of, last, before, IsOfTwo, IsDamagedWithin32, walked, walk_at, walked-none, turn_some, length-range, HasContent, IsClaimedStart, versions_at, LieFrom, AreCopiesOf, AreConsistentWith, IsTriedAt, AreWeavable, IsUndamaged, IsNearCopy, AreNearCopies, IsIntactInSome, Place}
 use Rattle.ffv1_splice.proofs.DividedLinks.{end_within, same_cut}
 use Rattle.ffv1_splice.proofs.Versions.{version_there, version_of}
 use Rattle.ffv1_splice.proofs.Narrowed.{range_of_range, cut_out, cut_in, versions_of_versions, piece_out, claim_in, claim_out}
@@ -29,11 +29,10 @@ module _ (from to : ℕ) (copies : List (List ℕ)) (start end : ℕ) (slice : L
   tried_narrowed tried =
       let same = sym (versions_of_versions from to copies start end within) in
       record {
-        claimed = λ claim. subst (λ vs. IsAmongTried vs slice) same (tried.claimed (claim_out from to copies end start within claim));
-        unclaimed = λ content no_claim. subst (λ vs. IsAmongTried (map sized vs) slice) same
+        claimed = λ claim. rw (← same) (tried.claimed (claim_out from to copies end start within claim));
+        unclaimed = λ content no_claim. rw (← same)
             (tried.unclaimed (let content : HasContent start end = content in omega arith) (λ claim. no_claim (claim_in from to copies end start within claim)));
-        several = λ two are_bytes. subst (λ vs. IsAmongTried (map sized vs) slice) same
-            (tried.several (two_out two) (λ version there. are_bytes version (subst (λ vs. Contains vs version) same there)));
+        several = λ two are_bytes. rw (← same) (tried.several (two_out two) (λ version there. are_bytes version (rw (← same) there)));
       }
 
 module _ (from to : ℕ) (original : List ℕ) (copies : List (List ℕ)) (start end : ℕ) (within : from + end ≤ to) where
@@ -121,8 +120,7 @@ module _ (from to : ℕ) (original : List ℕ) (order : from ≤ to) (is_to : Is
   end_in_back place (more {end = next} back cut) end is =
       let on : next ≡ from + (next - from) = omega arith in
       let is_end = end_in_back next back (next - from) on in
-      let moved : FooterGives original (from + end) (from + (next - from)) =
-      subst (λ start. FooterGives original start (from + (next - from))) is (subst (FooterGives original place) on cut) in
+      let moved : FooterGives original (from + end) (from + (next - from)) = grind arith in
       before is_end (cut_in from to original end (next - from) (narrowed_within (next - from) is_end) moved)
 
   pub end_in : (end : ℕ) → from + end ≤ to → IsEnd original (from + end) → IsEnd (slice_range original from to) end
@@ -145,8 +143,7 @@ module _ (from to : ℕ) (original : List ℕ) (order : from ≤ to) (is_to : Is
   pub passes_narrowed : ((start end : ℕ) → IsLinkOf original start end → PassesParity (slice_range original start end))
       → (start end : ℕ) → IsLinkOf (slice_range original from to) start end → PassesParity (slice_range (slice_range original from to) start end)
   passes_narrowed passes start end link =
-      subst PassesParity (sym (range_of_range from to original start end (narrowed_within end link.is_end)))
-      (passes (from + start) (from + end) (link_out start end link))
+      rw (range_of_range from to original start end (narrowed_within end link.is_end)) (passes (from + start) (from + end) (link_out start end link))
 
   pub undamaged_narrowed : IsEnd original from → IsUndamaged original → IsUndamaged (slice_range original from to)
   undamaged_narrowed is_from undamaged =
@@ -173,8 +170,7 @@ module _ (from to : ℕ) (original : List ℕ) (order : from ≤ to) (is_to : Is
             let yours = sym (range_of_range from to original start end within) in
             elim (near.each (from + start) (from + end) (link_out start end link)) [
               | inl intact ↦ inl (sym mine ∙ intact ∙ yours)
-              | inr damaged ↦ inr (subst (λ slice. IsDamagedWithin32 slice (slice_range (slice_range copy from to) start end)) yours
-                  (subst (IsDamagedWithin32 (slice_range original (from + start) (from + end))) mine damaged))
+              | inr damaged ↦ grind (arith, IsDamagedWithin32)
             ];
       }
 
@@ -194,8 +190,7 @@ module _ (from to : ℕ) (original : List ℕ) (order : from ≤ to) (is_to : Is
         let within = narrowed_within end is_end in
         let claim = agree (from + end) (record { start = from + piece.start; bytes = piece.bytes }) (end_out end is_end)
         (piece_out from to copies end piece within h) in
-        let bytes : piece.bytes ≡ slice_range (slice_range original from to) piece.start end =
-        ap (λ (p : LinkValue). p.bytes) claim.1 ∙ sym (range_of_range from to original piece.start end within) in
+        let bytes : piece.bytes ≡ slice_range (slice_range original from to) piece.start end = grind (arith, range_of_range) in
         (link_in piece.start end within claim.0, ap (λ z. record { start = piece.start; bytes = z }) bytes)
 
     pub weavable_narrowed : AreWeavable original copies → AreWeavableDown (slice_range original from to) (versions_at copies from to)

@@ -2,7 +2,7 @@
 use Rattle.ffv1_splice.proofs.Common.{◌≡◌, ℕ, ◌+◌, ◌<◌, ◌≤◌, List, length, get_or, sym, ap, ◌∙◌, subst, arith, inl, inr, Contains, slice_range, PassesParity, burst, AreBytes-range, size_before, FooterGives, IsEnd, IsLinkOf, link_of, last, same_size_field, length-range, size_of_range, HasContent, IsPiece, IsClaimedStart, StandsAs, IsStop, SplicedValue, IsDivisionOf, AreCopiesOf, AreConsistentWith, AreConsistentFromBelow, IsAmong, IsTriedAt, AreWeavable, IsUndamaged, IsIntact, IsNearCopy, AreNearCopies, IsIntactInSome, IsNearSplice, Standing, Settled, Woven, Voted, Repaired, Disputed, Missing, Undivided}
 use Rattle.ffv1_splice.proofs.PlaceSteps.{unwoven_weave}
 use Rattle.ffv1_splice.proofs.DividedLinks.{end_within, link_at, same_cut, AreLinkPlaces, link_places, settled_link, settled_where}
-use Rattle.ffv1_splice.proofs.Walks.{IsSpliceBefore, division_walk}
+use Rattle.ffv1_splice.proofs.Walks.{division_walk}
 
 -- ---- a near copy is cut where the original is
 
@@ -45,8 +45,7 @@ module _ (original : List ℕ) (copies : List (List ℕ)) (near : AreNearCopies 
       let start : piece.start ≡ at.0 = claimed_start end at.0 piece.start link
       (record { copy = h.copy; there = h.there; cut = h.cut; content = h.content }) in
       let mine : IsLinkOf original piece.start end = subst (λ s. IsLinkOf original s end) (sym start) link in
-      let intact : IsIntact original h.copy piece.start end =
-      near_intact original h.copy near.undamaged (near.near h.copy h.there) piece.start end mine (subst PassesParity h.bytes h.passes) in
+      let intact : IsIntact original h.copy piece.start end = grind (arith, near_intact) in
       (mine, ap (λ z. record { start = piece.start; bytes = z }) (h.bytes ∙ intact))
 
   -- a link that is intact in some copy is a piece
@@ -145,8 +144,7 @@ module _ (original : List ℕ) (copies : List (List ℕ)) (near : AreNearCopies 
     divided_links =
         let long = sym (is.one_length is.before.copy is.before.there) ∙ (near.near is.before.copy is.before.there).same_length in
         link_places original copies cuts (length original) spliced.places spliced.front spliced.payload
-        (λ stop is_end after stops same. goes_on stop is_end after stops) last
-        (subst (λ n. IsSpliceBefore copies n spliced.places spliced.front spliced.payload) long (division_walk copies spliced is))
+        (λ stop is_end after stops same. goes_on stop is_end after stops) last (rw (← long) (division_walk copies spliced is))
 
     intact_where : (start end : ℕ) (bytes : List ℕ) (standing : Standing) → IsLinkOf original start end → StandsAs copies start end bytes standing
         → standing ≡ Settled → IsIntactInSome original copies start end

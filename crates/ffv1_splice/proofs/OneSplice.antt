@@ -2,7 +2,7 @@
 use Rattle.ffv1_splice.proofs.Common.{◌≡◌, ℕ, ◌-◌, ◌≤◌, List, [], ◌∷◌, ◌++◌, length, refl, sym, ap, ◌∙◌, subst, arith, inl, inr, ◌⊎◌, All, reverse, slice_range, All-nil, All-cons, All-head, All-tail, All-append, All-weaker, LinkValue, link_of, IsOnly, HasSameMembers, IsPiece, IsClaimedStart, PieceFrom, IsPieceFrom, IsShortest, versions_at, StandsAs, SplicedValue, LieFrom, RiseFrom, IsSettledDown, IsSettledUp, IsWalkDown, IsBound, IsWalkUp, IsClaimedEnd, IsLostUpTo, IsCrossed, Crossing, AreCrossings, IsWalkAcross, crossing_places, IsDivisionOf, hole_places, front_of, IsSpliceOf, SameCopiesSplice, Place, same_back}
 use Rattle.ffv1_splice.specs.declared.crossing.TheConstants.{MOST_CROSSED}
 use Rattle.ffv1_splice.proofs.Versions.{same_versions}
-use Rattle.ffv1_splice.proofs.OneDivision.{StandingValue, one_standing, piece_there, piece_here, start_there, start_here, only_same, stands_there, division_there, same_copies_divide}
+use Rattle.ffv1_splice.proofs.OneDivision.{one_standing, piece_there, piece_here, start_there, start_here, only_same, stands_there, division_there, same_copies_divide}
 use Rattle.ffv1_splice.proofs.SplicePlaces.{lower, copy_at_hand}
 use Rattle.ffv1_splice.proofs.BoundSteps.{one_bound}
 use Rattle.ffv1_splice.proofs.SameBytes.{IsSameAt, same_by_parts}
@@ -173,8 +173,7 @@ module _ (copies : List (List ℕ)) (a b : List ℕ) where
       let piece = same_piece p q ends mine.only yours.only in
       let starts : p.start ≡ q.start = ap (λ (x : LinkValue). x.start) piece in
       one_more a b p q starts ends ps qs s t (mine.standing ∙ sym yours.standing) (ap (λ (x : LinkValue). x.bytes) piece)
-      (one_down p.start ps qs s t lie.1 (subst (λ n. LieFrom n qs t) (sym starts) lay.1) (All-tail (IsSettledDown copies a) p ps h)
-      (All-tail (IsSettledDown copies b) q qs k) stop halt)
+      (one_down p.start ps qs s t lie.1 (rw starts lay.1) (All-tail (IsSettledDown copies a) p ps h) (All-tail (IsSettledDown copies b) q qs k) stop halt)
 
 -- ---- one walk up
 
@@ -194,7 +193,6 @@ module _ (copies : List (List ℕ)) (bound : ℕ) where
   same_end : (s t : ℕ) (x y : PieceFrom) → s ≡ t → IsShortest copies bound s x → IsShortest copies bound t y → x.end ≡ y.end
   same_end s t x y starts h k =
       let mine = subst (λ n. IsShortest copies bound n x) starts h in
-      let before = mine.least y k.there in
       let after = k.least x mine.there in
       omega arith
 
@@ -249,11 +247,7 @@ module _ (copies : List (List ℕ)) (bound : ℕ) (a b : List ℕ) where
       subst (λ n. StandsAs versions 0 n (slice_range b q.start q.end) q.standing) size
       (subst (λ s. StandsAs (versions_at copies s bound) 0 k.size (slice_range b q.start q.end) q.standing) (sym starts) k.stands) in
       let one = one_standing versions h.size 0 0 (slice_range a p.start p.end) (slice_range b q.start q.end) p.standing q.standing h.stands stands in
-      record {
-        end' = omega (arith, h.ends, k.ends);
-        standing = ap (λ (z : StandingValue). z.standing) one;
-        bytes = ap (λ (z : StandingValue). z.bytes) one;
-      }
+      grind arith
 
   one_across : (most start : ℕ) (crossings others : List Crossing) (s t : ℕ) → AreCrossings copies bound a start crossings s → AreCrossings copies bound b start others t
       → length crossings ≤ most → length others ≤ most → (length crossings ≡ most) ⊎ StopsAcross copies bound s
@@ -272,8 +266,7 @@ module _ (copies : List (List ℕ)) (bound : ℕ) (a b : List ℕ) where
   one_across most start (crossing ∷ crossings) (other ∷ others) s t are be few less stop halt =
       let starts : crossing.over.start ≡ other.over.start = are.0 ∙ sym be.0 in
       let over = one_crossed crossing.over other.over starts are.1 be.1 in
-      let rising : IsWalkUp copies bound b crossing.over.end other.settled be.2 =
-      subst (λ n. IsWalkUp copies bound b n other.settled be.2) (sym over.end') be.3 in
+      let rising : IsWalkUp copies bound b crossing.over.end other.settled be.2 = grind arith in
       let up = one_up copies bound a b crossing.over.end crossing.settled other.settled are.2 be.2 are.3.rise rising.rise are.3.settled rising.settled are.3.stop rising.stop in
       let rest = one_across (most - 1) are.2 crossings others s t are.4 (subst (λ n. AreCrossings copies bound b n others t) (sym up.stop) be.4)
       (omega arith) (omega arith) (elim stop [ inl same ↦ inl (omega arith) | inr none ↦ inr none ])
@@ -293,24 +286,17 @@ one_splice copies one other is k =
     let down = one_down copies one.payload other.payload (length one.payload) is.above k.above is.end k.end is.down.lie
     (subst (λ n. LieFrom n k.above k.end) (sym long) k.down.lie) is.down.settled k.down.settled is.down.stop k.down.stop in
     let bounds : is.bound ≡ k.bound = one_bound copies k.end is.bound k.bound (subst (λ n. IsBound copies n is.bound) down.stop is.room) k.room in
-    let rising : IsWalkUp copies is.bound other.payload 0 k.below k.floor =
-    subst (λ n. IsWalkUp copies n other.payload 0 k.below k.floor) (sym bounds) k.up in
+    let rising : IsWalkUp copies is.bound other.payload 0 k.below k.floor = grind arith in
     let first = one_up copies is.bound one.payload other.payload 0 is.below k.below is.floor k.floor is.up.rise rising.rise is.up.settled rising.settled
     is.up.stop rising.stop in
-    let across : IsWalkAcross copies is.bound other.payload is.floor k.crossings k.start =
-    subst (λ n. IsWalkAcross copies is.bound other.payload n k.crossings k.start) (sym first.stop)
-    (subst (λ n. IsWalkAcross copies n other.payload k.floor k.crossings k.start) (sym bounds) k.across) in
+    let across : IsWalkAcross copies is.bound other.payload is.floor k.crossings k.start = grind arith in
     let up = joined_walks one.payload other.payload is.below k.below (crossing_places is.crossings) (crossing_places k.crossings) is.floor k.floor is.start k.start first
     (one_across copies is.bound one.payload other.payload MOST_CROSSED is.floor is.crossings k.crossings is.start k.start is.across.are across.are is.across.few
     across.few is.across.stop across.stop) in
-    let divided : IsDivisionOf (versions_at copies is.start is.end) k.hole =
-    subst (λ n. IsDivisionOf (versions_at copies n is.end) k.hole) (sym up.stop)
-    (subst (λ n. IsDivisionOf (versions_at copies k.start n) k.hole) (sym down.stop) k.divided) in
+    let divided : IsDivisionOf (versions_at copies is.start is.end) k.hole = grind (arith, versions_at) in
     let versions : List (List ℕ) = versions_at copies is.start is.end in
     let hole : is.hole ≡ k.hole = same_copies_divide versions versions is.hole k.hole (λ version. ((λ there. there), λ there. there)) is.divided divided in
-    let bytes : is.hole.payload ≡ slice_range other.payload is.start is.end =
-    ap (λ (h : SplicedValue). h.payload) hole ∙ k.bytes ∙ sym (ap (λ n. slice_range other.payload n k.end) up.stop)
-    ∙ sym (ap (λ n. slice_range other.payload is.start n) down.stop) in
+    let bytes : is.hole.payload ≡ slice_range other.payload is.start is.end = grind arith in
     cc (same_value one other (is.places ∙ ap (λ z. z ++ (hole_places is.start is.hole ++ reverse (lower copies one is))) down.places ∙ ap (λ n. k.above ++ (hole_places n is.hole ++ reverse (lower copies one is))) up.stop ∙ ap (λ h. k.above ++ (hole_places k.start h ++ reverse (lower copies one is))) hole ∙ ap (λ z. k.above ++ (hole_places k.start k.hole ++ reverse z)) up.places ∙ sym k.places) (is.front ∙ ap (λ n. front_of n is.hole.front) up.stop ∙ ap (λ (h : SplicedValue). front_of k.start h.front) hole ∙ sym k.front) (same_by_parts copies one is other.payload long down.bytes up.bytes bytes))
 
 pub same_copies_splice : SameCopiesSplice

@@ -37,11 +37,7 @@ module _ (original : List ℕ) (copies : List (List ℕ)) (spliced : SplicedValu
       let claim = agree place.end (link_of spliced.payload place.start place.end) (subst (IsEnd original) (sym lie.0) is_end) here.only.there in
       let rest = links_down agree place.start places front (before claim.0.is_end claim.0.cut) lie.1
       (All-tail (IsSettledDown copies spliced.payload) place places settled) in
-      record {
-        links = All-cons (IsItsLink original spliced) place places
-            (record { link = claim.0; bytes = ap (λ (piece : LinkValue). piece.bytes) claim.1 }) rest.links;
-        is_end = rest.is_end;
-      }
+      grind (arith, All-cons)
 
   module _ (agree : AreConsistentFromBelow original copies) (bound : ℕ) (within : bound ≤ length original) where
     link_up : (place : Place) → IsEnd original place.start → IsSettledUp copies bound spliced.payload place → IsItsLink original spliced place
@@ -53,10 +49,7 @@ module _ (original : List ℕ) (copies : List (List ℕ)) (spliced : SplicedValu
         let same : piece ≡ record { end = link.0; bytes = slice_range original place.start link.0 } =
         agree place.start link.0 piece link.1 (omega arith) settled.only.there in
         let ends : place.end ≡ link.0 = ap (λ (piece : PieceFrom). piece.end) same in
-        record {
-          link = subst (IsLinkOf original place.start) (sym ends) link.1;
-          bytes = ap (λ (piece : PieceFrom). piece.bytes) same ∙ sym (ap (λ e. slice_range original place.start e) ends);
-        }
+        grind arith
 
     links_up : (start : ℕ) (places : List Place) (top : ℕ) → IsEnd original start → RiseFrom start places top
         → All (IsSettledUp copies bound spliced.payload) places → AreWalkLinks original spliced places top
@@ -117,13 +110,11 @@ module _ (original : List ℕ) (copies : List (List ℕ)) (spliced : SplicedValu
         let there : next.0 ≡ place.start + (next.0 - place.start) = omega arith in
         let here : place.start ≡ place.start + 0 = omega arith in
         let footer : IsClaimedStart (versions_at copies place.start is.bound) (next.0 - place.start) 0 =
-        claim_in place.start is.bound copies (next.0 - place.start) 0 (omega arith)
-        (subst (IsClaimedStart copies (place.start + (next.0 - place.start))) here
-        (subst (λ n. IsClaimedStart copies n place.start) there (claim place.start next.0 next.1))) in
+        claim_in place.start is.bound copies (next.0 - place.start) 0 (omega arith) (rw (← here) (rw (← there) (claim place.start next.0 next.1))) in
         let size : next.0 - place.start ≡ crossed.size =
         crossed.lost.end'.others (next.0 - place.start) (record { claim = footer; within = omega arith }) in
         let ends : next.0 ≡ place.end = omega (arith, crossed.ends) in
-        subst (IsLinkOf original place.start) ends next.1
+        rw (← ends) next.1
 
     links_across : (start : ℕ) (crossings : List Crossing) (top : ℕ) → IsEnd original start → AreCrossings copies is.bound spliced.payload start crossings top
         → AreLegLinks original spliced crossings top
@@ -159,9 +150,7 @@ has_links : (original : List ℕ) (copies : List (List ℕ)) (spliced : SplicedV
     → AreLinkPlaces original (length original) spliced.places spliced.front
 has_links original copies spliced is long whole links =
     record {
-      links = links_of_places original (length original) spliced.places
-          (subst (LieFrom (length original) spliced.places) whole
-          (subst (λ end. LieFrom end spliced.places spliced.front) long (places_lie copies spliced is))) links;
+      links = links_of_places original (length original) spliced.places (rw (← whole) (rw (← long) (places_lie copies spliced is))) links;
       whole = whole;
       each = links;
     }

@@ -22,8 +22,7 @@ module _ (a b : List ℕ) where
   same_down end (place ∷ places) front lie up same before =
       let rest = same_down place.start places front lie.1 (All-tail (λ place. place.start ≤ place.end) place places up)
       (All-tail IsSameAt place places same) before in
-      subst (λ n. take n a ≡ take n b) lie.0
-      (same_on place.start place.end (All-head (λ place. place.start ≤ place.end) place places up) rest (All-head IsSameAt place places same))
+      grind (arith, same_on, All-head)
 
   pub same_up : (start : ℕ) (places : List Place) (top : ℕ) → RiseFrom start places top → All (λ place. place.start ≤ place.end) places
       → All IsSameAt places → take start a ≡ take start b → take top a ≡ take top b
@@ -41,6 +40,5 @@ same_by_parts copies spliced is bytes long above below hole =
     let to_start : take is.start a ≡ take is.start bytes =
     cc (same_up a bytes 0 (lower copies spliced is) is.start (lower_rise copies spliced is) (All-weaker (λ place. place.start < place.end) (λ place. place.start ≤ place.end) (λ place order. omega arith) (lower copies spliced is) (lower_upright copies spliced is)) below refl) in
     let to_end : take is.end a ≡ take is.end bytes = cc (same_on a bytes is.start is.end (start_within copies spliced is) to_start (sym is.bytes ∙ hole)) in
-    let all : take (length a) a ≡ take (length a) bytes =
-    same_down a bytes (length a) is.above is.end is.down.lie (above_upright copies spliced is) above to_end in
+    let all : take (length a) a ≡ take (length a) bytes = grind (arith, same_down, above_upright) in
     sym (take_all (length a) a (omega arith)) ∙ all ∙ take_all (length a) bytes (omega (arith, long))

@@ -20,8 +20,7 @@ module _ (original : List ℕ) (copies : List (List ℕ)) (spliced : SplicedValu
       → IsItsLink original spliced (moved_by is.start place)
   its_link place here settled is_end =
       let bytes : List ℕ = slice_range spliced.payload (is.start + place.start) (is.start + place.end) in
-      let stands : StandsAs (versions_at copies is.start is.end) place.start place.end bytes Settled =
-      subst (StandsAs (versions_at copies is.start is.end) place.start place.end bytes) settled here.stands in
+      let stands : StandsAs (versions_at copies is.start is.end) place.start place.end bytes Settled = grind (arith, versions_at) in
       let claim = agree (is.start + place.end) (record { start = is.start + place.start; bytes = bytes }) is_end
       (piece_out is.start is.end copies place.end (record { start = place.start; bytes = bytes }) here.within stands.there) in
       record { link = claim.0; bytes = ap (λ (piece : LinkValue). piece.bytes) claim.1 }
@@ -43,11 +42,7 @@ module _ (original : List ℕ) (copies : List (List ℕ)) (spliced : SplicedValu
       let link : IsLinkOf original (is.start + one.start) (is.start + one.end) =
       elim (All-head (λ one. (one.standing ≡ Settled) ⊎ IsClaimedAsIn original copies (is.start + one.end)) one higher claims) [
         | inl settled ↦ (its_link one here settled is_here).link
-        | inr as_in ↦ elim (claims_start (versions_at copies is.start is.end) one.start one.end
-            (slice_range spliced.payload (is.start + one.start) (is.start + one.end)) one.standing here.stands) [
-              | inl claim ↦ as_in (is.start + one.start) (claim_out is.start is.end copies one.end one.start here.within claim)
-              | inr none ↦ absurd (omega (arith, none.0, end_here one.start higher place lower front lie.1 rest))
-            ]
+        | inr as_in ↦ grind (arith, claims_start, versions_at, claim_out, end_here)
       ] in
       reached one.start higher place lower front (before link.is_end link.cut) lie.1 rest
       (All-tail (λ one. (one.standing ≡ Settled) ⊎ IsClaimedAsIn original copies (is.start + one.end)) one higher claims)

@@ -68,8 +68,7 @@ module _ (copies : List (List ℕ)) where
       let above = starts_above whole front places (down_upright a places settled) lie k d lt in
       record {
         standing = is.standing;
-        only = subst (λ z. IsOnly (IsPiece copies place.end) (record { start = place.start; bytes = z }))
-            (range_after a b front place.start place.end above same) is.only;
+        only = rw (← range_after a b front place.start place.end above same) is.only;
       }
 
   pub down_more : (payload : List ℕ) (places : List Place) (whole start end : ℕ) (bytes : List ℕ) → LieFrom whole places end
@@ -116,11 +115,7 @@ module _ (copies : List (List ℕ)) (bound : ℕ) where
       let is = settled k d lt in
       let upright = up_upright a places settled in
       let bytes = range_before a b top place.start place.end (ends_under from top places upright rise k d lt) same in
-      record {
-        standing = is.standing;
-        first = subst (λ z. IsShortest copies bound place.start (record { end = place.end; bytes = z })) bytes is.first;
-        only = subst (λ z. IsOnly (IsPiece copies place.end) (record { start = place.start; bytes = z })) bytes is.only;
-      }
+      grind arith
 
   pub up_more : (payload : List ℕ) (from : ℕ) (places : List Place) (start end : ℕ) (bytes : List ℕ) → RiseFrom from places start
       → All (IsSettledUp copies bound payload) places
@@ -146,7 +141,6 @@ module _ (copies : List (List ℕ)) (bound : ℕ) where
       → ((piece : LinkValue) → IsOnly (IsPiece copies one.end) piece → ⊥) → (piece : PieceFrom) → IsShortest copies bound start piece
       → IsOnly (IsPiece copies piece.end) (record { start = start; bytes = piece.bytes }) → ⊥
   shared_end start one is shared piece also only =
-      let before = is.least piece also.there in
       let after = also.least one is.there in
       let ends : piece.end ≡ one.end = omega arith in
       shared (record { start = start; bytes = piece.bytes }) (subst (λ n. IsOnly (IsPiece copies n) (record { start = start; bytes = piece.bytes })) ends only)

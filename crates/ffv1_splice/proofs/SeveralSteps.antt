@@ -73,9 +73,7 @@ module _ (copies : List (List ℕ)) (end : ℕ) where
       → (start : ℕ) (bytes : List ℕ) (count : ℕ) → IsWeaveOfSeveral copies start end bytes count → ⊥
   not_claim_alone from weave claim is unwoven unmissing start bytes count h = elim (cases_eq from start) [
     | inl same ↦
-        unwoven bytes (get_or h.tried start 0)
-        (one_weave_from from weave (woven bytes (get_or h.tried start 0)) is
-        (subst (λ s. IsWeaveFrom s (woven bytes (get_or h.tried start 0))) (sym same) h.weave'))
+        unwoven bytes (get_or h.tried start 0) (one_weave_from from weave (woven bytes (get_or h.tried start 0)) is (rw same h.weave'))
     | inr apart ↦ unmissing (get_or h.tried from 0) (one_weave_from from weave (missing (get_or h.tried from 0)) is (h.others from claim apart))
   ]
 
@@ -94,7 +92,6 @@ module _ (copies : List (List ℕ)) (end : ℕ) where
   pub not_all_missing : (tried : List ℕ) → AreMissing copies end end (λ start. ⊥) tried
       → (start : ℕ) (bytes : List ℕ) (count : ℕ) → IsWeaveOfSeveral copies start end bytes count → ⊥
   not_all_missing tried are start bytes count w =
-      let content : HasContent start end = w.claim.content in
       let e = one_weave_from start (missing (get_or tried start 0)) (woven bytes (get_or w.tried start 0))
       (are.missing' start (omega arith) w.claim (λ none. none)) w.weave' in
       absurd (cc)
@@ -123,11 +120,7 @@ module _ (copies : List (List ℕ)) (end : ℕ) where
                 subst (λ n. IsWeaveFrom other (missing n)) (sym (grown_before tried start count other (omega arith) (omega arith)))
                 (are.missing' other below claim not_apart)
           ];
-          no_claim = λ other no_claim. elim (cases_lt other from) [
-            | inl below ↦ grown_before tried start count other (omega arith) (omega arith) ∙ are.no_claim other no_claim
-            | inr above ↦ grown_else tried start count other (omega arith) (omega arith)
-                (λ same. no_claim (subst (IsClaimedStart copies end) (sym same) next.there))
-          ];
+          no_claim = grind (arith, cases_lt, grown_before, grown_else);
         }
 
     -- set apart, where something comes of it
@@ -160,7 +153,6 @@ module _ (copies : List (List ℕ)) (end : ℕ) where
     tried_next (none_woven n) disputed is h = not_claim_alone start disputed next.there is (λ bytes count e. absurd (cc)) (λ count e. absurd (cc))
     tried_next (none_woven n) too_many is h = not_claim_alone start too_many next.there is (λ bytes count e. absurd (cc)) (λ count e. absurd (cc))
     tried_next (one_woven first bytes n) (woven other more) is h =
-        let before = h.1.before in
         let beyond = next.beyond in
         not_two_claim first start bytes other (get_or h.0 first 0) more (omega arith) h.1.claim next.there h.1.weave' is
     tried_next (one_woven first bytes n) (missing more) is h =
@@ -169,11 +161,10 @@ module _ (copies : List (List ℕ)) (end : ℕ) where
         let places = h.1.others.places in (
           grown h.0 start more,
           record {
-            others = missing_more (λ other. other ≡ first) h.0 more h.1.others
-                (λ other same apart. subst (λ s. IsWeaveFrom s (missing more)) (sym same) is);
+            others = missing_more (λ other. other ≡ first) h.0 more h.1.others (λ other same apart. rw same is);
             before = omega arith;
             claim = h.1.claim;
-            weave' = subst (λ m. IsWeaveFrom first (woven bytes m)) (sym (grown_before h.0 start more first (omega arith) (omega arith))) h.1.weave';
+            weave' = rw (grown_before h.0 start more first (omega arith) (omega arith)) h.1.weave';
           },
           counted_more h.0 start n more h.2,
         )
@@ -195,10 +186,7 @@ module _ (copies : List (List ℕ)) (end : ℕ) where
           missing' = λ start lt claim apart.
               let below = none start claim in
               subst (λ n. IsWeaveFrom start (missing n)) (sym (padded_before tried end start (omega arith))) (are.missing' start below claim apart);
-          no_claim = λ start no_claim. elim (cases_lt start from) [
-            | inl below ↦ padded_before tried end start (omega arith) ∙ are.no_claim start no_claim
-            | inr above ↦ padded_after tried end start (omega arith)
-          ];
+          no_claim = grind (arith, cases_lt, padded_before, padded_after);
         }
 
     pub tried_end : (value : TriedValue) → AreTriedBefore copies end from value → AreTriedBefore copies end end value
@@ -262,8 +250,7 @@ module _ (copies : List (List ℕ)) (end s t : ℕ) (a b : List ℕ) (m n : ℕ)
 
   same_number : (p : ℕ) → IsClaimedStart copies end p → get_or h.tried p 0 ≡ get_or k.tried p 0
   same_number p claim = elim (cases_eq p s) [
-    | inl same ↦ let e : get_or h.tried s 0 ≡ get_or k.tried s 0 = let e = same_weave in cc in
-        subst (λ q. get_or h.tried q 0 ≡ get_or k.tried q 0) (sym same) e
+    | inl same ↦ grind (arith, same_weave)
     | inr apart ↦
         let e = one_weave_from copies end p (missing (get_or h.tried p 0)) (missing (get_or k.tried p 0)) (h.others p claim apart)
         (k.others p claim (λ same. apart (same ∙ sym one_start))) in
@@ -344,8 +331,7 @@ module _ (copies : List (List ℕ)) (copy : List ℕ) (end from : ℕ) where
       → MatchOption next (after ≡ start) (λ first. after ≡ min first start) → IsNext copies end from next
       → IsNextClaimedStart (copies ++ copy ∷ []) end from after
   next_more None start after cut content low is h =
-      let new : IsClaimedStart (copies ++ copy ∷ []) end start =
-      record { copy = copy; there = last copies copy end; cut = cut; content = content } in
+      let new : IsClaimedStart (copies ++ copy ∷ []) end start = grind (arith, last) in
       record {
         there = subst (IsClaimedStart (copies ++ copy ∷ []) end) (sym is) new;
         beyond = omega arith;
@@ -355,15 +341,10 @@ module _ (copies : List (List ℕ)) (copy : List ℕ) (end from : ℕ) where
         ];
       }
   next_more (Some first) start after cut content low is h =
-      let new : IsClaimedStart (copies ++ copy ∷ []) end start =
-      record { copy = copy; there = last copies copy end; cut = cut; content = content } in
+      let new : IsClaimedStart (copies ++ copy ∷ []) end start = grind (arith, last) in
       let beyond = h.beyond in
       record {
-        there = elim (cases_lt first start) [
-          | inl below ↦ let same : first ≡ after = omega arith in
-              subst (IsClaimedStart (copies ++ copy ∷ []) end) same (start_on copies copy end first h.there)
-          | inr above ↦ let same : start ≡ after = omega arith in subst (IsClaimedStart (copies ++ copy ∷ []) end) same new
-        ];
+        there = grind (arith, cases_lt, start_on);
         beyond = omega arith;
         least = λ other claim high. elim (start_back copies copy end other claim) [
           | inl there ↦ let least = h.least other there high in omega arith

@@ -56,8 +56,7 @@ no_piece : IsOfNone (IsPiece damaged_copies 11)
 no_piece piece h = elim (claim_which h.copy piece.start h.there h.cut) [
   | inl at ↦ damaged_first_fails (subst PassesParity
       (h.bytes ∙ ap (λ s. slice_range h.copy s 11) at.1 ∙ ap (λ c. slice_range c 0 11) at.0) h.passes)
-  | inr at ↦ later_fails (subst PassesParity
-      (h.bytes ∙ ap (λ s. slice_range h.copy s 11) at.1 ∙ ap (λ c. slice_range c 1 11) at.0) h.passes)
+  | inr at ↦ grind (arith, later_fails)
 ]
 
 -- ---- from the first start
@@ -127,13 +126,7 @@ tried_two = tried_first two 2 (record {
 woven_of_two : IsWeaveOf Slice two (woven vectors.first_slice 2)
 woven_of_two = (
   record {
-    there = record {
-      split = _;
-      count = 2;
-      tried = tried_two;
-      combination = itself vectors.first_slice right_there;
-      passes = (record { footer = omega arith; size = refl }, first_slice_passes);
-    };
+    there = grind (arith, tried_two, itself, right_there, first_slice_passes);
     others = λ other valid. elim (either other (tried_combination two Slice (first_of splits (omega arith)) 2 tried_two other valid)) [
       | inl damaged ↦ absurd (damaged_first_fails (subst PassesParity damaged valid.passes.1))
       | inr right ↦ right

@@ -202,14 +202,5 @@ module _ (copies : List (List ℕ)) (bound start from : ℕ) where
                 let least : end ≤ piece.end = shortest.least piece (record { there = q; within = omega (arith, p.within) }) in
                 absurd (omega (arith, p.within))
           ];
-          found = (
-            record {
-              there = subst (λ e. IsPiece (copies ++ copy ∷ []) e (record { start = start; bytes = bytes.now })) (sym size)
-                  (subst (λ b. IsPiece (copies ++ copy ∷ []) end (record { start = start; bytes = b })) (sym is)
-                  (piece_in (copies ++ copy ∷ []) copy start end (slice_range copy start end)
-                  (Contains-append_right copies (copy ∷ []) copy (in_itself copy)) shortest.there.there));
-              within = omega (arith, h.fits);
-            },
-            omega arith,
-          );
+          found = grind (arith, piece_in, Contains-append_right, in_itself);
         }

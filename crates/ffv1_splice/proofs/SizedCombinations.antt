@@ -107,10 +107,7 @@ module _ (copies : List (List ℕ)) (start end : ℕ) (slice : List ℕ) (reach 
   agree_sized i agree one other in_one in_other =
       let a = mapped_of sized versions one in_one in
       let b = mapped_of sized versions other in_other in
-      let same : get_or (sized a.0) i 0 ≡ get_or (sized b.0) i 0 = elim (field_or_not size i (omega arith)) [
-        | inl off ↦ same_off a.0 a.1 i off ∙ agree a.0 b.0 a.1 b.1 ∙ sym (same_off b.0 b.1 i off)
-        | inr field ↦ sym (same_in a.0 a.1 i field) ∙ same_in b.0 b.1 i field
-      ] in
+      let same : get_or (sized a.0) i 0 ≡ get_or (sized b.0) i 0 = grind (arith, field_or_not, same_off, same_in) in
       ap (λ z. get_or z i 0) a.2 ∙ same ∙ sym (ap (λ z. get_or z i 0) b.2)
 
   -- what the slice has of one version, it has of that version with its size

@@ -91,14 +91,9 @@ module _ (copies : List (List ℕ)) (spliced : SplicedValue) (is : IsSpliceOf co
   pub places_lie : LieFrom (length spliced.payload) spliced.places spliced.front
   places_lie =
       let rest = lie_below is.start is.hole.front (lower copies spliced is) (lower_rise copies spliced is) lower_upright in
-      let hole : LieFrom is.end (map (moved_by is.start) is.hole.places) (is.start + is.hole.front) =
-      subst (λ n. LieFrom n (map (moved_by is.start) is.hole.places) (is.start + is.hole.front)) hole_length
-      (lie_moved is.start (length is.hole.payload) is.hole.places is.hole.front is.divided.lie) in
+      let hole : LieFrom is.end (map (moved_by is.start) is.hole.places) (is.start + is.hole.front) = grind (arith, moved_by, hole_length, lie_moved) in
       let joined : LieFrom is.end (hole_places is.start is.hole ++ reverse (lower copies spliced is)) (front_of is.start is.hole.front) =
-      subst (λ z. LieFrom is.end z (front_of is.start is.hole.front))
-      (sym (append_assoc (map (moved_by is.start) is.hole.places) (undivided_places is.start is.hole.front) (reverse (lower copies spliced is))))
-      (lie_append is.end (is.start + is.hole.front) (front_of is.start is.hole.front) (map (moved_by is.start) is.hole.places)
-      (undivided_places is.start is.hole.front ++ reverse (lower copies spliced is)) hole rest) in
+      grind (arith, front_of, append_assoc, moved_by, undivided_places, lie_append) in
       subst (λ n. LieFrom (length spliced.payload) spliced.places n) (sym is.front)
       (subst (λ z. LieFrom (length spliced.payload) z (front_of is.start is.hole.front)) (sym is.places)
       (lie_append (length spliced.payload) is.end (front_of is.start is.hole.front) is.above (hole_places is.start is.hole ++ reverse (lower copies spliced is))

@@ -1,5 +1,5 @@
 -- The splice, place after place from the end.
-use Rattle.ffv1_splice.proofs.Common.{◌≡◌, ℕ, ◌+◌, ◌<◌, ◌≤◌, List, [], ◌∷◌, ◌++◌, Bor, length, take, drop, get_or, map, sym, ap, ◌∙◌, subst, arith, drop-append_seam, append-nil, append_assoc, length-append, length-drop, length-take-le, drop_all, take_all, IsLeast, StandsAs, IsStop, written, length_at, HasOneLength, Place, value_at, length-values_of}
+use Rattle.ffv1_splice.proofs.Common.{◌≡◌, ℕ, ◌+◌, ◌<◌, ◌≤◌, List, [], ◌∷◌, ◌++◌, Bor, length, take, drop, get_or, map, sym, ap, ◌∙◌, arith, drop-append_seam, append-nil, append_assoc, length-append, length-drop, length-take-le, drop_all, take_all, IsLeast, StandsAs, IsStop, written, length_at, HasOneLength, Place, value_at, length-values_of}
 use Rattle.ffv1_splice.proofs.Walks.{IsSpliceBefore}
 use Rattle.ffv1_splice.proofs.Walks.IsSpliceBefore.{stops, goes}
 
@@ -40,8 +40,7 @@ module _ (copies : List (List ℕ)) where
   continues_end whole end after bytes payload size within stop least h =
       let all : IsSpliceBefore copies whole (after ++ []) end (bytes ++ drop end payload) = h [] end bytes (stops stop least) in
       let zero : 0 + length bytes ≡ end = omega arith in
-      subst (λ ps. IsSpliceBefore copies whole ps end (written payload 0 bytes)) (append-nil after)
-      (subst (IsSpliceBefore copies whole (after ++ []) end) (ap (λ n. bytes ++ drop n payload) (sym zero)) all)
+      grind (arith, written, append-nil)
 
 -- ---- copies of one length
 

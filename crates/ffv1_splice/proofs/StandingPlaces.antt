@@ -108,8 +108,7 @@ module _ (copies : List (List ℕ)) (spliced : SplicedValue) (is : IsSpliceOf co
   settled_at place (above settled_down) settled = settled_down.only.there
   settled_at place (between h) settled =
       let bytes : List ℕ = slice_range spliced.payload place.start place.end in
-      let stands : StandsAs (versions_at copies h.from h.to) h.start h.end bytes Settled =
-      subst (StandsAs (versions_at copies h.from h.to) h.start h.end bytes) settled h.stands in
+      let stands : StandsAs (versions_at copies h.from h.to) h.start h.end bytes Settled = grind (arith, versions_at) in
       subst (λ s. IsPiece copies place.end (record { start = s; bytes = bytes })) (sym h.starts)
       (subst (λ e. IsPiece copies e (record { start = h.from + h.start; bytes = bytes })) (sym h.ends)
       (piece_out h.from h.to copies h.end (record { start = h.start; bytes = bytes }) h.within stands.there))

@@ -80,10 +80,9 @@ module _ (copies : List (List ℕ)) (copy : List ℕ) (end : ℕ) where
   pub pieces-failed : (claim : Tally LinkValue) (start : ℕ) → FooterGives copy start end → (PassesParity (slice_range copy start end) → ⊥) → Tallies (IsPiece copies end) claim
       → Tallies (IsPiece (copies ++ copy ∷ []) end) claim
   pieces-failed claim start cut fails h =
-      tallies_same (IsPiece copies end) (IsPiece (copies ++ copy ∷ []) end) claim piece_on
-      (λ piece q. elim (piece_back piece q) [
+      tallies_same (IsPiece copies end) (IsPiece (copies ++ copy ∷ []) end) claim piece_on (λ piece q. elim (piece_back piece q) [
         | inl p ↦ p
-        | inr new ↦ absurd (fails (subst (λ s. PassesParity (slice_range copy s end)) (one_cut start piece.start cut new.0) new.3))
+        | inr new ↦ absurd (fails (rw (← one_cut start piece.start cut new.0) new.3))
       ]) h
 
   pub pieces-passed : (claim after : Tally LinkValue) (start : ℕ) → FooterGives copy start end → HasContent start end → PassesParity (slice_range copy start end)

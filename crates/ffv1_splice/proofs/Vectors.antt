@@ -1,7 +1,7 @@
 -- Copies that are near the slices of a setup are near copies; two of the frame of two slices, of which each has one slice intact, are
 -- spliced to the frame; zeros, which read as a row of slices without content, have no places; a slice whose size field is lost in both
 -- copies is woven from the front; and places are written in words.
-use Rattle.ffv1_splice.proofs.Common.{◌≡◌, ℕ, zero, suc, ◌+◌, ◌-◌, ◌<◌, ◌≤◌, Bool, List, [], ◌∷◌, length, get_or, map, take, drop, replicate, refl, sym, ap, ◌∙◌, subst, arith, inl, inr, ◌⊎◌, ◌==◌, Contains, codes, slice_range, digits, nat_cmp, slice_cmp, Less, ext_get_or, length-take, take-replicate, drop-replicate, All-nil, number_bits, bits_of, AreBytes, PassesParity, polynomial_of, divided, remainder_of, SetupValue, size_before, FooterGives, IsEnd, IsLinkOf, IsSliceOf, IsOriginal, starts_at, version_at, IsDamagedWithin32, IsNear, starts_none, FooterGivesAt, end_of_tile, tile_of_cut, original_cut, bytes_of_tile, length-range, size_of_range, splits, IsCombinationBy, HasFew, IsTriedBy, AreFew, HasContent, IsLeast, versions_at, sized, StandsAs, IsStop, SplicedValue, IsSettledDown, IsSettledUp, IsDivisionOf, IsSpliceOf, IsUndamaged, IsIntact, IsNearCopy, AreNearCopies, IsIntactInSome, standing_word, place_words, Woven, Voted, Repaired}
+use Rattle.ffv1_splice.proofs.Common.{◌≡◌, ℕ, zero, suc, ◌+◌, ◌-◌, ◌<◌, ◌≤◌, Bool, List, [], ◌∷◌, length, get_or, map, drop, replicate, refl, sym, ap, ◌∙◌, subst, arith, inl, inr, ◌⊎◌, ◌==◌, Contains, codes, slice_range, digits, nat_cmp, slice_cmp, ext_get_or, length-take, take-replicate, drop-replicate, All-nil, number_bits, bits_of, AreBytes, PassesParity, polynomial_of, divided, remainder_of, SetupValue, size_before, FooterGives, IsEnd, IsLinkOf, IsSliceOf, IsOriginal, starts_at, version_at, IsDamagedWithin32, IsNear, starts_none, FooterGivesAt, end_of_tile, tile_of_cut, original_cut, bytes_of_tile, length-range, size_of_range, splits, IsCombinationBy, HasFew, IsTriedBy, AreFew, HasContent, IsLeast, versions_at, sized, StandsAs, IsStop, SplicedValue, IsSettledDown, IsSettledUp, IsDivisionOf, IsSpliceOf, IsUndamaged, IsIntact, IsNearCopy, AreNearCopies, IsIntactInSome, standing_word, place_words, Woven, Voted, Repaired}
 use Rattle.ffv1_slice.proofs.NearVectors as vectors
 use Rattle.ffv1_splice.specs.Laws as laws
 use Rattle.ffv1_splice.proofs.DividedLinks.{end_within}
@@ -113,8 +113,7 @@ zeros_size : (end : ℕ) → 8 ≤ end → end ≤ 16 → size_before zeros end 
 zeros_size end footer within =
     let eight : end - (end - 8) ≡ 8 = omega arith in
     let rest : drop (end - 8) zeros ≡ replicate (16 - (end - 8)) 0 = drop-replicate (end - 8) 16 0 in
-    let all : slice_range zeros (end - 8) end ≡ replicate 8 0 =
-    ap (λ n. take n (drop (end - 8) zeros)) eight ∙ ap (take 8) rest ∙ take-replicate 8 (16 - (end - 8)) 0 (omega arith) in
+    let all : slice_range zeros (end - 8) end ≡ replicate 8 0 = grind (arith, take-replicate) in
     size_of_range zeros (end - 8) end (omega arith) within ∙ ap (λ slice. size_before slice (length slice)) all
 
 zeros_cut : (copy : List ℕ) (start end : ℕ) → Contains (zeros ∷ []) copy → end ≤ 16 → FooterGives copy start end → HasContent start end → ⊥
@@ -137,8 +136,7 @@ zeros_stop = record {
       (λ i lt. valid.combination.agrees i (λ one other in_one in_other. ap (λ v. get_or v i 0)
       (only_copy (sized zeros) one in_one ∙ sym (only_copy (sized zeros) other in_other))) (sized zeros) here) in
       sized_zeros_fail (subst PassesParity same valid.passes.1);
-  unwoven = λ start bytes count several.
-      zeros_cut several.claim.copy start 16 several.claim.there (omega arith) several.claim.cut several.claim.content;
+  unwoven = grind (arith, zeros_cut);
 }
 
 zeros_least : IsLeast (zeros ∷ []) 0 16 zeros
@@ -146,10 +144,7 @@ zeros_least = record {
   copy = zeros;
   there = (0, omega arith, refl);
   lies = refl;
-  least = λ other there less.
-      let same : slice_cmp nat_cmp (slice_range zeros 0 16) zeros ≡ Less =
-      subst (λ c. slice_cmp nat_cmp (slice_range c 0 16) zeros ≡ Less) (only_copy zeros other there) less in
-      absurd (cc);
+  least = grind (arith, slice_cmp, nat_cmp, only_copy);
 }
 
 -- and the splice of zeros has no places: they are all a front that can't be divided
@@ -178,12 +173,7 @@ zeros_are_spliced = record {
     stop = λ piece first only.
         zeros_cut only.there.copy 0 piece.end only.there.there first.there.within only.there.cut only.there.content;
   };
-  across = record {
-    are = refl;
-    few = omega arith;
-    stop = inr (λ end lost. let claimed = lost.end'.there in
-        zeros_cut claimed.claim.copy 0 end claimed.claim.there claimed.within claimed.claim.cut claimed.claim.content);
-  };
+  across = grind (arith, zeros_cut);
   divided = zeros_divided;
   bytes = refl;
   places = refl;

@@ -1,7 +1,7 @@
 -- What copies have between two places.
 use Rattle.ffv1_splice.proofs.Common.{◌≡◌, ℕ, ◌+◌, ◌-◌, ◌*◌, ◌/◌, ◌%◌, ◌<◌, ◌≤◌, List, [], ◌∷◌, ◌++◌, Bor, length, get_or, take, map, sym, ap, ◌∙◌, subst, arith, All, Contains, bit_xor, slice_range, get_or-map, length-map, take_more, Contains-get_or, length-range, HasSameMembers, HaveLength, woven, inverted, IsRepair, length-written, mapped_there, mapped_of, same_mapped, AllReach, versions_at, IsWeaveAt, IsVoteAt, IsRepairAt, value_at, length-values_of, value_there}
 use Rattle.std.specs.Prelude.{◌^◌}
-use Rattle.ffv1_splice.proofs.PlaceSteps.{claim_below, unwoven_weave}
+use Rattle.ffv1_splice.proofs.PlaceSteps.{unwoven_weave}
 
 -- ---- versions
 
@@ -23,7 +23,6 @@ module _ (copies : List (List ℕ)) (start end : ℕ) where
   pub weave_size : (bytes : List ℕ) (count : ℕ) → AllReach copies end → IsWeaveAt copies start end (woven bytes count) → start + length bytes ≡ end
   weave_size bytes count reach h =
       let copy : List ℕ = h.claim.there.copy in
-      let below = claim_below copies start end h.claim.there in
       let size = length-range copy start end (omega arith) (reach copy h.claim.there.there) in
       let same = h.weave'.0.there.combination.same_length (slice_range copy start end) (version_there copy h.claim.there.there) in
       omega arith
@@ -32,7 +31,6 @@ module _ (copies : List (List ℕ)) (start end : ℕ) where
   pub vote_size : (bytes : List ℕ) (count : ℕ) → AllReach copies end → IsVoteAt copies start end bytes count → start + length bytes ≡ end
   vote_size bytes count reach h =
       let claim = (unwoven_weave copies start end h.unwoven).1.claim.there in
-      let below = claim_below copies start end claim in
       let size = length-range claim.copy start end (omega arith) (reach claim.copy claim.there) in
       let same = h.vote.only.there.combination.same_length (slice_range claim.copy start end) (version_there claim.copy claim.there) in
       omega arith
@@ -41,7 +39,6 @@ module _ (copies : List (List ℕ)) (start end : ℕ) where
   pub repair_size : (bytes : List ℕ) (count : ℕ) → AllReach copies end → IsRepairAt copies start end bytes count → start + length bytes ≡ end
   repair_size bytes count reach h =
       let claim = h.missed.claim.there in
-      let below = claim_below copies start end claim in
       let size = length-range claim.copy start end (omega arith) (reach claim.copy claim.there) in
       let repair : IsRepair (versions_at copies start end) bytes = h.repair.only.there in
       let same = repair.combination.same_length (slice_range claim.copy start end) (version_there claim.copy claim.there) in

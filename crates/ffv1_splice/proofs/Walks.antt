@@ -95,15 +95,8 @@ module _ (copies : List (List ℕ)) where
       → IsTallyBefore copies end places front payload
   claim_before end places front payload reach (stops {bytes = bytes} stop least) =
       let size = least_size copies 0 end bytes reach (omega arith) least in
-      record {
-        size = omega arith;
-        lie = refl;
-        stand = All-nil (λ place. StandsAs copies place.start place.end (slice_range bytes place.start place.end) place.standing);
-        stop = stop;
-        before = subst (IsLeast copies 0 end) (sym (take_all end bytes (omega arith))) least;
-      }
+      grind (arith, All-nil, take_all)
   claim_before end places front payload reach (goes {start = start} {standing = standing} {places = more} {before = before} bytes stands h) =
-      let below = stands_below copies start end bytes standing stands in
       let copy = copy_before start more front before h in
       let long = stands_size copies copy.0 copy.1 start end bytes standing reach stands in
       let rest = claim_before start more front before (reach_less copies end start (omega arith) reach) h in
@@ -126,7 +119,6 @@ module _ (copies : List (List ℕ)) where
   pub splice_before : (end : ℕ) (places : List Place) (front : ℕ) (payload : List ℕ) → AllReach copies end → IsTallyBefore copies end places front payload
       → IsSpliceBefore copies end places front payload
   splice_before end [] front payload reach claim =
-      let size = claim.size in
       let here : end ≡ front = claim.lie in
       let all : take front payload ≡ payload = take_all front payload (omega arith) in
       subst (λ e. IsSpliceBefore copies e [] front payload) (sym here) (stops claim.stop (subst (IsLeast copies 0 front) all claim.before))
@@ -149,24 +141,16 @@ module _ (copies : List (List ℕ)) where
         stand = λ k d lt. let inside = within k d lt in stands_alike (take place.start payload) payload (get_or places k d)
             (slice-take payload place.start (get_or places k d).start (get_or places k d).end (omega arith) (omega arith)) (rest k d lt);
         stop = claim.stop;
-        before = subst (IsLeast copies 0 front) (sym (take-take front place.start payload far)) claim.before;
+        before = rw (take-take front place.start payload far) claim.before;
       }) in
-      subst (λ e. IsSpliceBefore copies e (place ∷ places) front payload) ends
-      (subst (IsSpliceBefore copies place.end (place ∷ places) front) whole
-      (goes (slice_range payload place.start place.end) stands before))
+      rw (← ends) (rw (← whole) (goes (slice_range payload place.start place.end) stands before))
 
   -- the division of copies of one length
   pub division_of : (whole : ℕ) (places : List Place) (front : ℕ) (payload : List ℕ) → ((copy : List ℕ) → Contains copies copy → length copy ≡ whole)
       → IsSpliceBefore copies whole places front payload → IsDivisionOf copies (record { places = places; front = front; payload = payload })
   division_of whole places front payload one h =
       let claim = claim_before whole places front payload (λ copy there. omega (arith, one copy there)) h in
-      record {
-        one_length = λ copy there. one copy there ∙ sym claim.size;
-        lie = subst (λ n. LieFrom n places front) (sym claim.size) claim.lie;
-        stand = claim.stand;
-        stop = claim.stop;
-        before = claim.before;
-      }
+      grind arith
 
   pub division_walk : (spliced : SplicedValue) → IsDivisionOf copies spliced
       → IsSpliceBefore copies (length spliced.payload) spliced.places spliced.front spliced.payload

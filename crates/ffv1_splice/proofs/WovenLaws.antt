@@ -1,11 +1,11 @@
 -- What is woven of copies of an original.
-use Rattle.ffv1_splice.proofs.Common.{◌≡◌, ℕ, ◌<◌, List, length, get_or, map, refl, sym, ◌∙◌, subst, arith, inl, inr, All, Contains, slice_range, All-contains_itself, cases_eq, AreBytes, PassesParity, AreBytes-range, FooterGives, IsEnd, IsLinkOf, IsFramed, last, IsOnly, IsOfTwo, length-range, size_of_range, IsAmongTried, KeepsOriginal, Weave, IsWeaveOf, AreMany, Slice, original_is_woven, HasContent, IsClaimedStart, versions_at, sized, IsWeaveAt, IsUnwovenAt, IsWeaveOfSeveral, StandsAs, SplicedValue, IsDivisionOf, IsSpliceOf, IsSettledOrWoven, IsGivenBack, AreCopiesOf, IsTriedAt, AreWeavable, KeepsLink, WovenIsOriginal, GivenBackIsOriginal, Standing, Settled, Woven, Voted, Repaired, Disputed, Missing, Undivided, Place}
+use Rattle.ffv1_splice.proofs.Common.{◌≡◌, ℕ, ◌<◌, List, length, get_or, map, refl, sym, ◌∙◌, subst, arith, inl, inr, All, Contains, slice_range, All-contains_itself, cases_eq, AreBytes, PassesParity, AreBytes-range, FooterGives, IsEnd, IsLinkOf, IsFramed, last, IsOnly, IsOfTwo, length-range, size_of_range, IsAmongTried, KeepsOriginal, Weave, IsWeaveOf, AreMany, Slice, original_is_woven, IsClaimedStart, versions_at, sized, IsWeaveAt, IsUnwovenAt, IsWeaveOfSeveral, StandsAs, SplicedValue, IsDivisionOf, IsSpliceOf, IsSettledOrWoven, IsGivenBack, AreCopiesOf, IsTriedAt, AreWeavable, KeepsLink, WovenIsOriginal, GivenBackIsOriginal, Standing, Settled, Woven, Voted, Repaired, Disputed, Missing, Undivided, Place}
 use Rattle.ffv1_weave.specs.Weave.Weave.{woven as weave_woven, missing as weave_missing}
 use Rattle.ffv1_splice.proofs.DividedLinks.{end_within, link_at, AreLinkPlaces, link_places, settled_link, same_payload}
 use Rattle.ffv1_splice.proofs.Versions.{version_of}
 use Rattle.ffv1_splice.proofs.PlaceSteps.{claim_below, unwoven_weave, missing_unwoven}
 use Rattle.ffv1_splice.proofs.NarrowedOriginal.{AreWeavableDown, copies_narrowed, weavable_narrowed}
-use Rattle.ffv1_splice.proofs.Walks.{IsSpliceBefore, division_walk, stands_below}
+use Rattle.ffv1_splice.proofs.Walks.{division_walk, stands_below}
 use Rattle.ffv1_splice.proofs.SplicePlaces.{places_lie, start_within}
 use Rattle.ffv1_splice.proofs.StandingPlaces.{between_versions, between_tried, IsPlaceOf, place_of, hole_given_back}
 use Rattle.ffv1_splice.proofs.StandingPlaces.IsPlaceOf.{above, between, undivided, below}
@@ -124,7 +124,6 @@ module _ (original : List ℕ) (copies : List (List ℕ)) (spliced : SplicedValu
   -- of several starts the one that gives a slice is the link's, since something comes of that
   several_cut : (start end : ℕ) (bytes : List ℕ) (count : ℕ) → IsEnd original end → IsWeaveOfSeveral copies start end bytes count → FooterGives original start end
   several_cut start end bytes count is_end h =
-      let below = claim_below copies start end h.claim in
       let at = link_at original of.whole end is_end (omega arith) in
       let link : IsLinkOf original at.0 end = record { is_end = is_end; cut = at.1 } in
       elim (cases_eq at.0 start) [
@@ -140,7 +139,6 @@ module _ (original : List ℕ) (copies : List (List ℕ)) (spliced : SplicedValu
   cuts start end bytes (Woven count) is_end (inl h) =
       let below = claim_below copies start end h.claim.there in claim_cut start end is_end (omega arith) h.claim
   cuts start end bytes (Woven count) is_end (inr (inl h)) =
-      let content : HasContent 0 end = h.1.content in
       let at = link_at original of.whole end is_end (omega arith) in
       absurd (h.1.no_claim at.0 (weavable.claim at.0 end (record { is_end = is_end; cut = at.1 })))
   cuts start end bytes (Woven count) is_end (inr (inr h)) = several_cut start end bytes count is_end h
@@ -161,8 +159,7 @@ module _ (original : List ℕ) (copies : List (List ℕ)) (spliced : SplicedValu
   places : AreLinkPlaces original (length original) spliced.places spliced.front
   places =
       link_places original copies cuts (length original) spliced.places spliced.front spliced.payload
-      (λ stop is_end after stops same. absurd (omega (arith, given.0))) last
-      (subst (λ n. IsSpliceBefore copies n spliced.places spliced.front spliced.payload) long (division_walk copies spliced is))
+      (λ stop is_end after stops same. absurd (omega (arith, given.0))) last (rw (← long) (division_walk copies spliced is))
 
   -- a place that is settled or woven has the link's bytes
   has_link : (start end : ℕ) (bytes : List ℕ) (standing : Standing) → IsLinkOf original start end → IsSettledOrWoven standing

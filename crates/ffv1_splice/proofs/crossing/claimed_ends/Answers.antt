@@ -20,12 +20,10 @@ loop-copy-preserved c =
     let copies : List (List ℕ) = values_of c.args.copies.now in
     let copy : List ℕ = (get_or c.args.copies.now c.loop-copy.copy-index nowhere).now in
     let before : List (List ℕ) = take c.loop-copy.copy-index copies in
-    subst (λ z. Tallies (IsClaimedEnd z c.args.reach) (starts_tally c.joined-ends.result))
-    (next_value c.args.copies.now c.loop-copy.copy-index nowhere (omega arith))
+    rw (← next_value c.args.copies.now c.loop-copy.copy-index nowhere (omega arith))
     (ends_joined before copy c.args.reach (starts_tally c.loop-copy.ends) (starts_tally c.claimed_by.result) (starts_tally c.joined-ends.result)
     c.joined-ends.ensures c.loop-copy.invariant c.claimed_by.ensures)
 
 pub returns : goal.returns
 returns c =
-    subst (λ z. Tallies (IsClaimedEnd z c.args.reach) (starts_tally c.loop-copy.ends))
-    (all_values c.args.copies.now c.loop-copy.copy-index (omega arith)) c.loop-copy.invariant
+    rw (← all_values c.args.copies.now c.loop-copy.copy-index (omega arith)) c.loop-copy.invariant

@@ -1,4 +1,5 @@
-use Rattle.ffv1_splice.proofs.Common.{◌≡◌, ◌-◌, ◌≤◌, ℕ, List, length, arith, refl, sym, ap, ◌∙◌, subst, length-range, AllReach, IsLostUpTo, versions_at, values_of, each_value}
+use Rattle.std.proofs.lemmas.Grind.{common_steps}
+use Rattle.ffv1_splice.proofs.Common.{◌≡◌, ◌-◌, ◌≤◌, ℕ, List, length, arith, refl, ap, ◌∙◌, subst, length-range, AllReach, IsLostUpTo, versions_at, values_of, each_value}
 use Rattle.ffv1_splice.proofs.Versions.{version_length, length_of}
 use Rattle.ffv1_splice.proofs.Crossings.{crossed_place}
 use Rattle.ffv1_splice.proofs.crossing.place_across.Goals as goal
@@ -26,8 +27,7 @@ weave_at-requires-clause-within c = λ k d lt.
 
 pub weave_at-requires-clause-none : goal.weave_at-requires-clause-none
 weave_at-requires-clause-none c =
-    let same : values_of c.as_slice.result.now ≡ values_of c.as_slice-2.result.now =
-    ap values_of (c.as_slice.ensures.value ∙ sym c.as_slice-2.ensures.value) in
+    let same : values_of c.as_slice.result.now ≡ values_of c.as_slice-2.result.now = grind (arith, common_steps, values_of) in
     (subst (λ versions. IsLostUpTo versions (length c.args.payload.now - c.args.start) c.in-Some.size) same c.in-Some.ensures).none
 
 pub returns-clause-across : goal.returns-clause-across
@@ -41,7 +41,6 @@ returns-clause-across c =
     ap values_of c.as_slice-2.ensures.value ∙ c.in_ok-versions.ensures in (
       refl,
       crossed_place copies (values_of c.as_slice-2.result.now) start end size c.args.payload.now _ c.weave_at.new.payload _ c.in_ok-standing.standing is_too
-          c.requires.within
-          (omega (arith, c.in-Some.ensures.end'.there.within, length-range c.args.payload.now start end c.requires.within (omega arith)))
-          (subst (λ versions. IsLostUpTo versions (end - start) size) is c.in-Some.ensures) c.in_ok-standing.ensures,
+          c.requires.within (omega (arith, c.in-Some.ensures.end'.there.within, length-range c.args.payload.now start end c.requires.within (omega arith)))
+          (rw (← is) c.in-Some.ensures) c.in_ok-standing.ensures,
     )

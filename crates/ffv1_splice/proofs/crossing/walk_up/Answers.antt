@@ -1,4 +1,5 @@
-use Rattle.ffv1_splice.proofs.Common.{◌≡◌, ◌+◌, ◌-◌, ◌++◌, ◌∷◌, [], ℕ, List, length, arith, sym, ap, ◌∙◌, subst, inr, MatchOption, append_assoc, versions_at, IsWalkUp, IsCrossed, IsLostUpTo, Crossing, Place, values_of}
+use Rattle.std.proofs.lemmas.Grind.{common_steps}
+use Rattle.ffv1_splice.proofs.Common.{◌≡◌, ◌+◌, ◌-◌, ◌++◌, ◌∷◌, ℕ, List, length, arith, sym, ◌∙◌, subst, inr, append_assoc, versions_at, IsWalkUp, IsCrossed, IsLostUpTo, Crossing, Place, values_of}
 use Rattle.ffv1_splice.proofs.Crossings.{IsWalkSoFar, so_far_kept, walk_more, walk_stopped}
 use Rattle.ffv1_splice.proofs.crossing.walk_up.Goals as goal
 
@@ -9,8 +10,7 @@ returns-in_default-clause-walk c =
     let start : ℕ = c.loop.start in
     let same : length c.loop.payload ≡ bound = c.loop.invariant.long in
     let none : (end : ℕ) → IsLostUpTo (versions_at copies start (length c.loop.payload)) (length c.loop.payload - start) end → ⊥ =
-    subst (λ found. MatchOption found ((end : ℕ) → IsLostUpTo (versions_at copies start (length c.loop.payload)) (length c.loop.payload - start) end → ⊥)
-    (λ place. (place.start ≡ start) × IsCrossed copies (length c.loop.payload) c.place_across.new.payload place)) c.in_default.is c.in_ok-place.ensures.across in
+    grind (arith, common_steps, versions_at) in
     walk_stopped copies bound c.place_across.new.payload c.loop.places.items start c.loop.counter
     (so_far_kept copies bound c.loop.payload c.place_across.new.payload c.loop.places.items start c.loop.counter (sym c.in_ok-place.ensures.before)
     c.loop.invariant.walk) (omega (arith, c.loop-test.true))
@@ -23,14 +23,11 @@ loop-preserved c =
     let start : ℕ = c.loop.start in
     let place : Place = c.in-Some.place in
     let same : length c.loop.payload ≡ bound = c.loop.invariant.long in
-    let over : (place.start ≡ start) × IsCrossed copies (length c.loop.payload) c.place_across.new.payload place =
-    subst (λ found. MatchOption found ((end : ℕ) → IsLostUpTo (versions_at copies start (length c.loop.payload)) (length c.loop.payload - start) end → ⊥)
-    (λ place. (place.start ≡ start) × IsCrossed copies (length c.loop.payload) c.place_across.new.payload place)) c.in-Some.is c.in_ok-place.ensures.across in
+    let over : (place.start ≡ start) × IsCrossed copies (length c.loop.payload) c.place_across.new.payload place = grind (arith, common_steps, versions_at) in
     let long : length c.place_across.new.payload ≡ bound = c.in_ok-place.ensures.long ∙ same in
     let walk = c.in_ok-start-2.ensures.walk in
     let crossing : Crossing = record { over = place; settled = walk.0 } in
-    let items : c.settle_up-in-loop.new.places.items ≡ c.loop.places.items ++ (place ∷ walk.0) =
-    walk.1 ∙ ap (λ z. z ++ walk.0) c.in_ok-push.ensures.items ∙ append_assoc c.loop.places.items (place ∷ []) walk.0 in
+    let items : c.settle_up-in-loop.new.places.items ≡ c.loop.places.items ++ (place ∷ walk.0) = grind (arith, common_steps, append_assoc) in
     record {
       long = c.in_ok-start-2.ensures.long ∙ long;
       within = c.in_ok-start-2.ensures.within;

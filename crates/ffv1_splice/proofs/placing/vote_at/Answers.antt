@@ -1,5 +1,6 @@
-use Rattle.ffv1_splice.proofs.Common.{◌≡◌, ◌-◌, ◌≤◌, ℕ, ◌+◌, List, [], Bor, Option, Some, Vec, Global, length, get_or, ap, ◌∙◌, inl, inr, arith, All, written, IsRepairOf, IsVoteOf, missing, AllReach, versions_at, IsWeaveAt, IsRepairAt, IsUnwovenAt, IsMissingAt, IsGap, Voted, Repaired, Missing, values_of, each_value}
-use Rattle.ffv1_splice.proofs.PlaceSteps.{claim_below, gap_size, unwoven_weave, missing_unwoven, placed_as}
+use Rattle.std.proofs.lemmas.Grind.{common_steps}
+use Rattle.ffv1_splice.proofs.Common.{◌≡◌, ◌-◌, ◌≤◌, ℕ, ◌+◌, List, [], Bor, Option, Some, Vec, Global, length, get_or, ap, ◌∙◌, inl, inr, arith, All, written, IsRepairOf, IsVoteOf, missing, AllReach, versions_at, IsWeaveAt, IsRepairAt, IsUnwovenAt, IsMissingAt, IsGap, Voted, Missing, values_of, each_value}
+use Rattle.ffv1_splice.proofs.PlaceSteps.{gap_size, unwoven_weave, missing_unwoven, placed_as}
 use Rattle.ffv1_splice.proofs.RepairSteps.{IsResult, unwoven_by, is_voted, is_unvoted, is_repaired, is_missing}
 use Rattle.ffv1_splice.proofs.Versions.{version_length, one_length, vote_size, repair_size}
 use Rattle.ffv1_splice.proofs.placing.vote_at.Goals as goal
@@ -10,7 +11,6 @@ versions_long : (copies versions : List (Bor (List ℕ))) (start end : ℕ) → 
     → values_of versions ≡ versions_at (values_of copies) start end → All (λ version. length version.now ≡ length (get_or (values_of versions) 0 [])) versions
 versions_long copies versions start end unwoven within are =
     let claim = (unwoven_weave (values_of copies) start end unwoven).1.claim in
-    let below = claim_below (values_of copies) start end claim.there in
     one_length (versions_at (values_of copies) start end) (end - start)
     (version_length (values_of copies) start end (omega arith) (each_value copies (λ copy. end ≤ length copy) within)) versions are
 
@@ -32,7 +32,6 @@ write_at-requires c =
     let voted = is_voted (values_of c.args.copies.now) c.args.start c.args.end (values_of c.args.versions.now) c.requires.versions
     c.in_ok-voted.field-0 unwoven c.in_ok-voted.ensures c.in-Some.voted c.in-Some.count c.in-Some.is in
     let size = vote_size (values_of c.args.copies.now) c.args.start c.args.end c.in-Some.voted.items c.in-Some.count reach voted in
-    let same = ap length c.as_slice.ensures.value in
     omega arith
 
 pub returns-in-Some : goal.returns-in-Some
@@ -68,8 +67,7 @@ pub returns-in-Some-2 : goal.returns-in-Some-2
 returns-in-Some-2 c =
     let repaired = repaired_at c.args.copies.now c.args.versions.now c.args.start c.args.end c.requires.within c.requires.versions _ _
     c.in_ok-voted.ensures c.in_default.not-Some (c.requires.missed c.if-all_tried.true) c.in_ok-repaired.ensures _ _ c.in-Some-2.is in
-    placed_as (values_of c.args.copies.now) c.args.start c.args.end c.args.payload.now _ c.in-Some-2.repaired.items (Repaired c.in-Some-2.count) repaired.0 repaired.1
-    (c.write_at-in-Some-2.ensures ∙ ap (written c.args.payload.now c.args.start) c.as_slice-in-Some-2.ensures.value)
+    grind (arith, common_steps, placed_as, values_of, written)
 
 pub returns : goal.returns
 returns c =

@@ -1,12 +1,12 @@
+use Rattle.std.proofs.lemmas.Grind.{common_steps}
 use Rattle.ffv1_splice.proofs.Common.{◌≡◌, ◌-◌, ◌≤◌, length, refl, ap, subst, ◌∙◌, inl, inr, arith, IsWeaveOf, weave_tally, woven, disputed, missing, Slice, written, versions_at, IsWeaveAt, IsGap, Disputed, values_of, each_value}
-use Rattle.ffv1_splice.proofs.PlaceSteps.{claim_below, gap_size, stands_weave, placed_as}
+use Rattle.ffv1_splice.proofs.PlaceSteps.{gap_size, stands_weave, placed_as}
 use Rattle.ffv1_splice.proofs.Versions.{version_length, one_length, weave_size}
 use Rattle.ffv1_splice.proofs.placing.weave_at.Goals as goal
 use Rattle.ffv1_splice.proofs.placing.weave_at.Goals.{in-Missing, in-TooMany}
 
 pub weave-requires-clause-lengths : goal.weave-requires-clause-lengths
 weave-requires-clause-lengths c =
-    let below = claim_below (values_of c.args.copies.now) c.args.start c.args.end c.requires.claim.there in
     one_length (versions_at (values_of c.args.copies.now) c.args.start c.args.end) (c.args.end - c.args.start)
     (version_length (values_of c.args.copies.now) c.args.start c.args.end (omega arith)
     (each_value c.args.copies.now (λ copy. c.args.end ≤ length copy) c.requires.within)) c.as_slice-versions.result.now
@@ -25,7 +25,6 @@ write_at-requires c =
       claim = c.requires.claim;
       weave' = subst (λ vs. IsWeaveOf Slice vs (woven c.in-Woven.bytes.items c.in-Woven.count)) is weave;
     }) in
-    let same = ap length c.as_slice.ensures.value in
     omega arith
 
 pub returns-in-Woven : goal.returns-in-Woven
@@ -34,11 +33,8 @@ returns-in-Woven c =
     ap values_of c.as_slice-versions.ensures.value ∙ c.in_ok-versions.ensures in
     let weave : IsWeaveOf Slice (values_of c.as_slice-versions.result.now) (woven c.in-Woven.bytes.items c.in-Woven.count) =
     subst (λ o. IsWeaveOf Slice (values_of c.as_slice-versions.result.now) (weave_tally o)) c.in-Woven.is c.in_ok-bytes.ensures in
-    let at : IsWeaveAt (values_of c.args.copies.now) c.args.start c.args.end (woven c.in-Woven.bytes.items c.in-Woven.count) = record {
-      none = c.requires.none;
-      claim = c.requires.claim;
-      weave' = subst (λ vs. IsWeaveOf Slice vs (woven c.in-Woven.bytes.items c.in-Woven.count)) is weave;
-    } in
+    let at : IsWeaveAt (values_of c.args.copies.now) c.args.start c.args.end (woven c.in-Woven.bytes.items c.in-Woven.count) =
+    grind (arith, common_steps, woven) in
     record {
       bytes = c.in-Woven.bytes.items;
       ends = refl;
@@ -52,12 +48,10 @@ pub returns-in-Disputed : goal.returns-in-Disputed
 returns-in-Disputed c =
     let is : values_of c.as_slice-versions.result.now ≡ versions_at (values_of c.args.copies.now) c.args.start c.args.end =
     ap values_of c.as_slice-versions.ensures.value ∙ c.in_ok-versions.ensures in
-    let weave : IsWeaveOf Slice (values_of c.as_slice-versions.result.now) disputed =
-    subst (λ o. IsWeaveOf Slice (values_of c.as_slice-versions.result.now) (weave_tally o)) c.in-Disputed.is c.in_ok-bytes.ensures in
+    let weave : IsWeaveOf Slice (values_of c.as_slice-versions.result.now) disputed = grind (arith, common_steps, values_of, weave_tally) in
     let at = stands_weave (values_of c.args.copies.now) c.args.start c.args.end disputed c.requires.none c.requires.claim
     (subst (λ vs. IsWeaveOf Slice vs disputed) is weave) in
-    let gap : IsGap (values_of c.args.copies.now) c.args.start c.args.end c.least_at.result.now =
-    record { claim = c.requires.claim; least = c.least_at.ensures } in
+    let gap : IsGap (values_of c.args.copies.now) c.args.start c.args.end c.least_at.result.now = grind (arith, common_steps) in
     placed_as (values_of c.args.copies.now) c.args.start c.args.end c.args.payload.now c.write_at-in-Disputed.new.payload c.least_at.result.now Disputed
     (inr at, gap)
     (gap_size (values_of c.args.copies.now) c.args.start c.args.end c.least_at.result.now

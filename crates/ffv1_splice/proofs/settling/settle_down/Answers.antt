@@ -1,4 +1,4 @@
-use Rattle.ffv1_splice.proofs.Common.{◌≡◌, ◌≤◌, ℕ, List, [], ◌∷◌, ◌++◌, length, arith, refl, sym, ◌∙◌, subst, All, IsOnly, IsPiece, LieFrom, IsSettledDown, Settled, Place, values_of, each_value}
+use Rattle.ffv1_splice.proofs.Common.{◌≡◌, ◌≤◌, ℕ, List, length, arith, refl, ◌∙◌, All, IsOnly, IsPiece, Settled, Place, values_of, each_value}
 use Rattle.ffv1_splice.proofs.PlaceSteps.{piece_size}
 use Rattle.ffv1_splice.proofs.SpliceSteps.{length-written}
 use Rattle.ffv1_splice.proofs.SettlingSteps.{lie_more, down_more}
@@ -17,15 +17,12 @@ loop-start-preserved c =
     let same = c.loop-start.invariant.same_length in
     let reach : All (λ copy. end ≤ length copy.now) c.args.copies.now = λ k d lt. let long = c.requires k d lt in omega arith in
     let only : IsOnly (IsPiece copies end) (record { start = start; bytes = bytes }) = c.in-Some.ensures in
-    let size = piece_size copies end (record { start = start; bytes = bytes })
-    (each_value c.args.copies.now (λ copy. end ≤ length copy) reach) only.there in
+    let size = piece_size copies end (record { start = start; bytes = bytes }) (each_value c.args.copies.now (λ copy. end ≤ length copy) reach) only.there in
     let kept : length c.write_at.new.payload ≡ length payload = cc (length-written payload start bytes (omega arith)) in
     record {
       same_length = kept ∙ same;
       within = omega arith;
-      lie = subst (λ ps. LieFrom whole ps start) (sym c.in_ok-add_place.ensures)
-          (lie_more whole end c.loop-start.places.items place c.loop-start.invariant.lie refl);
-      settled = subst (λ ps. All (IsSettledDown copies c.write_at.new.payload) ps) (sym c.in_ok-add_place.ensures)
-          (subst (λ z. All (IsSettledDown copies z) (c.loop-start.places.items ++ place ∷ [])) (sym c.write_at.ensures)
+      lie = rw c.in_ok-add_place.ensures (lie_more whole end c.loop-start.places.items place c.loop-start.invariant.lie refl);
+      settled = rw c.in_ok-add_place.ensures (rw c.write_at.ensures
           (down_more copies payload c.loop-start.places.items whole start end bytes c.loop-start.invariant.lie c.loop-start.invariant.settled only size within));
     }

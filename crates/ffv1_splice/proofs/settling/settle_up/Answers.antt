@@ -1,4 +1,5 @@
-use Rattle.ffv1_splice.proofs.Common.{◌≡◌, ◌+◌, ℕ, List, [], ◌∷◌, ◌++◌, length, take, arith, ap, refl, sym, ◌∙◌, subst, All, append_assoc, IsShortest, IsSettledUp, Settled, Place, values_of}
+use Rattle.std.proofs.lemmas.Grind.{common_steps}
+use Rattle.ffv1_splice.proofs.Common.{◌≡◌, ◌+◌, ℕ, List, [], ◌∷◌, ◌++◌, length, arith, ap, refl, sym, ◌∙◌, subst, All, append_assoc, IsShortest, IsSettledUp, Settled, Place, values_of}
 use Rattle.ffv1_splice.proofs.SpliceSteps.{length-written}
 use Rattle.ffv1_splice.proofs.SettlingSteps.{take_earlier, before_written, rise_more, up_more}
 use Rattle.ffv1_splice.proofs.settling.settle_up.Goals as goal
@@ -18,16 +19,13 @@ loop-bytes-preserved c =
     let first : IsShortest copies bound start (record { end = end; bytes = bytes }) =
     subst (λ n. IsShortest copies n start (record { end = end; bytes = bytes })) same c.in-Some.ensures.0 in
     let inside = first.there.within in
-    let kept : length c.write_at.new.payload ≡ length payload =
-    ap length c.write_at.ensures ∙ length-written payload start bytes (omega arith) in
+    let kept : length c.write_at.new.payload ≡ length payload = grind (arith, common_steps, length-written) in
     let added = c.loop-bytes.invariant.added in
     record {
       same_length = kept ∙ same;
       within = omega arith;
       after = omega arith;
-      before = take_earlier c.write_at.new.payload payload from start after
-          (subst (λ z. take start z ≡ take start payload) (sym c.write_at.ensures) (before_written payload start end bytes refl (omega arith)))
-          ∙ c.loop-bytes.invariant.before;
+      before = grind (arith, common_steps, take_earlier, before_written);
       added = (
         added.0 ++ place ∷ [],
         c.in_ok-add_place.ensures ∙ ap (λ z. z ++ place ∷ []) added.1 ∙ append_assoc c.args.places.now.items added.0 (place ∷ []),
@@ -47,7 +45,6 @@ returns-clause-walk c =
       record {
         rise = added.2;
         settled = added.3;
-        stop = λ piece first only. c.in_default.ensures piece
-            (subst (λ n. IsShortest copies n start piece) (sym c.loop-bytes.invariant.same_length) first) only;
+        stop = λ piece first only. c.in_default.ensures piece (rw c.loop-bytes.invariant.same_length first) only;
       },
     )

@@ -1,5 +1,5 @@
-use Rattle.ffv1_splice.proofs.Common.{ℕ, ◌-◌, ◌≤◌, List, [], ◌∷◌, ◌++◌, length, get_or, take, arith, refl, sym, subst, Contains, values_of, next_value, all_values, value_there, each_value, nowhere}
-use Rattle.ffv1_splice.proofs.ShortestSteps.{IsFirstOf, none_of_one, first_done, first_kept, first_more}
+use Rattle.ffv1_splice.proofs.Common.{ℕ, ◌-◌, ◌≤◌, List, length, get_or, take, arith, refl, Contains, values_of, next_value, all_values, value_there, each_value, nowhere}
+use Rattle.ffv1_splice.proofs.ShortestSteps.{none_of_one, first_done, first_kept, first_more}
 use Rattle.ffv1_splice.proofs.shortest.first_between.Goals as goal
 use Rattle.ffv1_splice.proofs.shortest.first_between.Goals.{in-Some, in_default}
 
@@ -13,26 +13,20 @@ loop-copy-preserved c =
     let copy : List ℕ = (get_or c.args.copies.now c.loop-copy.copy-index nowhere).now in
     let before : List (List ℕ) = take c.loop-copy.copy-index (values_of c.args.copies.now) in
     let there : Contains (values_of c.args.copies.now) copy = value_there c.args.copies.now c.loop-copy.copy-index nowhere (omega arith) in
-    subst (λ z. IsFirstOf z c.args.bound c.args.start c.args.from c.match-first_end.within c.match-first_end.first)
-    (next_value c.args.copies.now c.loop-copy.copy-index nowhere (omega arith))
-    (elim c.match-first_end.branch [
+    rw (← next_value c.args.copies.now c.loop-copy.copy-index nowhere (omega arith)) (elim c.match-first_end.branch [
       | in-Some w ↦
           let reach : c.args.bound ≤ length copy =
           each_value c.args.copies.now (λ value. c.args.bound ≤ length value) c.requires.room copy there in
-          subst (λ z. IsFirstOf (before ++ copy ∷ []) c.args.bound c.args.start c.args.from z c.match-first_end.first) (sym w.within-is)
-          (subst (IsFirstOf (before ++ copy ∷ []) c.args.bound c.args.start c.args.from (w.in-Some.end - 1)) (sym w.first-is)
+          rw w.within-is (rw w.first-is
           (first_more before c.args.bound c.args.start c.args.from copy c.loop-copy.within w.in-Some.end c.loop-copy.first _ (omega arith)
           (none_of_one (values_of c.args.copies.now) copy c.args.from c.args.start there c.requires.none) refl w.in-Some.ensures
           c.loop-copy.invariant))
       | in_default w ↦
-          subst (λ z. IsFirstOf (before ++ copy ∷ []) c.args.bound c.args.start c.args.from z c.match-first_end.first) (sym w.within-is)
-          (subst (IsFirstOf (before ++ copy ∷ []) c.args.bound c.args.start c.args.from c.loop-copy.within) (sym w.first-is)
-          (first_kept before c.args.bound c.args.start c.args.from copy c.loop-copy.within c.loop-copy.first w.in_default.ensures
+          rw w.within-is (rw w.first-is (first_kept before c.args.bound c.args.start c.args.from copy c.loop-copy.within c.loop-copy.first w.in_default.ensures
           c.loop-copy.invariant))
     ])
 
 pub returns : goal.returns
 returns c =
     first_done (values_of c.args.copies.now) c.args.bound c.args.start c.args.from c.loop-copy.within c.loop-copy.first
-    (subst (λ z. IsFirstOf z c.args.bound c.args.start c.args.from c.loop-copy.within c.loop-copy.first)
-    (all_values c.args.copies.now c.loop-copy.copy-index (omega arith)) c.loop-copy.invariant)
+    (rw (← all_values c.args.copies.now c.loop-copy.copy-index (omega arith)) c.loop-copy.invariant)

@@ -1,4 +1,5 @@
-use Rattle.ffv1_splice.proofs.Common.{◌≡◌, ◌++◌, ◌∷◌, ◌+◌, [], ℕ, List, take, map, ap, ◌∙◌, arith, map_push, get_or-map, length-map, take_more}
+use Rattle.std.proofs.lemmas.Grind.{common_steps}
+use Rattle.ffv1_splice.proofs.Common.{◌≡◌, ◌++◌, ◌∷◌, ◌+◌, [], ℕ, List, take, map, arith, map_push, get_or-map, length-map, take_more}
 use Rattle.ffv1_splice.proofs.sized.lent.Goals as goal
 
 pub loop-bytes-preserved : goal.loop-bytes-preserved
@@ -8,6 +9,4 @@ loop-bytes-preserved c =
     let all : List (List ℕ) = map (λ bytes. bytes.items) c.args.all.now in
     let next : take i all ++ item.items ∷ [] ≡ take (i + 1) all =
     cc (get_or-map (λ bytes. bytes.items) c.args.all.now i item item.items c.loop-bytes-test.true, take_more all i item.items (let lt = c.loop-bytes-test.true in omega (arith, length-map c.args.all.now (λ bytes. bytes.items)))) in
-    ap (map (λ bytes. bytes.now)) c.in_ok-push.ensures.items ∙ map_push (λ bytes. bytes.now) c.loop-bytes.lent.items _
-    ∙ ap (λ z. z ++ c.as_slice.result.now ∷ []) c.loop-bytes.invariant
-    ∙ ap (λ bytes. take i all ++ bytes ∷ []) c.as_slice.ensures.value ∙ next
+    grind (arith, common_steps, map_push)

@@ -12,7 +12,6 @@ loop-copy-preserved c =
     let old : List ℕ = c.in_ok-version.version.items in
     let version : old ≡ slice_range copy c.args.start c.args.end = c.in_ok-version.ensures.items in
     let is : new ≡ sized old = c.set_size.ensures ∙ ap sized c.deref_mut.ensures.value in
-    let written = c.deref_mut.ensures.len in
     let within : c.args.end ≤ length copy = c.requires.within i nowhere c.loop-copy-test.true in
     let long = ap length version in
     let size = length-range copy c.args.start c.args.end (let footer = c.requires.footer in omega arith) within in

@@ -1,3 +1,4 @@
+use Rattle.std.proofs.lemmas.Grind.{common_steps}
 use Rattle.ffv1_splice.proofs.Common.{◌≡◌, ℕ, ◌+◌, ◌-◌, ◌≤◌, List, ◌++◌, length, drop, sym, ap, ◌∙◌, subst, arith, All, reverse, append_assoc, length-range, AllReach, versions_at, SplicedValue, IsWalkUp, IsWalkAcross, IsDivisionOf, moved_by, undivided_places, Place, values_of, each_value}
 use Rattle.std.specs.Prelude.{map}
 use Rattle.ffv1_splice.proofs.Versions.{version_length, length_of}
@@ -36,7 +37,6 @@ push_undivided-requires c =
     c.in_ok-above.end c.bound_below-bound.ensures c.in_ok-above.ensures.within c.in_ok-below.ensures.long c.in_ok-below.ensures.within in
     let lies = hole_within c.args.copies.now c.args.payload.now _ _ c.in_ok-below.start _ c.in_ok-above.end c.in_ok-hole.hole.items c.in_ok-hole.front
     c.divide.new.payload _ at c.requires.long c.in_ok-above.ensures.long (ap values_of c.as_slice.ensures.value ∙ c.in_ok-versions.ensures) c.in_ok-hole.ensures in
-    let front = lies.1 in
     omega arith
 
 pub returns : goal.returns
@@ -54,15 +54,13 @@ returns c =
     c.in_ok-above.end c.bound_below-bound.ensures c.in_ok-above.ensures.within c.in_ok-below.ensures.long c.in_ok-below.ensures.within in
     let order : start ≤ end = let low = at.low in let below = at.below in omega arith in
     let divided : SplicedValue = record { places = hole; front = c.in_ok-hole.front; payload = c.divide.new.payload } in
-    let is : IsDivisionOf (versions_at copies start end) divided =
-    subst (λ versions. IsDivisionOf versions divided) (ap values_of c.as_slice.ensures.value ∙ c.in_ok-versions.ensures) c.in_ok-hole.ensures in
+    let is : IsDivisionOf (versions_at copies start end) divided = grind (arith, common_steps, values_of) in
     let one = each_value c.args.copies.now (λ copy. length copy ≡ length c.args.payload.now) c.requires.long in
     let size = division_long copies start end (length c.args.payload.now) divided one order (omega (arith, c.in_ok-above.ensures.long)) is in
     let walk = c.in_ok-below.ensures.walk in
     let walk_up = subst (λ n. IsWalkUp copies n up 0 walk.0 walk.2) at.long walk.4 in
     let across = subst (λ n. IsWalkAcross copies n up walk.2 walk.1 start) at.long walk.5 in
-    let moved : c.push_moved.new.places.items ≡ above ++ map (moved_by start) hole =
-    c.in_ok-push_moved.ensures ∙ ap (λ z. above ++ map (moved_by start) z) c.as_slice-2.ensures.value in
+    let moved : c.push_moved.new.places.items ≡ above ++ map (moved_by start) hole = grind (arith, common_steps, moved_by) in
     let more = undivided_places start c.in_ok-hole.front in
     let places = c.in_ok-push_fallen.ensures
     ∙ ap (λ z. (c.push_undivided.new.places.items) ++ reverse z) c.deref_mut.ensures.value

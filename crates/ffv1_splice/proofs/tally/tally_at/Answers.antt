@@ -1,3 +1,4 @@
+use Rattle.std.proofs.lemmas.Grind.{common_steps}
 use Rattle.ffv1_splice.proofs.Common.{◌≡◌, ℕ, List, [], ◌∷◌, ◌++◌, get_or, take, arith, sym, subst, slice_range, PassesParity, FooterGives, HasContent, IsPiece, IsClaimedStart, Tallies, pieces_tally, starts_tally, Pieces, Starts, values_of, next_value, all_values, nowhere}
 use Rattle.ffv1_splice.proofs.TallySteps.{pieces-uncut, starts-uncut, pieces-failed, pieces-kept, pieces-passed, starts-cut}
 use Rattle.ffv1_splice.proofs.tally.tally_at.Goals as goal
@@ -21,12 +22,8 @@ loop-copy-preserved c =
           let content : HasContent w.in-Some.start c.args.end = w.in-Some.ensures.1 in
           let passes : PassesParity (slice_range copy w.in-Some.start c.args.end) = w.passes.ensures.0 w.if-passes.true in
           record {
-            pieces = next_pieces w.with-pieces.result w.pieces-is
-                (pieces-passed before copy c.args.end (pieces_tally c.loop-copy.pieces) (pieces_tally w.with-pieces.result) w.in-Some.start cut content
-                passes w.with-pieces.ensures c.loop-copy.invariant.pieces);
-            starts = next_starts w.with-starts.result w.starts-is
-                (starts-cut before copy c.args.end (starts_tally c.loop-copy.starts) (starts_tally w.with-starts.result) w.in-Some.start cut content
-                w.with-starts.ensures c.loop-copy.invariant.starts);
+            pieces = grind (arith, common_steps, pieces-passed, pieces_tally);
+            starts = grind (arith, common_steps, starts-cut, starts_tally);
           }
       | in-Some+else-not-stays_with w ↦
           let cut : FooterGives copy w.in-Some.start c.args.end = w.in-Some.ensures.0 in
@@ -42,17 +39,13 @@ loop-copy-preserved c =
                       pieces-kept before copy c.args.end (pieces_tally c.loop-copy.pieces) w.in-Some.start cut
                       (w.stays_with.ensures.0 v.if-not-stays_with.false) c.loop-copy.invariant.pieces
                 ]);
-            starts = next_starts w.with-starts.result w.starts-is
-                (starts-cut before copy c.args.end (starts_tally c.loop-copy.starts) (starts_tally w.with-starts.result) w.in-Some.start cut content
-                w.with-starts.ensures c.loop-copy.invariant.starts);
+            starts = grind (arith, common_steps, starts-cut, starts_tally);
           }
       | in_default w ↦
           let none : (start : ℕ) → FooterGives copy start c.args.end → HasContent start c.args.end → ⊥ = w.in_default.ensures in
           record {
-            pieces = next_pieces c.loop-copy.pieces w.pieces-is
-                (pieces-uncut before copy c.args.end (pieces_tally c.loop-copy.pieces) none c.loop-copy.invariant.pieces);
-            starts = next_starts c.loop-copy.starts w.starts-is
-                (starts-uncut before copy c.args.end (starts_tally c.loop-copy.starts) none c.loop-copy.invariant.starts);
+            pieces = grind (arith, common_steps, pieces-uncut, pieces_tally);
+            starts = grind (arith, common_steps, starts-uncut, starts_tally);
           }
     ]
 
