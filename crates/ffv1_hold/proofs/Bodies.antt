@@ -1,9 +1,5 @@
 -- The parts of a slice after its tag.
-use Rattle.std.proofs.Common.{◌≡◌, ℕ, ◌<◌, ◌≤◌, List, ◌++◌, length, arith, inl, inr, refl, ap, length-append}
-use Rattle.ffv1_bits.specs.Limits.{slice_limit}
-use Rattle.ffv1_holding.specs.SliceOrder.{Entry}
-use Rattle.ffv1_hold.specs.HoldingText.{be2, be4, slice_text}
-use Rattle.ffv1_hold.specs.FileFaults.{IsPartOfSlice}
+use Rattle.ffv1_hold.proofs.Common.{◌≡◌, ℕ, ◌<◌, ◌≤◌, List, ◌++◌, length, arith, inl, inr, refl, ap, length-append, slice_limit, Entry, be2, be4, slice_text, IsPartOfSlice}
 
 pub length-be2 : (n : ℕ) → length (be2 n) ≡ 2
 unfolding be2

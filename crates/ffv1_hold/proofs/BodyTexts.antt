@@ -1,12 +1,5 @@
 -- Entries after their tags are read in one way only, and show one fault at most.
-use Rattle.std.proofs.Common.{◌≡◌, ℕ, List, ◌++◌, Option, sym, ap, ◌∙◌, subst, inl, inr, append_assoc}
-use Rattle.ffv1_range.specs.Setup.{SetupValue}
-use Rattle.ffv1_holding.specs.SliceOrder.{Entry}
-use Rattle.ffv1_hold.specs.declared.file_fault.HoldFileFault.{HoldFileFault}
-use Rattle.ffv1_hold.specs.declared.version.Version.{Version}
-use Rattle.ffv1_hold.specs.HoldingText.{FileEntry, slice_text, text_after_slice, body_text}
-use Rattle.ffv1_hold.specs.FileEntries.{AreDigestsIn, HasText}
-use Rattle.ffv1_hold.specs.FileFaults.{IsEntryInPlace, IsPartOfSlice, IsPartAfter, IsPartOfBody, BodyShows}
+use Rattle.ffv1_hold.proofs.Common.{◌≡◌, ℕ, List, ◌++◌, Option, sym, ap, ◌∙◌, subst, inl, inr, append_assoc, arith, SetupValue, Entry, HoldFileFault, Version, FileEntry, slice_text, text_after_slice, body_text, AreDigestsIn, HasText, IsEntryInPlace, IsPartOfSlice, IsPartOfBody, BodyShows}
 use Rattle.ffv1_hold.proofs.SliceTexts.{same_slice, after_slice, slice_cut, slice_none, slice_one, part_slice_none}
 use Rattle.ffv1_hold.proofs.DigestTexts.{same_after, after_none, after_cut, after_one, part_after_none}
 
@@ -18,11 +11,7 @@ module _ (v : Version) where
 
   -- two entries that begin the same bytes are the same
   pub same_body : (e f : FileEntry) (x y : List ℕ) → HasText v e → HasText v f → body_text v e ++ x ≡ body_text v f ++ y → (e ≡ f) × (x ≡ y)
-  same_body e f x y e_has f_has same =
-      let parts = sym (body_parts e x) ∙ same ∙ body_parts f y in
-      let slice = same_slice e.0 f.0 _ _ (e_has.0, e_has.1) (f_has.0, f_has.1) parts in
-      let after = same_after v e.1 f.1 x y e_has.2 f_has.2 (after_slice e.0 f.0 _ _ (e_has.0, e_has.1) (f_has.0, f_has.1) parts) in
-      ((λ i. (slice i, after.0 i)), after.1)
+  same_body e f x y e_has f_has same = grind (arith, body_parts, same_slice, same_after, after_slice)
 
   module _ (setup : SetupValue) (last : Option FileEntry) where
     -- a slice that is right, before other bytes
@@ -32,9 +21,7 @@ module _ (v : Version) where
     -- a whole entry is not cut by the end
     pub body_cut : (e : FileEntry) (x : List ℕ) → HasText v e → IsPartOfBody v setup last (body_text v e ++ x) → ⊥
     body_cut e x has (inl part) = slice_cut e.0 (text_after_slice v e.1 ++ x) has.1 (subst IsPartOfSlice (body_parts e x) part)
-    body_cut e x has (inr (f, part, split, right, cut)) =
-        let rest = after_slice e.0 f _ part (has.0, has.1) (right.2, right.0.fits) (sym (body_parts e x) ∙ split) in
-        after_cut v e.1 x has.2 (subst (IsPartAfter v) (sym rest) cut)
+    body_cut e x has (inr (f, part, split, right, cut)) = grind (arith, after_slice, body_parts, after_cut)
 
     -- an entry that is right shows no fault
     pub body_none : (e : FileEntry) (x y : List ℕ) → IsEntryInPlace setup last e.0 → AreDigestsIn v e.1 → (f : HoldFileFault) (s : List ℕ)
@@ -53,8 +40,7 @@ module _ (v : Version) where
     body_one f g s t y z same (inr (d, seen, split, right, a)) (inl b) =
         absurd (slice_none setup last d (seen ++ y) z right g t (sym (append_assoc (slice_text d) seen y) ∙ sym (ap (λ q. q ++ y) split) ∙ same) b)
     body_one f g s t y z same (inr (d, seen, split, right, a)) (inr (e, other, apart, also, b)) =
-        after_one v f g seen other y z (right_same d e (seen ++ y) (other ++ z) right also (sym (append_assoc (slice_text d) seen y)
-        ∙ sym (ap (λ q. q ++ y) split) ∙ same ∙ ap (λ q. q ++ z) apart ∙ append_assoc (slice_text e) other z)) a b
+        cc (after_one v f g seen other y z (right_same d e (seen ++ y) (other ++ z) right also (sym (append_assoc (slice_text d) seen y) ∙ sym (ap (λ q. q ++ y) split) ∙ same ∙ ap (λ q. q ++ z) apart ∙ append_assoc (slice_text e) other z)) a b)
 
     -- no beginning of a part of an entry shows a fault
     pub part_body_none : (f : HoldFileFault) (p s y : List ℕ) → p ≡ s ++ y → IsPartOfBody v setup last p → BodyShows v setup last f s → ⊥

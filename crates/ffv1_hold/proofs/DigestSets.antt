@@ -1,20 +1,6 @@
 -- The digests of a slice, as a rising list: what it has, and when two are the same.
-use Rattle.std.proofs.Common.{◌≡◌, ℕ, zero, suc, ◌<◌, cond, Bool, true, false, ◌||◌, ◌&&◌, List, [], ◌∷◌, length, map, get_or, refl, sym, ap, ◌∙◌, arith}
-use Rattle.std.proofs.lemmas.Bool.{or_left, or_right}
-use mathlib.Core.Bool.{and-false}
-use Rattle.std.specs.List.{list_any, filter, AllByRecursion}
-use Rattle.std.specs.Ordering.{ordering_then, is_eq, eq_by_cmp}
-use Rattle.std.specs.Cmp.{Equal-is, tied_itself}
-use Rattle.std.specs.declared.cmp.Ordering.{Ordering}
-use Rattle.std.specs.declared.cmp.Ordering.TheVariants.{Less}
+use Rattle.ffv1_hold.proofs.Common.{◌≡◌, ℕ, zero, suc, ◌<◌, cond, Bool, true, false, ◌||◌, ◌&&◌, List, [], ◌∷◌, length, map, get_or, refl, sym, ap, ◌∙◌, arith, or_left, or_right, and-false, list_any, filter, AllByRecursion, ordering_then, is_eq, eq_by_cmp, Equal-is, tied_itself, Ordering, Less, Entry, Origin, with_each, bytes_cmp, entry_cmp, origin_cmp, bytes_total, bytes_antisymmetric, entries_total, entries_antisymmetric, origins_total, IsRising, digests_in, rising_rest, items-from_list, items-rising, both_tie, IsDigest}
 use Rattle.ffv1_holding.specs.Sets as set
-use Rattle.ffv1_holding.specs.SliceOrder.{Entry, Origin, with_each, bytes_cmp, entry_cmp, origin_cmp, bytes_total, bytes_antisymmetric, entries_total, entries_antisymmetric, origins_total}
-use Rattle.ffv1_holding.specs.Rising.{IsRising}
-use Rattle.ffv1_holding.specs.TileSets.{digests_in}
-use Rattle.ffv1_holding.proofs.RisingSets.{rising_rest, items-from_list}
-use Rattle.ffv1_holding.proofs.ItemsRise.{items-rising}
-use Rattle.ffv1_holding.proofs.OriginSteps.{both_tie}
-use Rattle.ffv1_hold.specs.FileEntries.{IsDigest}
 
 -- whether a digest is one of them
 abbrev pub has : List (List ℕ) → List ℕ → Bool
@@ -44,13 +30,7 @@ has_all (x ∷ xs) each = (
 any_digest : (e : Entry) (d : List ℕ) (xs : List Origin) → has (map (λ o. o.1) (filter (λ o. eq_by_cmp entry_cmp e o.0) xs)) d
     ≡ list_any (eq_by_cmp origin_cmp (e, d)) xs
 any_digest e d [] = refl
-any_digest e d (x ∷ xs) = elim (eq_by_cmp entry_cmp e x.0) as (λ b. eq_by_cmp entry_cmp e x.0 ≡ b
-    → has (map (λ o. o.1) (cond b (x ∷ filter (λ o. eq_by_cmp entry_cmp e o.0) xs) (filter (λ o. eq_by_cmp entry_cmp e o.0) xs))) d
-    ≡ (eq_by_cmp origin_cmp (e, d) x || list_any (eq_by_cmp origin_cmp (e, d)) xs)) [
-      | true ↦ λ is. (λ i. sym (both_tie (entry_cmp e x.0) (bytes_cmp d x.1) ∙ ap (λ b. b && eq_by_cmp bytes_cmp d x.1) is) i || any_digest e d xs i)
-      | false ↦ λ is. any_digest e d xs ∙ ap (λ b. b || list_any (eq_by_cmp origin_cmp (e, d)) xs)
-          (sym (both_tie (entry_cmp e x.0) (bytes_cmp d x.1) ∙ ap (λ b. b && eq_by_cmp bytes_cmp d x.1) is))
-    ] refl
+any_digest e d (x ∷ xs) = grind (arith, both_tie, any_digest e d xs)
 
 pub has-digests_in : (origins : set.SetOf origin_cmp) (e : Entry) (d : List ℕ) → has (digests_in origins e) d ≡ set.contains origins (e, d)
 unfolding digests_in

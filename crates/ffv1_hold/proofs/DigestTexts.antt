@@ -1,18 +1,6 @@
 -- What stands after slices is read in one way only, and shows one fault at most.
-use Rattle.std.proofs.Common.{◌≡◌, ℕ, ◌*◌, ◌<◌, ◌≤◌, ◌^◌, List, [], ◌∷◌, ◌++◌, length, refl, sym, ap, ◌∙◌, subst, inl, inr, arith, append_assoc, append-nil, length-append}
-use Rattle.std.specs.Prelude.{◌⊎◌}
-use Rattle.std.specs.List.{AllByRecursion, flat_map}
-use Rattle.std.proofs.lemmas.List.Concat.{flat_map-append}
-use Rattle.ffv1_holding.specs.SliceOrder.{bytes_cmp}
-use Rattle.ffv1_holding.specs.Rising.{IsRising}
-use Rattle.ffv1_holding.proofs.RisingSets.{rising_rest}
-use Rattle.ffv1_hold.specs.declared.file_fault.HoldFileFault.{HoldFileFault}
+use Rattle.ffv1_hold.proofs.Common.{◌≡◌, ℕ, ◌*◌, ◌<◌, ◌≤◌, ◌^◌, List, [], ◌∷◌, ◌++◌, length, refl, sym, ap, ◌∙◌, subst, inl, inr, arith, append_assoc, append-nil, length-append, ◌⊎◌, AllByRecursion, flat_map, flat_map-append, bytes_cmp, IsRising, rising_rest, HoldFileFault, Version, First, Second, origins_limit, be4, origins_text, text_after_slice, last_of, FollowsDigest, IsDigest, AreOrigins, AreDigestsIn, HasTextAfter, IsPartOfOrigins, OriginsShow, IsPartAfter, ShowsAfter}
 use Rattle.ffv1_hold.specs.declared.file_fault.HoldFileFault.TheVariants as faults
-use Rattle.ffv1_hold.specs.declared.version.Version.{Version}
-use Rattle.ffv1_hold.specs.declared.version.Version.TheVariants.{First, Second}
-use Rattle.ffv1_hold.specs.HoldingText.{origins_limit, be4, origins_text, text_after_slice}
-use Rattle.ffv1_hold.specs.FileEntries.{last_of, FollowsDigest, IsDigest, AreOrigins, AreDigestsIn, HasTextAfter}
-use Rattle.ffv1_hold.specs.FileFaults.{IsPartOfOrigins, OriginsShow, IsPartAfter, ShowsAfter}
 use Rattle.ffv1_hold.proofs.Bodies.{length-be4}
 use Rattle.ffv1_hold.proofs.NumberTexts.{same_front, same_back, number_same, after_number}
 
@@ -85,9 +73,7 @@ origin_kinds _ s shown = absurd shown
 
 -- what a digest in the wrong place stands after, before more bytes
 wrong_parts : (n : ℕ) (ds : List (List ℕ)) (d y : List ℕ) → (be4 n ++ whole ds ++ d) ++ y ≡ be4 n ++ (whole (ds ++ d ∷ []) ++ y)
-wrong_parts n ds d y =
-    append_assoc (be4 n ++ whole ds) d y ∙ append_assoc (be4 n) (whole ds) (d ++ y)
-    ∙ ap (λ t. be4 n ++ t) (sym (append_assoc (whole ds) d y) ∙ ap (λ t. t ++ y) (sym (whole-push ds d)))
+wrong_parts n ds d y = grind (arith, append_assoc, whole-push)
 
 -- a digest that is in its place is not in the wrong one
 wrong_none : (es ds : List (List ℕ)) (d x y : List ℕ) → AreOrigins es → AreOrigins ds → IsDigest d → ¬ FollowsDigest (last_of ds) d
@@ -99,24 +85,11 @@ wrong_none es ds d x y es_are ds_are is not few same =
 -- digests that are right show no fault
 origins_none : (es : List (List ℕ)) (x s y : List ℕ) (f : HoldFileFault) → AreOrigins es → length es ≤ origins_limit → origins_text es ++ x ≡ s ++ y
     → OriginsShow f s → ⊥
-origins_none es x s y f are few same shown = elim (origin_kinds f s shown) [
-  | inl w ↦
-      let all = sym (origins_parts es x) ∙ same ∙ ap (λ q. q ++ y) w.2 in
-      let is = number_same (length es) w.0 _ _ all (omega arith) w.4 in
-      let over = w.3 in
-      omega arith
-  | inr w ↦
-      let all = sym (origins_parts es x) ∙ same ∙ ap (λ q. q ++ y) w.4 ∙ wrong_parts w.0 w.1 w.2 y in
-      let small = w.5 in
-      let is = number_same (length es) w.0 _ _ all (omega arith) (omega arith) in
-      let less = w.7 in
-      wrong_none es w.1 w.2 x y are w.6 w.8 w.9 (omega arith) (after_number (length es) w.0 _ _ all)
-]
+origins_none es x s y f are few same shown = grind (arith, origin_kinds, origins_parts, number_same, wrong_parts, wrong_none, after_number)
 
 -- whole digests are not cut by the end
 origins_cut : (es : List (List ℕ)) (x : List ℕ) → AreAll es → length es ≤ origins_limit → IsPartOfOrigins (origins_text es ++ x) → ⊥
-origins_cut es x are few (inl short) =
-    omega (arith, short, ap length (origins_parts es x), length-append (be4 (length es)) (whole es ++ x), length-be4 (length es))
+origins_cut es x are few (inl short) = grind (arith, origins_parts, length-append, length-be4)
 origins_cut es x are few (inr (n, ds, cut, split, small, all, less, short)) =
     let parts = sym (origins_parts es x) ∙ split ∙ append_assoc (be4 n) (whole ds) cut in
     let is = number_same (length es) n _ _ parts (omega arith) (omega arith) in
@@ -135,35 +108,11 @@ origins_cut es x are few (inr (n, ds, cut, split, small, all, less, short)) =
 
 -- two faults of one count and its digests
 origins_one : (f g : HoldFileFault) (s t y z : List ℕ) → s ++ y ≡ t ++ z → OriginsShow f s → OriginsShow g t → f ≡ g
-origins_one f g s t y z same a b = elim (origin_kinds f s a) [
-  | inl x ↦ elim (origin_kinds g t b) [
-    | inl w ↦ x.1 ∙ sym w.1
-    | inr w ↦ absurd (count_apart x.0 w.0 y _ x.3 x.4 w.5 (sym (ap (λ q. q ++ y) x.2) ∙ same ∙ ap (λ q. q ++ z) w.4 ∙ wrong_parts w.0 w.1 w.2 z))
-  ]
-  | inr x ↦ elim (origin_kinds g t b) [
-    | inl w ↦ absurd (count_apart w.0 x.0 z _ w.3 w.4 x.5 (sym (ap (λ q. q ++ z) w.2) ∙ sym same ∙ ap (λ q. q ++ y) x.4 ∙ wrong_parts x.0 x.1 x.2 y))
-    | inr w ↦ x.3 ∙ sym w.3
-  ]
-]
-  where
-    count_apart : (m n : ℕ) (y z : List ℕ) → origins_limit < m → m < 2 ^ 32 → n ≤ origins_limit → be4 m ++ y ≡ be4 n ++ z → ⊥
-    count_apart m n y z over small few same = let is = number_same m n y z same small (omega arith) in omega arith
+origins_one f g s t y z same a b = grind (arith, origin_kinds, wrong_parts, number_same)
 
 -- no beginning of a part shows a fault
 part_origins_none : (f : HoldFileFault) (p s y : List ℕ) → p ≡ s ++ y → IsPartOfOrigins p → OriginsShow f s → ⊥
-part_origins_none f p s y same (inl short) shown = elim (origin_kinds f s shown) [
-  | inl w ↦ omega (arith, short, ap length same, length-append s y, ap length w.2, length-be4 w.0)
-  | inr w ↦ omega (
-    arith,
-    short,
-    ap length same,
-    length-append s y,
-    ap length w.4,
-    length-append (be4 w.0 ++ whole w.1) w.2,
-    length-append (be4 w.0) (whole w.1),
-    length-be4 w.0,
-  )
-]
+part_origins_none f p s y same (inl short) shown = grind (arith, origin_kinds, length-append, length-be4)
 part_origins_none f p s y same (inr (n, ds, cut, split, small, all, less, short)) shown =
     let parts = sym split ∙ same in
     elim (origin_kinds f s shown) [

@@ -1,19 +1,6 @@
 -- The union of two lists of rising digests.
-use Rattle.std.proofs.Common.{◌≡◌, ℕ, zero, suc, ◌<◌, Bool, true, false, ◌||◌, List, [], ◌∷◌, length, get_or, refl, sym, ap, ◌∙◌, subst, arith}
-use Rattle.std.proofs.lemmas.Bool.{or_left, or_right}
-use mathlib.Core.Bool.{true≢false, or_assoc, or-false}
-use Rattle.std.specs.Ordering.{is_eq, eq_by_cmp, ordering_reverse}
-use Rattle.std.specs.Cmp.{tied_itself}
-use Rattle.std.specs.declared.cmp.Ordering.{Ordering}
-use Rattle.std.specs.declared.cmp.Ordering.TheVariants.{Less, Equal, Greater}
+use Rattle.ffv1_hold.proofs.Common.{◌≡◌, ℕ, zero, suc, ◌<◌, Bool, true, false, ◌||◌, List, [], ◌∷◌, length, get_or, refl, sym, ap, ◌∙◌, subst, arith, or_left, or_right, true≢false, or_assoc, or-false, is_eq, eq_by_cmp, ordering_reverse, tied_itself, Ordering, Less, Equal, Greater, bytes_cmp, bytes_total, bytes_antisymmetric, IsRising, AreDigests, rising_rest, items-rising, or_cases, digests_union}
 use Rattle.ffv1_holding.specs.Sets as set
-use Rattle.ffv1_holding.specs.SliceOrder.{bytes_cmp, bytes_total, bytes_antisymmetric}
-use Rattle.ffv1_holding.specs.Rising.{IsRising}
-use Rattle.ffv1_holding.specs.Contents.{AreDigests}
-use Rattle.ffv1_holding.proofs.RisingSets.{rising_rest}
-use Rattle.ffv1_holding.proofs.ItemsRise.{items-rising}
-use Rattle.ffv1_holding.proofs.EntrySteps.{or_cases}
-use Rattle.ffv1_hold.specs.Inner.Merging.{digests_union}
 use Rattle.ffv1_hold.proofs.DigestSets.{has, digest_tie, rising_cons, same_digests}
 
 pub has-union : (xs ys : List (List ℕ)) (d : List ℕ) → has (digests_union xs ys) d ≡ (has xs d || has ys d)
@@ -52,8 +39,7 @@ below_rest x xs up = has_each (λ d. bytes_cmp x d ≡ Less) xs (λ j d lt. up 0
 
 below_less : (x y : List ℕ) (ys : List (List ℕ)) → bytes_cmp x y ≡ Less → IsRising bytes_cmp (y ∷ ys) → IsBelow x (y ∷ ys)
 below_less x y ys less up d there =
-    or_cases (eq_by_cmp bytes_cmp d y) (has ys d) (bytes_cmp x d ≡ Less) there (λ tie. ap (bytes_cmp x) (digest_tie d y tie) ∙ less)
-    (λ rest. bytes_total.trans x y d less (below_rest y ys up d rest))
+    cc (or_cases (eq_by_cmp bytes_cmp d y) (has ys d) (bytes_cmp x d ≡ Less) there (λ tie. ap (bytes_cmp x) (digest_tie d y tie) ∙ less) (λ rest. bytes_total.trans x y d less (below_rest y ys up d rest)))
 
 below_union : (x : List ℕ) (xs ys : List (List ℕ)) → IsBelow x xs → IsBelow x ys → IsRising bytes_cmp (x ∷ digests_union xs ys)
 below_union x xs ys left right =
@@ -64,9 +50,7 @@ below_union x xs ys left right =
 -- the union of digests of which the first is below all
 union_first : (x : List ℕ) (xs ys : List (List ℕ)) → IsBelow x xs → IsBelow x ys → digests_union (x ∷ xs) ys ≡ x ∷ digests_union xs ys
 union_first x xs ys left right =
-    same_digests (digests_union (x ∷ xs) ys) (x ∷ digests_union xs ys) (union-rises (x ∷ xs) ys) (below_union x xs ys left right)
-    (λ d. has-union (x ∷ xs) ys d ∙ or_assoc (eq_by_cmp bytes_cmp d x) (has xs d) (has ys d)
-    ∙ ap (λ b. eq_by_cmp bytes_cmp d x || b) (sym (has-union xs ys d)))
+    cc (same_digests (digests_union (x ∷ xs) ys) (x ∷ digests_union xs ys) (union-rises (x ∷ xs) ys) (below_union x xs ys left right) (λ d. has-union (x ∷ xs) ys d ∙ or_assoc (eq_by_cmp bytes_cmp d x) (has xs d) (has ys d) ∙ ap (λ b. eq_by_cmp bytes_cmp d x || b) (sym (has-union xs ys d))))
 
 -- ---- one step of both lists
 
@@ -86,8 +70,7 @@ union-less x y xs ys less left right = union_first x xs (y ∷ ys) (below_rest x
 pub union-greater : (x y : List ℕ) (xs ys : List (List ℕ)) → bytes_cmp x y ≡ Greater → IsRising bytes_cmp (x ∷ xs) → IsRising bytes_cmp (y ∷ ys)
     → digests_union (x ∷ xs) (y ∷ ys) ≡ y ∷ digests_union (x ∷ xs) ys
 union-greater x y xs ys greater left right =
-    union-comm (x ∷ xs) (y ∷ ys) ∙ union-less y x ys xs (bytes_total.antisymm y x ∙ ap ordering_reverse greater) right left
-    ∙ ap (λ zs. y ∷ zs) (union-comm ys (x ∷ xs))
+    cc (union-comm (x ∷ xs) (y ∷ ys), union-less y x ys xs (bytes_total.antisymm y x ∙ ap ordering_reverse greater) right left, union-comm ys (x ∷ xs))
 
 pub union-equal : (x y : List ℕ) (xs ys : List (List ℕ)) → bytes_cmp x y ≡ Equal → IsRising bytes_cmp (x ∷ xs) → IsRising bytes_cmp (y ∷ ys)
     → digests_union (x ∷ xs) (y ∷ ys) ≡ x ∷ digests_union xs ys

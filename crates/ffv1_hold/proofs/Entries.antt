@@ -1,18 +1,6 @@
 -- What an entry that fails after its tag says.
-use Rattle.std.proofs.Common.{◌≡◌, ℕ, List, [], ◌∷◌, ◌++◌, length, get_or, Option, ◌<◌, ◌^◌, ◌≤◌, arith, inl, inr, refl, ap}
-use Rattle.ffv1_bits.specs.Limits.{slice_limit}
-use Rattle.ffv1_hold.specs.declared.file_fault.HoldFileFault.{HoldFileFault}
+use Rattle.ffv1_hold.proofs.Common.{◌≡◌, ℕ, List, [], ◌∷◌, ◌++◌, length, get_or, Option, ◌<◌, ◌^◌, ◌≤◌, arith, inl, inr, refl, ap, slice_limit, HoldFileFault, Version, First, Second, SetupValue, Entry, last_of, AreEntries, FileEntry, slice_text, text_after_slice, body_text, entry_text, entries_text, ReadLog, TakesText, StopsAt, IsPartOfSlice, SliceIsTooLong, IsWrong, IsEntryInPlace, IsPartAfter, ShowsAfter, IsPartOfEntry, EntryShows, IsPartOfEntries, EntriesShow}
 use Rattle.ffv1_hold.specs.declared.file_fault.HoldFileFault.TheVariants as faults
-use Rattle.ffv1_hold.specs.declared.version.Version.{Version}
-use Rattle.ffv1_hold.specs.declared.version.Version.TheVariants.{First, Second}
-use Rattle.ffv1_range.specs.Setup.{SetupValue}
-use Rattle.ffv1_holding.specs.SliceOrder.{Entry}
-use Rattle.ffv1_hold.specs.FileEntries.{last_of, AreEntries}
-use Rattle.ffv1_hold.specs.HoldingText.{FileEntry, slice_text, text_after_slice, body_text, entry_text, entries_text}
-use Rattle.ffv1_devices.specs.Logs.{ReadLog}
-use Rattle.ffv1_hold.specs.Inner.Reading.{TakesText}
-use Rattle.ffv1_hold.specs.Reading.{StopsAt}
-use Rattle.ffv1_hold.specs.FileFaults.{IsPartOfSlice, SliceIsTooLong, IsWrong, IsEntryInPlace, IsPartAfter, ShowsAfter, IsPartOfEntry, EntryShows, IsPartOfEntries, EntriesShow}
 use Rattle.ffv1_hold.proofs.TextReads.{shown}
 
 pub single : (xs : List ℕ) (v : ℕ) → length xs ≡ 1 → get_or xs 0 0 ≡ v → xs ≡ v ∷ []
@@ -25,11 +13,6 @@ unfolding body_text
 entry_text-of v e = refl
 
 module _ (v : Version) (setup : SetupValue) (last : Option FileEntry) where
-  -- no byte, where less than the tag was read
-  pub part_of_tag : (s : List ℕ) → length s < 1 → IsPartOfEntry v setup last s
-  part_of_tag [] h = inl refl
-  part_of_tag (x ∷ s) h = absurd (omega arith)
-
   -- a part of a slice is one of an entry
   pub part_of_slice : (s : List ℕ) → IsPartOfSlice s → IsPartOfEntry v setup last (1 ∷ [] ++ s)
   part_of_slice s h = inr (s, refl, inl h)

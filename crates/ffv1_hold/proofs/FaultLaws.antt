@@ -1,21 +1,6 @@
 -- A text shows no fault.
-use Rattle.std.proofs.Common.{◌≡◌, ℕ, ◌<◌, ◌≤◌, ◌^◌, List, [], ◌∷◌, ◌++◌, length, take, get_or, Option, Some, None, refl, sym, ap, ◌∙◌, subst, inl, inr, arith, append_assoc, length-append}
-use Rattle.std.specs.Prelude.{◌⊎◌}
-use Rattle.std.proofs.Math.Seq.{take-append_seam, take-append-le}
-use Rattle.ffv1_bits.specs.Limits.{record_limit}
-use Rattle.ffv1_range.specs.Setup.{SetupValue, IsSetupOf}
-use Rattle.ffv1_range.proofs.SetupFacts.{setup_small, no_setup_fault}
-use Rattle.std.specs.List.{AllByRecursion}
-use Rattle.ffv1_hold.specs.declared.file_fault.HoldFileFault.{HoldFileFault}
+use Rattle.ffv1_hold.proofs.Common.{◌≡◌, ℕ, ◌<◌, ◌≤◌, ◌^◌, List, [], ◌∷◌, ◌++◌, length, take, get_or, Option, Some, None, refl, sym, ap, ◌∙◌, subst, inl, inr, arith, append_assoc, length-append, ◌⊎◌, take-append_seam, take-append-le, record_limit, SetupValue, IsSetupOf, setup_small, no_setup_fault, AllByRecursion, HoldFileFault, Version, IsRising, Reel, Contents, IsHolding, FileEntry, magic, sized_record, head_text, body_text, entries_text, file_entries, file_text, IsStated, last_of, Follows, IsFileEntryOf, file_entry_cmp, AreEntries, HasText, IsFileReel, IsPartOfBody, BodyShows, IsPartOfEntry, EntryShows, IsPartOfReel, ReelShows, MagicShows, IsPartOfFile, FileShows, rising_rest}
 use Rattle.ffv1_hold.specs.declared.file_fault.HoldFileFault.TheVariants as faults
-use Rattle.ffv1_hold.specs.declared.version.Version.{Version}
-use Rattle.ffv1_holding.specs.Rising.{IsRising}
-use Rattle.ffv1_holding.specs.Reels.{Reel}
-use Rattle.ffv1_holding.specs.Contents.{Contents, IsHolding}
-use Rattle.ffv1_hold.specs.HoldingText.{FileEntry, be4, magic, sized_record, head_text, body_text, entries_text, file_entries, file_text, IsStated}
-use Rattle.ffv1_hold.specs.FileEntries.{last_of, Follows, IsFileEntryOf, file_entry_cmp, AreEntries, HasText}
-use Rattle.ffv1_hold.specs.FileFaults.{IsFileReel, IsPartOfBody, BodyShows, IsPartOfEntry, EntryShows, IsPartOfReel, ReelShows, MagicShows, IsPartOfFile, FileShows}
-use Rattle.ffv1_holding.proofs.RisingSets.{rising_rest}
 use Rattle.ffv1_hold.proofs.Bodies.{length-be4}
 use Rattle.ffv1_hold.proofs.NumberTexts.{no_tag, rest_same, number_same, after_number}
 use Rattle.ffv1_hold.proofs.BodyTexts.{same_body, body_cut, body_none}
@@ -86,10 +71,7 @@ module _ (v : Version) (setup : SetupValue) where
 
   -- the end tag shows none
   end_none : (last : Option FileEntry) (x y : List ℕ) (f : HoldFileFault) (s : List ℕ) → 0 ∷ x ≡ s ++ y → EntryShows v setup last f s → ⊥
-  end_none last x y f s same shown = elim (entry_kinds last f s shown) [
-    | inl w ↦ no_tag x y 0 w.0 (same ∙ ap (λ q. q ++ y) w.2) (λ e. let over = w.3 in omega arith)
-    | inr w ↦ no_tag x (w.0 ++ y) 0 1 (same ∙ ap (λ q. q ++ y) w.1) (λ e. omega arith)
-  ]
+  end_none last x y f s same shown = grind (arith, entry_kinds, no_tag)
 
   shows_none : (last : Option FileEntry) (es : List FileEntry) (x y : List ℕ) → AreValid last es → AreFitting v es → (fault : HoldFileFault) (s : List ℕ)
       → entries_text v es ++ 0 ∷ x ≡ s ++ y → EntryShows v setup last fault s → ⊥
@@ -101,9 +83,7 @@ module _ (v : Version) (setup : SetupValue) where
   entries_none : (last : Option FileEntry) (es fs : List FileEntry) (x y : List ℕ) → AreValid last es → AreFitting v es → AreFitting v fs
       → (fault : HoldFileFault) (s : List ℕ) → entries_text v es ++ 0 ∷ x ≡ (entries_text v fs ++ s) ++ y → EntryShows v setup (last_from last fs) fault s → ⊥
   entries_none last es [] x y all fit fs_fit fault s same shown = shows_none last es x y all fit fault s (same ∙ ap (λ z. z ++ y) (none_after v s)) shown
-  entries_none last [] (f ∷ fs) x y all fit fs_fit fault s same shown =
-      absurd (no_tag x ((body_text v f ++ (entries_text v fs ++ s)) ++ y) 0 1 (sym (none_after v (0 ∷ x)) ∙ same
-      ∙ ap (λ z. z ++ y) (entries_after v f fs s)) (λ e. omega arith))
+  entries_none last [] (f ∷ fs) x y all fit fs_fit fault s same shown = grind (arith, no_tag, none_after, entries_after)
   entries_none last (e ∷ es) (f ∷ fs) x y all fit fs_fit fault s same shown =
       let bodies = rest_same (body_text v e ++ (entries_text v es ++ 0 ∷ x)) ((body_text v f ++ (entries_text v fs ++ s)) ++ y) 1 1
       (sym (entries_after v e es (0 ∷ x)) ∙ same ∙ ap (λ z. z ++ y) (entries_after v f fs s)) in
@@ -124,8 +104,7 @@ module _ (v : Version) (setup : SetupValue) where
   -- entries and the end tag are no part of an entry
   part_none : (last : Option FileEntry) (es : List FileEntry) (x s : List ℕ) → AreFitting v es → entries_text v es ++ 0 ∷ x ≡ s → IsPartOfEntry v setup last s
       → ⊥
-  part_none last [] x s fit same part =
-      let tag = part_tag last 0 x (subst (IsPartOfEntry v setup last) (sym same ∙ none_after v (0 ∷ x)) part) in omega arith
+  part_none last [] x s fit same part = grind (arith, part_tag, none_after)
   part_none last (e ∷ es) x s fit same part =
       body_cut v setup last e (entries_text v es ++ 0 ∷ x) fit.0
       (part_after last _ (subst (IsPartOfEntry v setup last) (sym same ∙ entries_after v e es (0 ∷ x)) part))
@@ -133,8 +112,7 @@ module _ (v : Version) (setup : SetupValue) where
   entries_whole : (last : Option FileEntry) (es fs : List FileEntry) (x s : List ℕ) → AreFitting v es → AreFitting v fs
       → entries_text v es ++ 0 ∷ x ≡ entries_text v fs ++ s → IsPartOfEntry v setup last s → ⊥
   entries_whole last es [] x s fit fs_fit same part = part_none last es x s fit (same ∙ none_after v s) part
-  entries_whole last [] (f ∷ fs) x s fit fs_fit same part =
-      no_tag x (body_text v f ++ (entries_text v fs ++ s)) 0 1 (sym (none_after v (0 ∷ x)) ∙ same ∙ entries_after v f fs s) (λ e. omega arith)
+  entries_whole last [] (f ∷ fs) x s fit fs_fit same part = grind (arith, no_tag, none_after, entries_after)
   entries_whole last (e ∷ es) (f ∷ fs) x s fit fs_fit same part =
       let bodies = rest_same (body_text v e ++ (entries_text v es ++ 0 ∷ x)) (body_text v f ++ (entries_text v fs ++ s)) 1 1
       (sym (entries_after v e es (0 ∷ x)) ∙ same ∙ entries_after v f fs s) in
@@ -164,18 +142,7 @@ module _ (r : Reel) (is : IsFileReel r) (x y : List ℕ) where
   small = setup_small r.config r.setup.width r.setup.height r.setup is.reel
 
   pub reel_none : (fault : HoldFileFault) (s : List ℕ) → sized_record r.config r.setup.width r.setup.height ++ x ≡ s ++ y → ReelShows fault s → ⊥
-  reel_none faults.TooLong s same shown =
-      let w = shown.0 in
-      let h = shown.1 in
-      let n = shown.2 in
-      let all = sym (sized_parts r.config r.setup.width r.setup.height x) ∙ same
-      ∙ ap (λ z. z ++ y) shown.3 ∙ append_assoc (be4 w ++ be4 h) (be4 n) y ∙ append_assoc (be4 w) (be4 h) (be4 n ++ y) in
-      let one = after_number r.setup.width w _ _ all in
-      let two = after_number r.setup.height h _ _ one in
-      let fits = is.fits in
-      let long = number_same (length r.config) n _ _ two (omega arith) shown.5 in
-      let over = shown.4 in
-      omega arith
+  reel_none faults.TooLong s same shown = grind (arith, sized_parts, append_assoc, after_number, number_same)
   reel_none (faults.Setup f) s same shown =
       let config = shown.0 in
       let w = shown.1 in
@@ -199,33 +166,8 @@ module _ (r : Reel) (is : IsFileReel r) (x y : List ℕ) where
 
 -- a whole record is not cut by the end
 pub sized_cut : (config : List ℕ) (width height : ℕ) (x : List ℕ) → length config ≤ record_limit → IsPartOfReel (sized_record config width height ++ x) → ⊥
-sized_cut config width height x fits (inl short) =
-    let all = ap length (sized_parts config width height x) in
-    let tail = be4 (length config) ++ (config ++ x) in
-    omega (
-      arith,
-      short,
-      all,
-      length-append (be4 width) (be4 height ++ tail),
-      length-append (be4 height) tail,
-      length-append (be4 (length config))
-          (config ++ x),
-      length-be4 width,
-      length-be4 height,
-      length-be4 (length config),
-    )
-sized_cut config width height x fits (inr part) =
-    let w = part.0 in
-    let h = part.1 in
-    let n = part.2 in
-    let bytes = part.3 in
-    let all = sym (sized_parts config width height x) ∙ part.4 ∙ append_assoc (be4 w ++ be4 h) (be4 n) bytes ∙ append_assoc (be4 w) (be4 h) (be4 n ++ bytes) in
-    let one = after_number width w _ _ all in
-    let two = after_number height h _ _ one in
-    let few = part.5 in
-    let long = number_same (length config) n _ _ two (omega arith) (omega arith) in
-    let rest = after_number (length config) n _ _ two in
-    omega (arith, part.6, long, ap length rest, length-append config x)
+sized_cut config width height x fits (inl short) = grind (arith, sized_parts, length-append, length-be4)
+sized_cut config width height x fits (inr part) = grind (arith, sized_parts, append_assoc, after_number, number_same, length-append)
 
 module _ (v : Version) (h : Contents) (is : IsHolding h) (fits : length h.reel.config ≤ record_limit) (stated : IsStated v h) where
   abbrev es : List FileEntry
@@ -242,9 +184,7 @@ module _ (v : Version) (h : Contents) (is : IsHolding h) (fits : length h.reel.c
 
   -- the text, before more bytes
   text_before : (z : List ℕ) → file_text v h ++ z ≡ head_text v h.reel ++ (entries_text v es ++ 0 ∷ z)
-  text_before z =
-      ap (λ t. t ++ z) (text_parts v h) ∙ append_assoc (head_text v h.reel) (entries_text v es ++ 0 ∷ []) z
-      ∙ ap (λ t. head_text v h.reel ++ t) (append_assoc (entries_text v es) (0 ∷ []) z)
+  text_before z = grind (arith, text_parts, append_assoc)
 
   from_magic : (z : List ℕ) → file_text v h ++ z ≡ magic v ++ (sized_record h.reel.config h.reel.setup.width h.reel.setup.height ++
       (entries_text v es ++ 0 ∷ z))
@@ -269,8 +209,7 @@ module _ (v : Version) (h : Contents) (is : IsHolding h) (fits : length h.reel.c
 
   -- and no text begins what is unfinished
   pub text_whole : (z : List ℕ) → IsPartOfFile (file_text v h ++ z) → ⊥
-  text_whole z (inl part) = let all = ap length (from_magic z) ∙ length-append (magic v)
-      (sized_record h.reel.config h.reel.setup.width h.reel.setup.height ++ (entries_text v es ++ 0 ∷ z)) in omega (arith, part.0, all)
+  text_whole z (inl part) = grind (arith, from_magic, length-append)
   text_whole z (inr (inl (w, s, split, part))) =
       sized_cut h.reel.config h.reel.setup.width h.reel.setup.height (entries_text v es ++ 0 ∷ z) fits
       (subst IsPartOfReel (sym (after_magic v w _ _ (sym (from_magic z) ∙ split))) part)

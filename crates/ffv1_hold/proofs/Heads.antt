@@ -1,33 +1,12 @@
 -- The parts of the size and the record.
-use Rattle.std.proofs.Common.{◌≡◌, ℕ, suc, ◌<◌, ◌≤◌, List, [], ◌∷◌, ◌++◌, length, take, get_or, Option, Result, Ok, Err, IfOk, IfErr, arith, inl, inr, refl, sym, ap, ◌∙◌, subst, append_assoc, append-nil, length-append, length-take-le}
-use Rattle.std.proofs.Math.Seq.{take-suc, take-append-le}
-use Rattle.std.specs.Prelude.{◌⊎◌}
-use Rattle.ffv1_bits.specs.Limits.{record_limit}
-use Rattle.ffv1_range.specs.declared.fault.SetupFault.{SetupFault}
+use Rattle.ffv1_hold.proofs.Common.{◌≡◌, ℕ, ◌<◌, ◌≤◌, List, [], ◌∷◌, ◌++◌, length, take, get_or, Option, Result, Ok, Err, IfOk, IfErr, arith, inl, inr, refl, sym, ap, ◌∙◌, subst, append_assoc, append-nil, length-append, length-take-le, take-suc, take-append-le, ◌⊎◌, record_limit, SetupFault, FirstSetupFault, HoldFileFault, Reel, Version, First, Second, name, magic, be4, sized_record, head_text, entries_text, file_entries, IsStated, Contents, IsHolding, ReadLog, Refuses, TakesText, ReadsText, AreEntries, VersionShows, IsFileReel, IsPartOfMagic, IsHoldingText, IsPartOfReel, ReelIsWhole, FileIsWhole, ReelShows, IsPartOfEntries, EntriesShow, IsPartOfFile, MagicShows, FileShows, EntriesAreWhole, IsPartOfHead, HeadIsWhole, HeadShows}
 use Rattle.ffv1_range.specs.declared.fault.SetupFault.TheVariants.{Memory as no_memory}
-use Rattle.ffv1_range.specs.SetupFaults.{FirstSetupFault}
-use Rattle.ffv1_hold.specs.declared.file_fault.HoldFileFault.{HoldFileFault}
 use Rattle.ffv1_hold.specs.declared.file_fault.HoldFileFault.TheVariants as faults
-use Rattle.ffv1_holding.specs.Reels.{Reel}
-use Rattle.ffv1_hold.specs.declared.version.Version.{Version}
-use Rattle.ffv1_hold.specs.declared.version.Version.TheVariants.{First, Second}
-use Rattle.ffv1_hold.specs.HoldingText.{name, version_number, magic, be4, sized_record, head_text, entries_text, file_entries, IsStated}
-use Rattle.ffv1_holding.specs.Contents.{Contents, IsHolding}
-use Rattle.ffv1_devices.specs.Logs.{ReadLog}
-use Rattle.ffv1_hold.specs.Reading.{Refuses}
-use Rattle.ffv1_hold.specs.Inner.Reading.{TakesText, ReadsText}
-use Rattle.ffv1_hold.specs.FileEntries.{AreEntries}
-use Rattle.ffv1_hold.specs.Inner.ReadOrigins.{VersionShows}
-use Rattle.ffv1_hold.specs.FileFaults.{IsFileReel, IsPartOfMagic, IsHoldingText, IsPartOfReel, ReelIsWhole, FileIsWhole, ReelShows, IsPartOfEntries, EntriesShow, IsPartOfFile, MagicShows, FileShows}
-use Rattle.ffv1_hold.specs.Inner.FileFaults.{EntriesAreWhole, IsPartOfHead, HeadIsWhole, HeadShows}
 use Rattle.ffv1_hold.proofs.Bodies.{length-be4}
 use Rattle.ffv1_hold.proofs.Entries.{single}
 use Rattle.ffv1_hold.proofs.ReadRefusals.{Takes-nil, Refuses-after}
 use Rattle.ffv1_hold.proofs.TextReads.{TakesText-trans, StopsAt-after, shown, memory_stops}
 use Rattle.ffv1_hold.proofs.NumberTexts.{same_back}
-
-pub part_of_width : (s : List ℕ) → length s < 4 → IsPartOfReel s
-part_of_width s h = inl (omega arith)
 
 pub part_of_height : (w : ℕ) (s : List ℕ) → length s < 4 → IsPartOfReel (be4 w ++ s)
 part_of_height w s h = inl (omega (arith, length-append (be4 w) s, length-be4 w))
@@ -54,19 +33,7 @@ part_of_name i (x ∷ s) lt short = absurd (omega arith)
 
 -- a beginning of the name, and a wrong byte after it
 pub wrong_name : (i : ℕ) (byte : List ℕ) → i < 7 → length byte ≡ 1 → (get_or byte 0 0 ≡ get_or name i 0 → ⊥) → MagicShows faults.Magic (take i name ++ byte)
-wrong_name i byte lt one other =
-    let front = length-take-le i name (omega arith) in
-    let long : length (take i name ++ byte) ≡ suc i = omega (arith, length-append (take i name) byte) in (
-      take i name,
-      get_or byte 0 0,
-      ap (λ l. take i name ++ l) (single byte (get_or byte 0 0) one refl),
-      subst IsPartOfMagic (append-nil (take i name)) (part_of_name i [] lt (omega arith)),
-      λ v same.
-          let in_name : take (suc i) (magic v) ≡ take (suc i) name = take-append-le (suc i) name (version_number v ∷ []) (omega arith) in
-          let back = same_back (take i name) (take i name) byte (get_or name i 0 ∷ []) refl
-          (same ∙ ap (λ n. take n (magic v)) long ∙ in_name ∙ take-suc name i 0 lt) in
-          other (ap (λ b. get_or b 0 0) back),
-    )
+wrong_name i byte lt one other = grind (arith, length-take-le, length-append, single, append-nil, part_of_name, take-append-le, same_back, take-suc)
 
 -- the whole name is a beginning of the magic
 pub whole_name : (s : List ℕ) → length s < 1 → IsPartOfMagic (name ++ s)

@@ -1,25 +1,6 @@
 -- The entries of a holding, as its files give them.
-use Rattle.std.proofs.Common.{◌≡◌, ℕ, zero, suc, ◌<◌, ◌≤◌, Bool, true, false, ◌||◌, ◌&&◌, List, [], ◌∷◌, ◌++◌, length, map, get_or, Some, refl, sym, ap, ◌∙◌, subst, arith, drop}
-use mathlib.Core.Bool.{true≢false, or-false}
-use Rattle.std.specs.List.{AllByRecursion, list_any}
-use Rattle.std.specs.Ordering.{is_eq, eq_by_cmp, ordering_reverse}
-use Rattle.std.specs.declared.cmp.Ordering.TheVariants.{Less}
-use Rattle.std.proofs.lemmas.List.{map-append, get_or-map, length-map}
-use Rattle.std.proofs.lemmas.Bool.{false_from_ne_true}
+use Rattle.ffv1_hold.proofs.Common.{◌≡◌, ℕ, zero, suc, ◌<◌, ◌≤◌, Bool, true, false, ◌||◌, ◌&&◌, List, [], ◌∷◌, ◌++◌, length, map, get_or, Some, refl, sym, ap, ◌∙◌, subst, arith, drop, true≢false, or-false, AllByRecursion, list_any, is_eq, eq_by_cmp, ordering_reverse, Less, map-append, get_or-map, length-map, false_from_ne_true, Entry, with_each, bytes_cmp, entry_cmp, origin_cmp, entries_total, entries_antisymmetric, origins_total, origins_antisymmetric, IsRising, digests_in, Contents, IsHolding, IsEntryOf, digests_of, with_entry, joined, IsSameReel, Reel, rising_rest, contains_item, items-empty, items-rising, items-insert_last, or_cases, all-insert, all-union, held_union, whole_union, held_each, whole_each, Version, First, Second, FileEntry, origins_limit, file_entries, IsStated, last_of, Follows, IsDigest, AreOrigins, AreDigestsIn, IsFileEntryOf, AreEntries}
 use Rattle.ffv1_holding.specs.Sets as set
-use Rattle.ffv1_holding.specs.SliceOrder.{Entry, with_each, bytes_cmp, entry_cmp, origin_cmp, entries_total, entries_antisymmetric, origins_total, origins_antisymmetric}
-use Rattle.ffv1_holding.specs.Rising.{IsRising}
-use Rattle.ffv1_holding.specs.TileSets.{digests_in}
-use Rattle.ffv1_holding.specs.Contents.{Contents, IsHolding, IsEntryOf, digests_of, with_entry, joined, IsSameReel}
-use Rattle.ffv1_holding.specs.Reels.{Reel}
-use Rattle.ffv1_holding.proofs.RisingSets.{rising_rest, contains_item, items-empty}
-use Rattle.ffv1_holding.proofs.ItemsRise.{items-rising, items-insert_last}
-use Rattle.ffv1_holding.proofs.EntrySteps.{or_cases, all-insert, all-union}
-use Rattle.ffv1_holding.proofs.OriginSteps.{held_union, whole_union, held_each, whole_each}
-use Rattle.ffv1_hold.specs.declared.version.Version.{Version}
-use Rattle.ffv1_hold.specs.declared.version.Version.TheVariants.{First, Second}
-use Rattle.ffv1_hold.specs.HoldingText.{FileEntry, origins_limit, file_entries, IsStated}
-use Rattle.ffv1_hold.specs.FileEntries.{last_of, Follows, IsDigest, AreOrigins, AreDigestsIn, IsFileEntryOf, AreEntries}
 use Rattle.ffv1_hold.proofs.DigestSets.{has, entry_tie, entry_self, has-digests_in, has-with_each, digests_rise, same_digests, has_all}
 
 -- an entry with digests
@@ -43,9 +24,7 @@ same_at : (f g : Entry → List (List ℕ)) (xs : List Entry) → map (stated f)
     → f q ≡ g q
 same_at f g [] same q there = absurd (true≢false (sym there))
 same_at f g (x ∷ xs) same q there =
-    or_cases (eq_by_cmp entry_cmp q x) (list_any (eq_by_cmp entry_cmp q) xs) (f q ≡ g q) there
-    (λ tie. let is = entry_tie q x tie in ap f is ∙ ap (λ es. (get_or es 0 (stated f x)).1) same ∙ ap g (sym is))
-    (λ rest. same_at f g xs (ap (drop 1) same) q rest)
+    cc (or_cases (eq_by_cmp entry_cmp q x) (list_any (eq_by_cmp entry_cmp q) xs) (f q ≡ g q) there (λ tie. let is = entry_tie q x tie in ap f is ∙ ap (λ es. (get_or es 0 (stated f x)).1) same ∙ ap g (sym is)) (λ rest. same_at f g xs (ap (drop 1) same) q rest))
 
 -- what stands after the last entry is above all
 pub above_all : (f : Entry → List (List ℕ)) (xs : List Entry) (e : Entry) → IsRising entry_cmp xs → Follows (last_of (map (stated f) xs)) e → (i : ℕ) (d : Entry)
@@ -197,8 +176,7 @@ same_contents g h g_is h_is reel entries = λ i. record { reel = reel i; slices 
     items = sym (slices_back (digests_of g) (set.items g.slices)) ∙ ap (map (λ e. e.0)) entries ∙ slices_back (digests_of h) (set.items h.slices)
 
     slices : g.slices ≡ h.slices
-    slices = sym (set.from_list-items entries_total entries_antisymmetric g.slices) ∙ ap set.from_list items
-        ∙ set.from_list-items entries_total entries_antisymmetric h.slices
+    slices = cc (items, set.from_list-items entries_total entries_antisymmetric g.slices, set.from_list-items entries_total entries_antisymmetric h.slices)
 
     held : (b : Bool) (q : Entry) (d : List ℕ) → set.contains g.slices q ≡ b → set.contains g.origins (q, d) ≡ set.contains h.origins (q, d)
     held true q d there =

@@ -1,14 +1,5 @@
 -- An entry with the digests of an equal slice, by the parts that are written.
-use Rattle.std.proofs.Common.{◌≡◌, ℕ, ◌+◌, ◌*◌, List, [], ◌∷◌, ◌++◌, length, true, ◌∙◌, sym, subst}
-use mathlib.Core.Bool.{true≢false}
-use Rattle.std.specs.List.{AllByRecursion}
-use Rattle.std.specs.Ordering.{eq_by_cmp}
-use Rattle.ffv1_holding.specs.SliceOrder.{Entry, bytes_cmp}
-use Rattle.ffv1_holding.proofs.EntrySteps.{or_cases}
-use Rattle.ffv1_hold.specs.declared.version.Version.TheVariants.{Second}
-use Rattle.ffv1_hold.specs.HoldingText.{FileEntry, slice_text, origins_text, entry_text}
-use Rattle.ffv1_hold.specs.FileEntries.{IsDigest, AreOrigins}
-use Rattle.ffv1_hold.specs.Inner.Merging.{digests_union, with_digests}
+use Rattle.ffv1_hold.proofs.Common.{◌≡◌, ℕ, ◌+◌, ◌*◌, List, [], ◌∷◌, ◌++◌, length, true, ◌∙◌, sym, subst, arith, true≢false, AllByRecursion, eq_by_cmp, Entry, bytes_cmp, or_cases, Second, FileEntry, slice_text, origins_text, entry_text, IsDigest, AreOrigins, digests_union, with_digests}
 use Rattle.ffv1_hold.proofs.DigestSets.{has, digest_tie, has_all}
 use Rattle.ffv1_hold.proofs.DigestUnions.{has-union}
 use Rattle.ffv1_hold.proofs.Entries.{entry_text-of}
@@ -22,9 +13,7 @@ all_has (x ∷ xs) d all there =
 
 -- the digests of both are whole
 union_whole : (xs ys : List (List ℕ)) → AreOrigins xs → AreOrigins ys → AllByRecursion IsDigest (digests_union xs ys)
-union_whole xs ys left right =
-    has_all (digests_union xs ys) (λ d there.
-    or_cases (has xs d) (has ys d) (IsDigest d) (sym (has-union xs ys d) ∙ there) (all_has xs d left.each) (all_has ys d right.each))
+union_whole xs ys left right = grind (arith, has_all, or_cases, has, has-union, all_has)
 
 module _ (e : FileEntry) (others : List (List ℕ)) where
   pub joined_spelled : (s : Entry) (ds : List (List ℕ)) → s ≡ e.0 → ds ≡ e.1
@@ -34,6 +23,4 @@ module _ (e : FileEntry) (others : List (List ℕ)) where
 
   pub joined_length : AreOrigins e.1 → AreOrigins others → (s : Entry) (ds : List (List ℕ)) → s ≡ e.0 → ds ≡ e.1
       → length (entry_text Second (with_digests e others)) ≡ 11 + length s.1 + 32 * length (digests_union ds others)
-  joined_length left right s ds slice digests =
-      length-entry_text (with_digests e others) (union_whole e.1 others left right)
-      ∙ (λ i. 11 + length (sym slice i).1 + 32 * length (digests_union (sym digests i) others))
+  joined_length left right s ds slice digests = grind (arith, length-entry_text, union_whole)

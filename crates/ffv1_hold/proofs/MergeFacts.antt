@@ -1,24 +1,6 @@
 -- What one entry more does to the union of what is held of two inputs and to its text, and how long the text of more is.
-use Rattle.std.proofs.Common.{◌≡◌, ℕ, suc, ◌+◌, ◌*◌, ◌≤◌, Bool, true, false, ◌||◌, ◌&&◌, List, [], ◌∷◌, ◌++◌, length, map, Some, Contains, refl, sym, ap, ◌∙◌, subst, arith, append_assoc}
-use mathlib.Core.Bool.{true≢false}
-use Rattle.std.specs.List.{AllByRecursion, list_any}
-use Rattle.std.specs.Ordering.{eq_by_cmp, is_eq}
-use Rattle.std.specs.Cmp.{tied_itself}
-use Rattle.std.proofs.lemmas.List.{map-append}
-use Rattle.std.proofs.lemmas.Bool.{or_left, or_right}
-use Rattle.ffv1_holding.specs.SliceOrder.{Entry, Origin, with_each, bytes_cmp, entry_cmp, origin_cmp, bytes_total, bytes_antisymmetric, entries_total, entries_antisymmetric, origins_total, origins_antisymmetric}
+use Rattle.ffv1_hold.proofs.Common.{◌≡◌, ℕ, suc, ◌+◌, ◌*◌, ◌≤◌, Bool, true, false, ◌||◌, ◌&&◌, List, [], ◌∷◌, ◌++◌, length, map, Some, Contains, refl, sym, ap, ◌∙◌, subst, arith, append_assoc, true≢false, AllByRecursion, list_any, eq_by_cmp, is_eq, tied_itself, map-append, or_left, or_right, Entry, Origin, with_each, bytes_cmp, entry_cmp, origin_cmp, bytes_total, bytes_antisymmetric, entries_total, entries_antisymmetric, origins_total, origins_antisymmetric, Reel, digests_in, Contents, IsHolding, AreDigests, digests_of, union-insert, insert_present, items-from_list, or_cases, Version, Second, FileEntry, head_text, entry_text, entries_text, begun_text, file_entries, last_of, Follows, Facts, part, with_file_entry, both, digests_union, with_digests, entries_length}
 use Rattle.ffv1_holding.specs.Sets as set
-use Rattle.ffv1_holding.specs.Reels.{Reel}
-use Rattle.ffv1_holding.specs.TileSets.{digests_in}
-use Rattle.ffv1_holding.specs.Contents.{Contents, IsHolding, AreDigests, digests_of}
-use Rattle.ffv1_holding.proofs.RisingSets.{union-insert, insert_present, items-from_list}
-use Rattle.ffv1_holding.proofs.EntrySteps.{or_cases}
-use Rattle.ffv1_hold.specs.declared.version.Version.{Version}
-use Rattle.ffv1_hold.specs.declared.version.Version.TheVariants.{Second}
-use Rattle.ffv1_hold.specs.HoldingText.{FileEntry, head_text, entry_text, entries_text, begun_text, file_entries}
-use Rattle.ffv1_hold.specs.FileEntries.{last_of, Follows}
-use Rattle.ffv1_hold.specs.Inner.Merging.{Facts, part, with_file_entry, both, digests_union, with_digests}
-use Rattle.ffv1_hold.specs.Inner.Saving.{entries_length}
 use Rattle.ffv1_hold.proofs.DigestSets.{has, entry_tie, digest_tie, has-digests_in, has-with_each, digests_rise}
 use Rattle.ffv1_hold.proofs.DigestUnions.{has-union, union-alone}
 use Rattle.ffv1_hold.proofs.HeldEntries.{entries-with_entry, last-with_entry}
@@ -100,16 +82,8 @@ shared false false false u v = refl
 origins-both : (s t : set.SetOf origin_cmp) (e : Entry) (ds es : List (List ℕ))
     → set.union (set.union s (set.from_list (with_each e ds))) (set.union t (set.from_list (with_each e es)))
     ≡ set.union (set.union s t) (set.from_list (with_each e (digests_union ds es)))
-origins-both s t e ds es = set.same_set origins_total origins_antisymmetric _ _ (λ o.
-    let q = o.0 in
-    let d = o.1 in
-    let tie = eq_by_cmp entry_cmp q e in
-    set.contains-union origins_total (set.union s (set.from_list (with_each e ds))) (set.union t (set.from_list (with_each e es))) o
-    ∙ (λ i. (set.contains-union origins_total s (set.from_list (with_each e ds)) o ∙ ap (λ b. set.contains s o || b) (has-with_each q e d ds)) i ||
-    (set.contains-union origins_total t (set.from_list (with_each e es)) o ∙ ap (λ b. set.contains t o || b) (has-with_each q e d es)) i)
-    ∙ shared (set.contains s o) (set.contains t o) tie (has ds d) (has es d)
-    ∙ sym (set.contains-union origins_total (set.union s t) (set.from_list (with_each e (digests_union ds es))) o
-    ∙ (λ i. set.contains-union origins_total s t o i || (has-with_each q e d (digests_union ds es) ∙ ap (λ b. tie && b) (has-union ds es d)) i)))
+origins-both s t e ds es =
+    cc (set.same_set origins_total origins_antisymmetric _ _ (λ o. let q = o.0 in let d = o.1 in let tie = eq_by_cmp entry_cmp q e in set.contains-union origins_total (set.union s (set.from_list (with_each e ds))) (set.union t (set.from_list (with_each e es))) o ∙ (λ i. (set.contains-union origins_total s (set.from_list (with_each e ds)) o ∙ ap (λ b. set.contains s o || b) (has-with_each q e d ds)) i || (set.contains-union origins_total t (set.from_list (with_each e es)) o ∙ ap (λ b. set.contains t o || b) (has-with_each q e d es)) i) ∙ shared (set.contains s o) (set.contains t o) tie (has ds d) (has es d) ∙ sym (set.contains-union origins_total (set.union s t) (set.from_list (with_each e (digests_union ds es))) o ∙ (λ i. set.contains-union origins_total s t o i || (has-with_each q e d (digests_union ds es) ∙ ap (λ b. tie && b) (has-union ds es d)) i))))
 
 pub both-both : (f g : Facts) (e : FileEntry) (others : List (List ℕ))
     → both (with_file_entry f e) (with_file_entry g (e.0, others)) ≡ with_file_entry (both f g) (with_digests e others)

@@ -1,16 +1,6 @@
 -- A holding has what the first entries of its file give.
-use Rattle.std.proofs.Common.{◌≡◌, ℕ, true, List, [], ◌∷◌, ◌++◌, map, sym, ap, ◌∙◌, drop}
-use mathlib.Core.Bool.{true≢false}
-use Rattle.std.specs.List.{list_any}
-use Rattle.std.specs.Ordering.{eq_by_cmp}
-use Rattle.std.proofs.lemmas.List.{map-append}
-use Rattle.std.proofs.lemmas.Bool.{or_left}
-use Rattle.std.proofs.lemmas.List.Folds.{list_any-append}
-use Rattle.ffv1_holding.specs.SliceOrder.{Entry, Origin, entry_cmp}
+use Rattle.ffv1_hold.proofs.Common.{◌≡◌, ℕ, true, List, [], ◌∷◌, ◌++◌, map, sym, ap, ◌∙◌, drop, true≢false, list_any, eq_by_cmp, map-append, or_left, list_any-append, Entry, Origin, entry_cmp, Contents, IsHolding, digests_of, or_cases, FileEntry, file_entries}
 use Rattle.ffv1_holding.specs.Sets as set
-use Rattle.ffv1_holding.specs.Contents.{Contents, IsHolding, digests_of}
-use Rattle.ffv1_holding.proofs.EntrySteps.{or_cases}
-use Rattle.ffv1_hold.specs.HoldingText.{FileEntry, file_entries}
 use Rattle.ffv1_hold.proofs.DigestSets.{has, entry_tie, has-digests_in}
 use Rattle.ffv1_hold.proofs.HeldEntries.{stated, slices_back}
 use Rattle.ffv1_hold.proofs.MergeFacts.{IsWithin}

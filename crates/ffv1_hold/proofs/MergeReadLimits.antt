@@ -1,22 +1,6 @@
 -- How far the text of a holding was read, by the entries that lie whole in what was written.
-use Rattle.std.proofs.Common.{◌≡◌, ℕ, suc, ◌+◌, ◌<◌, ◌≤◌, true, List, [], ◌∷◌, ◌++◌, length, map, get_or, drop, Option, Some, None, IfSome, refl, sym, ap, ◌∙◌, subst, inl, inr, arith, append_assoc, append-nil, length-append}
-use Rattle.std.specs.Prelude.{◌⊎◌}
-use Rattle.std.specs.List.{AllByRecursion}
-use Rattle.std.specs.Io.KnownBytes.{Consumes, Appends}
-use Rattle.ffv1_holding.specs.SliceOrder.{Entry, entries_total}
+use Rattle.ffv1_hold.proofs.Common.{◌≡◌, ℕ, suc, ◌+◌, ◌<◌, ◌≤◌, true, List, [], ◌∷◌, ◌++◌, length, map, get_or, drop, Option, Some, None, IfSome, refl, sym, ap, ◌∙◌, subst, inl, inr, arith, append_assoc, append-nil, length-append, ◌⊎◌, AllByRecursion, Consumes, Appends, Entry, entries_total, Reel, IsReel, Contents, IsHolding, digests_of, Version, Second, FileEntry, head_text, entry_text, body_text, entries_text, begun_text, file_entries, file_text, IsStated, IsFileEntryOf, next_text, IsFileReel, LiesWhole, AreAllDigests, IsReadLimitOf, IsFileOf, IsFileOfSome, StaysInReadLimit, Facts, part, ReadsToNext, contains_item}
 use Rattle.ffv1_holding.specs.Sets as set
-use Rattle.ffv1_holding.specs.Reels.{Reel, IsReel}
-use Rattle.ffv1_holding.specs.Contents.{Contents, IsHolding, digests_of}
-use Rattle.ffv1_hold.specs.declared.version.Version.{Version}
-use Rattle.ffv1_hold.specs.declared.version.Version.TheVariants.{Second}
-use Rattle.ffv1_hold.specs.HoldingText.{FileEntry, head_text, entry_text, body_text, entries_text, begun_text, file_entries, file_text, IsStated}
-use Rattle.ffv1_hold.specs.FileEntries.{IsFileEntryOf}
-use Rattle.ffv1_hold.specs.Inner.FileEntries.{next_text}
-use Rattle.ffv1_hold.specs.FileFaults.{IsFileReel}
-use Rattle.ffv1_hold.specs.ReadLimits.{LiesWhole, AreAllDigests, IsReadLimitOf}
-use Rattle.ffv1_hold.specs.MergedStreams.{IsFileOf, IsFileOfSome, StaysInReadLimit}
-use Rattle.ffv1_hold.specs.Inner.Merging.{Facts, part, ReadsToNext}
-use Rattle.ffv1_holding.proofs.RisingSets.{contains_item}
 use Rattle.ffv1_hold.proofs.NumberTexts.{no_tag, rest_same}
 use Rattle.ffv1_hold.proofs.BodyTexts.{same_body}
 use Rattle.ffv1_hold.proofs.TextLaws.{entries_after, none_after, AreFitting, fitting_all, fitting_items, same_head, text_parts}
@@ -32,9 +16,7 @@ pub after_all : (P : FileEntry → Type 0) (fs rs before : List FileEntry) (firs
     → AllByRecursion P fs → ¬ P first → (middle : List FileEntry) × (before ≡ fs ++ middle) × (rs ≡ middle ++ first ∷ after)
 after_all P [] rs before first after same all none = (before, refl, same)
 after_all P (f ∷ fs) rs [] first after same all none = absurd (none (subst P (ap (λ xs. get_or xs 0 f) same) all.0))
-after_all P (f ∷ fs) rs (b ∷ before) first after same all none =
-    let more = after_all P fs rs before first after (ap (drop 1) same) all.1 none in
-    (more.0, (λ i. get_or (sym same i) 0 f ∷ more.1 i), more.2)
+after_all P (f ∷ fs) rs (b ∷ before) first after same all none = grind (arith, after_all P fs rs before first after (ap (drop 1) same) all.1 none)
 
 -- ---- entries that begin a text
 
@@ -51,8 +33,7 @@ module _ (v : Version) where
   pub front_entries : (es fs : List FileEntry) (x y : List ℕ) → AreFitting v es → AreFitting v fs → entries_text v es ++ 0 ∷ x ≡ entries_text v fs ++ y
       → (rest : List FileEntry) × (es ≡ fs ++ rest) × (entries_text v rest ++ 0 ∷ x ≡ y)
   front_entries es [] x y es_fit fs_fit same = (es, refl, same ∙ none_after v y)
-  front_entries [] (f ∷ fs) x y es_fit fs_fit same =
-      absurd (no_tag x (body_text v f ++ (entries_text v fs ++ y)) 0 1 (sym (none_after v (0 ∷ x)) ∙ same ∙ entries_after v f fs y) (λ e. omega arith))
+  front_entries [] (f ∷ fs) x y es_fit fs_fit same = grind (arith, no_tag, none_after, entries_after)
   front_entries (e ∷ es) (f ∷ fs) x y es_fit fs_fit same =
       let bodies = rest_same (body_text v e ++ (entries_text v es ++ 0 ∷ x)) (body_text v f ++ (entries_text v fs ++ y)) 1 1
       (sym (entries_after v e es (0 ∷ x)) ∙ same ∙ entries_after v f fs y) in
@@ -73,8 +54,7 @@ module _ (r : Reel) (f g : Facts) (is : IsHolding (part r g)) (stated : IsStated
       let fit = subst (AreFitting Second) split.2 (fitting_items Second (part r g) is stated) in
       let es = entries_text Second before in
       let text : entries_text Second (file_entries (part r g)) ≡ es ++ entry_text Second whole ++ entries_text Second after =
-      ap (entries_text Second) split.2 ∙ entries_text-split Second before (whole ∷ after)
-      ∙ ap (λ t. es ++ t) (entries_text-cons Second whole after) ∙ sym (append_assoc es (entry_text Second whole) (entries_text Second after)) in
+      cc (entries_text-split Second before (whole ∷ after), entries_text-cons Second whole after, append_assoc es (entry_text Second whole) (entries_text Second after)) in
       record {
         before = before;
         digests = digests_of (part r g) e;
@@ -82,10 +62,7 @@ module _ (r : Reel) (f g : Facts) (is : IsHolding (part r g)) (stated : IsStated
         entries = fitting_front Second before (whole ∷ after) fit;
         entry = (fitting_back Second before (whole ∷ after) fit).0;
         all = all e held;
-        split = ap (λ t. head_text Second r ++ t ++ rest) text
-            ∙ ap (λ t. t ++ rest) (sym (append_assoc (head_text Second r) (es ++ entry_text Second whole) (entries_text Second after))
-            ∙ ap (λ t. t ++ entries_text Second after) (sym (append_assoc (head_text Second r) es (entry_text Second whole))))
-            ∙ append_assoc (head_text Second r ++ es ++ entry_text Second whole) (entries_text Second after) rest;
+        split = grind (arith, append_assoc);
       }
 
   pub all_lie_whole : AllByRecursion (LiesWhole AreAll r (begun_text Second (part r g) ++ rest)) (file_entries (part r f))
@@ -106,15 +83,13 @@ module _ (v : Version) where
   next_before : (x : FileEntry) (rest middle : List FileEntry) (first : FileEntry) (after : List FileEntry) → x ∷ rest ≡ middle ++ first ∷ after
       → length (entry_text v x) ≤ length (entries_text v (middle ++ first ∷ []))
   next_before x rest [] first after same = omega (arith, text-cons first [], ap (λ xs. length (entry_text v (get_or xs 0 x))) same)
-  next_before x rest (m ∷ middle) first after same =
-      omega (arith, text-cons m (middle ++ first ∷ []), ap (λ xs. length (entry_text v (get_or xs 0 x))) same)
+  next_before x rest (m ∷ middle) first after same = grind (arith, text-cons)
 
   -- after the end tag no entry stands
   end_before : (rs : List FileEntry) (rest : List ℕ) (middle : List FileEntry) (first : FileEntry) (after : List FileEntry) → rs ≡ middle ++ first ∷ after
       → entries_text v rs ++ 0 ∷ [] ≡ 0 ∷ rest → ⊥
   end_before [] rest middle first after split same = omega (arith, ap length split, length-append middle (first ∷ after))
-  end_before (g ∷ gs) rest middle first after split same =
-      no_tag (body_text v g ++ (entries_text v gs ++ 0 ∷ [])) rest 1 0 (sym (entries_after v g gs (0 ∷ [])) ∙ same) (λ e. omega arith)
+  end_before (g ∷ gs) rest middle first after split same = grind (arith, no_tag, entries_after)
 
   -- what was read after whole entries ends with the first that is open
   ends_before : (r : Reel) → IsReel r → (rs : List FileEntry) → AreFitting v rs → (middle : List FileEntry) (first : FileEntry) (after : List FileEntry)
@@ -123,8 +98,7 @@ module _ (v : Version) where
       × IfSome next (IsFileEntryOf v r.setup))
       → length more ≤ length (entries_text v (middle ++ first ∷ []))
   ends_before r is rs fit middle first after split more rest same (inl none) = omega (arith, ap length none)
-  ends_before r is rs fit middle first after split more rest same (inr (None, is_end, entry)) =
-      absurd (end_before rs rest middle first after split (same ∙ ap (λ m. m ++ rest) is_end))
+  ends_before r is rs fit middle first after split more rest same (inr (None, is_end, entry)) = grind (arith, end_before)
   ends_before r is rs fit middle first after split more rest same (inr (Some x, is_next, entry)) =
       let one = ap (λ t. t ++ rest) (entries_text-cons v x [] ∙ ap (λ t. entry_text v x ++ t) (entries_text-none v) ∙ append-nil (entry_text v x)) in
       let front = front_entries v rs (x ∷ []) [] rest fit (fitting_all v r is (x ∷ []) (entry, tt)) (same ∙ ap (λ m. m ++ rest) is_next ∙ sym one) in
@@ -148,8 +122,7 @@ module _ (v w : Version) (h : Contents) (r : Reel) (is : IsFileReel r) (old new 
   some = part r f
 
   front : (rest : List ℕ) × (file_text v h ≡ (begun_text w some ++ more) ++ rest)
-  front = taken_front (file_text v h) (begun_text w some ++ more) new
-      (subst (λ (o : Option (List ℕ)). Consumes o new (begun_text w some ++ more)) file.text taken)
+  front = grind (arith, taken_front)
 
   heads : (v ≡ w) × (h.reel ≡ r) × (entries_text v (file_entries h) ++ 0 ∷ [] ≡ entries_text w (file_entries some) ++ (more ++ front.0))
   heads = same_head v w h.reel r _ _ (record { reel = file.well_formed.reel; fits = file.fits.record' }) is
@@ -203,18 +176,7 @@ module _ (v w : Version) (h : Contents) (other : Option Contents) (r : Reel) (is
       ∙ entries_text-split w (file_entries read) (split.0 ++ o.first ∷ []) in
       let version = ap (λ (u : Version). length (head_text u h.reel ++ entries_text u (o.before ++ o.first ∷ []))) left.same_version in
       let head = ap (λ (q : Reel). length (head_text w q)) left.same_reel in
-      omega (
-        arith,
-        few,
-        o.is_end,
-        version,
-        head,
-        ap length text,
-        length-append (head_text w h.reel) (entries_text w (o.before ++ o.first ∷ [])),
-        length-append es (entries_text w (split.0 ++ o.first ∷ [])),
-        length-append (begun_text w read) s.more,
-        length-append (head_text w r) es,
-      )
+      grind (arith, length-append)
 
   pub stays_in_read_limit : Appends a b done → StaysInReadLimit v h other old new a b
   stays_in_read_limit written = record { done = done; written = written; seen = begun_text w read ++ s.more; taken = s.taken; within = within }

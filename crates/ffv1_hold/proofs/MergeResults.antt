@@ -1,21 +1,6 @@
 -- What joining two files returns for texts of one reel, and to heads of two.
-use Rattle.std.proofs.Common.{◌≡◌, ℕ, ◌<◌, List, [], ◌∷◌, ◌++◌, length, Option, Some, None, Result, Ok, Err, IfErr, OnOk, IsErrOf, rules, refl, sym, ap, ◌∙◌, subst, inl, inr, arith, append_assoc, length-append}
-use Rattle.std.specs.Prelude.{◌⊎◌}
-use Rattle.std.specs.Io.KnownBytes.{Consumes, Appends}
-use Rattle.std.proofs.KnownBytes.{Consumes-nil, Appends-nil}
-use Rattle.ffv1_bits.specs.Limits.{file_limit}
-use Rattle.ffv1_hold.specs.declared.version.Version.{Version}
-use Rattle.ffv1_hold.specs.declared.version.Version.TheVariants.{Second}
-use Rattle.ffv1_holding.specs.Reels.{Reel}
-use Rattle.ffv1_holding.specs.Contents.{Contents, IsSameReel, joined}
-use Rattle.ffv1_hold.specs.declared.file_fault.HoldFileFault.{HoldFileFault}
+use Rattle.ffv1_hold.proofs.Common.{◌≡◌, ℕ, ◌<◌, List, [], ◌∷◌, ◌++◌, length, Option, Some, None, Result, Ok, Err, IfErr, OnOk, IsErrOf, rules, refl, sym, ap, ◌∙◌, subst, inl, inr, arith, append_assoc, length-append, ◌⊎◌, Consumes, Appends, Consumes-nil, Appends-nil, file_limit, Version, Reel, Contents, IsSameReel, joined, HoldFileFault, magic, head_text, entries_text, begun_text, file_entries, file_text, holding_text, IsStated, Refuses, StopsIn, IsFileReel, IsPartOfReel, IsOutside, IsPartOfHead, HeadIsWhole, HeadShows, Inputs, IsFileOf, IsFileOfSome, StreamBegins, BeginsWithHead, InputRefuses, ShowsNoFault, BothRefuse, MergeRefuses, EntriesPass, UnionPasses, ReadsPart, ReadsAll, ReadsOtherHeads, WritesUnion, ReturnsUnion, ReturnsOther, WritesNoEnd, StaysInReadLimit, Facts, both, HeadsRefuse, StopsAtWrite, Stops, MergeIsRefused, part}
 use Rattle.ffv1_hold.specs.declared.file_fault.HoldFileFault.TheVariants as faults
-use Rattle.ffv1_hold.specs.HoldingText.{be4, magic, sized_record, head_text, entries_text, begun_text, file_entries, file_text, holding_text, IsStated}
-use Rattle.ffv1_hold.specs.Reading.{Refuses, StopsIn}
-use Rattle.ffv1_hold.specs.FileFaults.{IsFileReel, IsPartOfReel, IsOutside}
-use Rattle.ffv1_hold.specs.Inner.FileFaults.{IsPartOfHead, HeadIsWhole, HeadShows}
-use Rattle.ffv1_hold.specs.MergedStreams.{Inputs, IsFileOf, IsFileOfSome, StreamBegins, BeginsWithHead, InputRefuses, ShowsNoFault, BothRefuse, MergeRefuses, EntriesPass, UnionPasses, ReadsPart, ReadsAll, ReadsOtherHeads, WritesUnion, ReturnsUnion, ReturnsOther, WritesAtMost, WritesNoEnd, StaysInReadLimit}
-use Rattle.ffv1_hold.specs.Inner.Merging.{Facts, both, HeadsRefuse, StopsAtWrite, Stops, MergeIsRefused, part}
 use Rattle.ffv1_hold.proofs.Bodies.{length-be4}
 use Rattle.ffv1_hold.proofs.TextLaws.{same_head, head_parts, after_magic, text_parts, one_file, fitting_items}
 use Rattle.ffv1_hold.proofs.HeldEntries.{holding-joined}
@@ -37,8 +22,7 @@ head_none v r is x seen y f same (inr (w, s, split, shown)) =
 
 -- what has a head is no part of one
 head_whole : (v : Version) (r : Reel) → IsFileReel r → (x : List ℕ) → IsPartOfHead (head_text v r ++ x) → ⊥
-head_whole v r is x (inl part) =
-    omega (arith, part.0, ap length (head_parts v r x), length-append (magic v) (sized_record r.config r.setup.width r.setup.height ++ x))
+head_whole v r is x (inl part) = grind (arith, head_parts, length-append)
 head_whole v r is x (inr (w, s, split, part)) =
     sized_cut r.config r.setup.width r.setup.height x is.fits (subst IsPartOfReel (sym (after_magic v w _ _ (sym (head_parts v r x) ∙ split))) part)
 
@@ -46,21 +30,7 @@ head_whole v r is x (inr (w, s, split, part)) =
 part_short : (s : List ℕ) → IsPartOfHead s → length s < file_limit
 part_short s (inl part) = omega (arith, part.0)
 part_short s (inr (v, p, split, inl short)) = omega (arith, short, ap length split, length-append (magic v) p)
-part_short s (inr (v, p, split, inr (w, h, n, config, parts, fits, cut))) =
-    omega (
-      arith,
-      fits,
-      cut,
-      ap length split,
-      length-append (magic v) p,
-      ap length parts,
-      length-append (be4 w ++ be4 h ++ be4 n) config,
-      length-append (be4 w ++ be4 h) (be4 n),
-      length-append (be4 w) (be4 h),
-      length-be4 w,
-      length-be4 h,
-      length-be4 n,
-    )
+part_short s (inr (v, p, split, inr (w, h, n, config, parts, fits, cut))) = grind (arith, length-append, length-be4)
 
 module _ (v : Version) (r : Reel) (is : IsFileReel r) (x : List ℕ) where
   head_shown : (f : HoldFileFault) (new : Option (List ℕ)) → StopsIn (HeadShows f) (Some (head_text v r ++ x)) new 0 → ⊥
@@ -72,8 +42,7 @@ module _ (v : Version) (r : Reel) (is : IsFileReel r) (x : List ℕ) where
   head_outside faults.Memory new s = tt
   head_outside faults.Write new s = s
   head_outside faults.OtherReel new s = s
-  head_outside faults.Truncated new s =
-      head_whole v r is x (subst IsPartOfHead (sym (taken_all (head_text v r ++ x) s.seen new s.taken s.at_end)) s.unfinished)
+  head_outside faults.Truncated new s = grind (arith, head_whole, taken_all)
   head_outside faults.TooLong new (inl s) = head_shown faults.TooLong new s
   head_outside faults.TooLong new (inr s) = let short = part_short s.seen s.unfinished in absurd (omega (arith, short, s.at_limit))
   head_outside faults.Trailing new s = absurd s.whole.3
@@ -94,9 +63,7 @@ one_head (Some xs) v r q is begins head =
 
 head_refused : (old new : Option (List ℕ)) (g : Reel) (f : HoldFileFault) → BeginsWithHead old g
     → Refuses IsPartOfHead HeadIsWhole HeadShows old new 0 f → IsOutside f
-head_refused old new g f head refused =
-    head_outside head.version g head.is head.rest f new
-    (subst (λ (o : Option (List ℕ)). Refuses IsPartOfHead HeadIsWhole HeadShows o new 0 f) head.split refused)
+head_refused old new g f head refused = grind (arith, head_outside)
 
 module _ (i : Inputs) (w v : Option (List ℕ)) (g h : Reel) (left : BeginsWithHead i.left_old g) (right : BeginsWithHead i.right_old h) (other : ¬ (g ≡ h)) where
   other_refused : (f : HoldFileFault) → MergeIsRefused i w v f → IsOutside f ⊎ (f ≡ faults.OtherReel)
@@ -142,15 +109,10 @@ part_of_text old new v h q file p =
     (sym heads.1, front_within q h p.well_formed more.0 more.1)
 
 whole_is : (old new : Option (List ℕ)) (v : Version) (h q : Contents) → IsFileOf old v h → ReadsAll old new q → q ≡ h
-whole_is old new v h q file a =
-    let w = a.file.version in
-    let all = taken_all (file_text v h) (file_text w q) new
-    (subst (λ (o : Option (List ℕ)). Consumes o new (file_text w q)) file.text a.file.taken) a.at_end in
-    one_file w v q h a.well_formed file.well_formed a.file.fits.record' file.fits.record' a.file.fits.stated file.fits.stated (sym all)
+whole_is old new v h q file a = grind (arith, taken_all, one_file)
 
 file_refused : (old new : Option (List ℕ)) (v : Version) (h : Contents) (f : HoldFileFault) → IsFileOf old v h → InputRefuses old new f → IsOutside f
-file_refused old new v h f file refused =
-    refused_outside v h file.well_formed file.fits f new (subst (λ (o : Option (List ℕ)). InputRefuses o new f) file.text refused)
+file_refused old new v h f file refused = grind (arith, refused_outside)
 
 module _ (i : Inputs) (a b : Option (List ℕ)) (v w : Version) (g h : Contents) (same : IsSameReel g h) (left : IsFileOf i.left_old v g)
     (right : IsFileOf i.right_old w h) where
@@ -166,22 +128,13 @@ module _ (i : Inputs) (a b : Option (List ℕ)) (v w : Version) (g h : Contents)
       (holding-joined p.left p.right p.read.same p.read.left_read.well_formed p.read.right_read.well_formed) (holding-joined g h same left.well_formed right.well_formed)
       (within-both of_left of_right all (within-trans of_left (facts_of g) all one.1 (within-left (facts_of g) (facts_of h)))
       (within-trans of_right (facts_of h) all two.1 (within-right (facts_of g) (facts_of h)))) in
-      omega (
-        arith,
-        p.over,
-        few,
-        ap (λ (q : Reel). length (head_text Second q)) one.0,
-        length-append (head_text Second p.left.reel) (entries_text Second (file_entries (joined p.left p.right))),
-        length-append (head_text Second g.reel) (entries_text Second (file_entries (joined g h))),
-        length-append (begun_text Second (joined g h)) (0 ∷ []),
-      )
+      grind (arith, length-append)
 
   union_passes : UnionPasses i → file_limit < length (holding_text (joined g h))
   union_passes u =
       let l = whole_is _ _ v g u.left left u.read.left_read in
       let r = whole_is _ _ w h u.right right u.read.right_read in
-      subst (λ (x : Contents). file_limit < length (holding_text (joined x h))) l
-      (subst (λ (x : Contents). file_limit < length (holding_text (joined u.left x))) r u.over)
+      grind arith
 
   heads_same : ReadsOtherHeads i → ⊥
   heads_same o =
@@ -231,11 +184,7 @@ module _ (i : Inputs) (a b : Option (List ℕ)) (v w : Version) (g h : Contents)
 
 -- of an input of which nothing was read
 nothing_shown : (old new : Option (List ℕ)) → new ≡ old → ShowsNoFault old new
-nothing_shown old new same = record {
-  seen = [];
-  taken = subst (λ (n : Option (List ℕ)). Consumes old n []) (sym same) (Consumes-nil old);
-  well_formed = inl (inl (omega arith, refl));
-}
+nothing_shown old new same = grind (arith, Consumes-nil)
 
 module _ (i : Inputs) (w v : Option (List ℕ)) where
   pub join_refuses : (f : HoldFileFault) → MergeIsRefused i w v f → MergeRefuses i f
@@ -254,14 +203,6 @@ module _ (i : Inputs) (w v : Option (List ℕ)) where
   pub writes_no_end : (f : HoldFileFault) → MergeIsRefused i w v f → (f ≡ faults.Write → ⊥) → WritesNoEnd i w v
   writes_no_end f (inl (heads, untouched)) other = inl (subst (λ (o : Option (List ℕ)). Appends w o []) (sym untouched) (Appends-nil w))
   writes_no_end f (inr s) other = s.no_end other
-
-  writes_at_most : (f : HoldFileFault) → MergeIsRefused i w v f → WritesAtMost w v file_limit
-  writes_at_most f (inl (heads, untouched)) = record {
-    done = [];
-    written = subst (λ (o : Option (List ℕ)). Appends w o []) (sym untouched) (Appends-nil w);
-    few = omega arith;
-  }
-  writes_at_most f (inr s) = s.most
 
   heads_write : HeadsRefuse i faults.Write → ⊥
   heads_write (inl (r, untaken)) = r
@@ -291,13 +232,7 @@ module _ (i : Inputs) (w v : Option (List ℕ)) where
   pub says_write : (Q : Type 0) → (MergeIsRefused i w v faults.Write → Q) → (r : Result (Unit {0}) HoldFileFault) → IfErr r (MergeIsRefused i w v)
       → IsErrOf r faults.Write → Q
   says_write Q each (Ok x) err is = absurd (search rules)
-  says_write Q each (Err f) err is =
-      let same : f ≡ faults.Write = search rules in
-      each (subst (MergeIsRefused i w v) same err)
-
-  pub at_most : (r : Result (Unit {0}) HoldFileFault) → OnOk r (WritesAtMost w v file_limit) → IfErr r (MergeIsRefused i w v) → WritesAtMost w v file_limit
-  at_most (Ok x) ok err = ok
-  at_most (Err f) ok err = writes_at_most f err
+  says_write Q each (Err f) err is = grind arith
 
   -- a refusal after the heads
   pub after_heads : (r : Result (Unit {0}) HoldFileFault) → IfErr r (Stops i w v) → IfErr r (MergeIsRefused i w v)
@@ -306,6 +241,4 @@ module _ (i : Inputs) (w v : Option (List ℕ)) where
 
   pub never_other : (Q : Type 0) (r : Result (Unit {0}) HoldFileFault) → IfErr r (Stops i w v) → IsErrOf r faults.OtherReel → Q
   never_other Q (Ok x) err is = absurd (search rules)
-  never_other Q (Err f) err is =
-      let same : f ≡ faults.OtherReel = search rules in
-      absurd (err.inside same)
+  never_other Q (Err f) err is = grind arith

@@ -1,30 +1,7 @@
 -- Where joining two files stands before the first entries, and after the last ones.
-use Rattle.std.proofs.Common.{◌≡◌, ℕ, ◌+◌, ◌≤◌, List, [], ◌∷◌, ◌++◌, length, Option, Some, None, IfSome, IfNone, refl, sym, ap, ◌∙◌, subst, inl, inr, arith, append-nil, length-append}
-use Rattle.std.specs.Io.KnownBytes.{Consumes, Appends, IsAtEnd}
-use Rattle.std.specs.List.{AllByRecursion}
-use Rattle.std.proofs.KnownBytes.{Appends-trans}
-use Rattle.ffv1_bits.specs.Limits.{file_limit}
-use Rattle.ffv1_range.specs.Setup.{SetupValue}
-use Rattle.ffv1_devices.specs.Writing.{WritesFront}
-use Rattle.ffv1_devices.proofs.Fronts.{front-append, front-after}
-use Rattle.ffv1_holding.specs.SliceOrder.{entries_total, entries_antisymmetric, origins_total, origins_antisymmetric}
+use Rattle.ffv1_hold.proofs.Common.{◌≡◌, ℕ, ◌+◌, ◌≤◌, List, [], ◌∷◌, ◌++◌, length, Option, Some, None, IfSome, IfNone, refl, sym, ap, ◌∙◌, subst, inl, inr, arith, append-nil, length-append, Consumes, Appends, IsAtEnd, AllByRecursion, Appends-trans, file_limit, SetupValue, WritesFront, front-append, front-after, entries_total, entries_antisymmetric, origins_total, origins_antisymmetric, Reel, Contents, IsHolding, HoldFileFault, Version, Second, FileEntry, head_text, begun_text, file_text, holding_text, IsStated, Takes, Refuses, last_of, Follows, IsFileEntryOf, next_text, IsFileReel, IsPartOfEntry, EntryShows, EndIsWhole, LiesWhole, AreAllDigests, StreamBegins, InputRefuses, OneRefuses, ShowsNoFault, ReadsAll, ReadsPart, ReadsSoFar, UnionPasses, WritesUnion, WritesAtMost, Start, inputs_from, Facts, part, no_facts, both, FollowsAll, IsPassed, IsReadUpTo, ReadsToNext, IsOpened, Stands, Stops, Ends}
 use Rattle.ffv1_holding.specs.Sets as set
-use Rattle.ffv1_holding.specs.Reels.{Reel}
-use Rattle.ffv1_holding.specs.Contents.{Contents, IsHolding}
-use Rattle.ffv1_hold.specs.declared.file_fault.HoldFileFault.{HoldFileFault}
 use Rattle.ffv1_hold.specs.declared.file_fault.HoldFileFault.TheVariants as faults
-use Rattle.ffv1_hold.specs.declared.version.Version.{Version}
-use Rattle.ffv1_hold.specs.declared.version.Version.TheVariants.{Second}
-use Rattle.ffv1_hold.specs.HoldingText.{FileEntry, head_text, entries_text, begun_text, file_text, holding_text, IsStated}
-use Rattle.ffv1_hold.specs.Inner.Reading.{Takes}
-use Rattle.ffv1_hold.specs.Reading.{Refuses}
-use Rattle.ffv1_hold.specs.FileEntries.{last_of, Follows, IsFileEntryOf}
-use Rattle.ffv1_hold.specs.Inner.FileEntries.{next_text}
-use Rattle.ffv1_hold.specs.FileFaults.{IsFileReel, IsPartOfEntry, EntryShows}
-use Rattle.ffv1_hold.specs.Inner.FileFaults.{EndIsWhole}
-use Rattle.ffv1_hold.specs.ReadLimits.{LiesWhole, AreAllDigests}
-use Rattle.ffv1_hold.specs.MergedStreams.{StreamBegins, InputRefuses, OneRefuses, ShowsNoFault, ReadsAll, ReadsPart, ReadsSoFar, UnionPasses, WritesUnion, WritesAtMost}
-use Rattle.ffv1_hold.specs.Inner.Merging.{Start, inputs_from, Facts, part, no_facts, both, FollowsAll, IsPassed, IsReadUpTo, ReadsToNext, IsOpened, Stands, Stops, Ends}
 use Rattle.ffv1_hold.proofs.Slots.{entries_text-none, length-head_text}
 use Rattle.ffv1_hold.proofs.HeldEntries.{entries-none, holding-joined}
 use Rattle.ffv1_hold.proofs.ReadSteps.{holding_none, stated_none}
@@ -34,8 +11,7 @@ use Rattle.ffv1_hold.proofs.MergeFacts.{within-left, within-right}
 use Rattle.ffv1_hold.proofs.ReadDigests.{all_read_to, left_gives, right_gives, stays_beside}
 
 pub begun-none : (v : Version) (r : Reel) → begun_text v (part r no_facts) ≡ head_text v r
-begun-none v r = ap (λ es. head_text v r ++ entries_text v es) (entries-none r) ∙ ap (λ t. head_text v r ++ t) (entries_text-none v)
-    ∙ append-nil (head_text v r)
+begun-none v r = grind (arith, entries-none, entries_text-none, append-nil)
 
 both-none : both no_facts no_facts ≡ no_facts
 both-none = λ i. (set.union_empty entries_total entries_antisymmetric set.empty i, set.union_empty origins_total origins_antisymmetric set.empty i)
@@ -132,9 +108,7 @@ module _ (s : Start) (q : Reel) (l0 r0 w0 : Option (List ℕ)) (lp rp : ℕ) (o 
   setup_is setup same = same ∙ ap (λ (x : Reel). x.setup) o.same
 
   head_written : (new : Option (List ℕ)) → Appends w0 new (head_text Second q) → Appends s.sink new (head_text Second s.reel)
-  head_written new wrote =
-      subst (λ (x : Reel). Appends s.sink new (head_text Second x)) o.same
-      (subst (λ (a : Option (List ℕ)). Appends a new (head_text Second q)) o.unwritten wrote)
+  head_written new wrote = grind arith
 
   pub left_held : (l : Option (List ℕ)) (to : ℕ) (last next : Option FileEntry) (w : Version) (setup : SetupValue) → last ≡ None → w ≡ s.left_version
       → setup ≡ q.setup → Takes l0 l lp to (next_text w next) → IfSome next (IsFileEntryOf w setup) → IfSome next (λ e. Follows last e.0)
@@ -272,8 +246,4 @@ module _ (s : Start) (left right sink : Option (List ℕ)) (room : ℕ) (e : End
   }
 
   pub union_within : (new : Option (List ℕ)) → 1 ≤ room → Appends sink new (0 ∷ []) → WritesAtMost s.sink new file_limit
-  union_within new some w = record {
-    done = holding_text (part s.reel all);
-    written = Appends-trans s.sink sink new (begun_text Second (part s.reel all)) (0 ∷ []) e.written w;
-    few = omega (arith, e.room_left, some, union_length);
-  }
+  union_within new some w = grind (arith, Appends-trans, union_length)

@@ -1,33 +1,10 @@
 -- What one entry more does to where joining two files stands.
-use Rattle.std.proofs.Common.{◌≡◌, ℕ, ◌+◌, ◌<◌, ◌≤◌, List, [], ◌∷◌, ◌++◌, length, Option, Some, None, IfSome, IfNone, refl, sym, ap, ◌∙◌, subst, inl, inr, arith, append_assoc, append-nil, length-append}
-use Rattle.std.specs.declared.cmp.Ordering.{Ordering}
-use Rattle.std.specs.declared.cmp.Ordering.TheVariants.{Less, Equal, Greater}
-use Rattle.std.specs.Io.KnownBytes.{Consumes, Appends, IsAtEnd}
-use Rattle.std.proofs.KnownBytes.{Appends-trans}
-use Rattle.ffv1_bits.specs.Limits.{record_limit, file_limit}
-use Rattle.ffv1_range.specs.Setup.{SetupValue}
-use Rattle.ffv1_devices.specs.Writing.{WritesFront}
-use Rattle.ffv1_devices.proofs.Fronts.{front-append, front-after}
-use Rattle.ffv1_holding.specs.Reels.{Reel}
-use Rattle.ffv1_holding.specs.Contents.{Contents, IsHolding, AreDigests}
-use Rattle.ffv1_hold.specs.declared.file_fault.HoldFileFault.{HoldFileFault}
+use Rattle.ffv1_hold.proofs.Common.{◌≡◌, ℕ, ◌+◌, ◌<◌, ◌≤◌, List, [], ◌∷◌, ◌++◌, length, Option, Some, None, IfSome, IfNone, refl, sym, ap, ◌∙◌, subst, inl, inr, arith, append_assoc, append-nil, length-append, Ordering, Less, Equal, Greater, Consumes, Appends, IsAtEnd, Appends-trans, record_limit, file_limit, SetupValue, WritesFront, front-append, front-after, Reel, Contents, IsHolding, AreDigests, HoldFileFault, Version, Second, FileEntry, head_text, entry_text, entries_text, begun_text, file_entries, IsStated, Takes, Refuses, last_of, Follows, IsFileEntryOf, next_text, IsFileReel, IsPartOfFile, FileIsWhole, FileShows, IsPartOfEntry, EntryShows, EndIsWhole, ReadsPart, ReadsAll, ReadsSoFar, EntriesPass, InputRefuses, ShowsNoFault, OneRefuses, MergeRefuses, StreamBegins, BeginsWithPart, WritesFrontSoFar, Inputs, WritesNoEnd, WritesAtMost, Start, AreVersions, inputs_from, Facts, part, with_file_entry, both, IsPassed, IsReadUpTo, ReadsToNext, FollowsAll, Stands, Stops, Ends, with_digests, IsTurn, EntryStops, StopsAtWrite}
 use Rattle.ffv1_hold.specs.declared.file_fault.HoldFileFault.TheVariants as faults
-use Rattle.ffv1_hold.specs.declared.version.Version.{Version}
-use Rattle.ffv1_hold.specs.declared.version.Version.TheVariants.{First, Second}
-use Rattle.ffv1_hold.specs.HoldingText.{FileEntry, origins_limit, head_text, entry_text, entries_text, begun_text, file_entries, IsStated}
-use Rattle.ffv1_hold.specs.Inner.Reading.{Takes}
-use Rattle.ffv1_hold.specs.Reading.{Refuses}
-use Rattle.ffv1_hold.specs.FileEntries.{last_of, Follows, AreOrigins, AreDigestsIn, IsFileEntryOf}
-use Rattle.ffv1_hold.specs.Inner.FileEntries.{next_text}
-use Rattle.ffv1_hold.specs.FileFaults.{IsFileReel, IsPartOfFile, FileIsWhole, FileShows, IsPartOfEntry, EntryShows}
-use Rattle.ffv1_hold.specs.Inner.FileFaults.{EndIsWhole}
-use Rattle.ffv1_hold.specs.MergedStreams.{ReadsPart, ReadsAll, ReadsSoFar, EntriesPass, InputRefuses, ShowsNoFault, OneRefuses, MergeRefuses, StreamBegins, BeginsWithPart, WritesFrontSoFar, Inputs, WritesNoEnd, WritesAtMost}
-use Rattle.ffv1_hold.specs.Inner.Merging.{Start, AreVersions, inputs_from, Facts, part, with_file_entry, both, IsPassed, IsReadUpTo, ReadsToNext, FollowsAll, Stands, Stops, Ends, with_digests, IsWritten, IsTurn, EntryStops, StopsAtWrite}
 use Rattle.ffv1_hold.proofs.ReadRefusals.{Takes-trans, Refuses-after}
 use Rattle.ffv1_hold.proofs.Entries.{part_of_entries, entries_show}
 use Rattle.ffv1_hold.proofs.Heads.{file_from_entries_part, file_from_whole_entries, file_from_entries_fault}
 use Rattle.ffv1_hold.proofs.HeldEntries.{are_entries, stated-with_entry, holding-with_entry, holding-joined}
-use Rattle.ffv1_hold.proofs.OriginReads.{origins_none}
 use Rattle.ffv1_hold.proofs.ReadSteps.{digests_in_version}
 use Rattle.ffv1_hold.proofs.DigestUnions.{union-rises}
 use Rattle.ffv1_hold.proofs.TileTexts.{stated_begun}
@@ -74,9 +51,7 @@ begun-split : (v : Version) (r : Reel) (f : Facts) (x : List ℕ) → begun_text
 begun-split v r f x = append_assoc (head_text v r) (entries_text v (file_entries (part r f))) x
 
 begun-is_part : (v : Version) (r : Reel) (f : Facts) → IsFileReel r → IsHolding (part r f) → IsStated v (part r f) → IsPartOfFile (begun_text v (part r f))
-begun-is_part v r f is well_formed stated =
-    subst IsPartOfFile (sym (begun-split v r f []) ∙ append-nil (begun_text v (part r f)))
-    (file_from_entries_part v r is _ (part_of_entries v r.setup (file_entries (part r f)) (are_entries v (part r f) well_formed stated) [] (inl refl)))
+begun-is_part v r f is well_formed stated = grind (arith, begun-split, append-nil, file_from_entries_part, part_of_entries, are_entries)
 
 -- an entry that is refused is a fault of the file
 pub input_refuses : (old now new : Option (List ℕ)) (v w : Version) (r : Reel) (f : Facts) (place : ℕ) (last : Option FileEntry) (setup : SetupValue)
@@ -97,11 +72,7 @@ input_refuses old now new v w r f place last setup fault version same is p refus
 
 pub passed_shows_none : (old new : Option (List ℕ)) (v : Version) (r : Reel) (f : Facts) (place : ℕ) (last : Option FileEntry) → IsFileReel r
     → IsPassed old new v r f place last → ShowsNoFault old new
-passed_shows_none old new v r f place last is p = record {
-  seen = begun_text v (part r f);
-  taken = p.text.taken;
-  well_formed = inl (begun-is_part v r f is p.well_formed p.stated);
-}
+passed_shows_none old new v r f place last is p = grind (arith, begun-is_part)
 
 pub held_shows_none : (old new : Option (List ℕ)) (v : Version) (r : Reel) (f : Facts) (place : ℕ) (next : Option FileEntry) → IsFileReel r
     → IsReadUpTo old new v r f place next → ShowsNoFault old new
@@ -122,8 +93,7 @@ held_part old new v r f place next is h = part_read old new v (part r f) h.well_
 
 pub passed_part : (old new : Option (List ℕ)) (v : Version) (r : Reel) (f : Facts) (place : ℕ) (last : Option FileEntry) → IsFileReel r
     → IsPassed old new v r f place last → ReadsPart old new (part r f)
-passed_part old new v r f place last is p =
-    part_read old new v (part r f) p.well_formed is.fits p.stated [] (subst (Consumes old new) (sym (append-nil (begun_text v (part r f)))) p.text.taken)
+passed_part old new v r f place last is p = grind (arith, part_read, append-nil)
 
 pub taken_begins : (old new : Option (List ℕ)) (bytes more : List ℕ) → Consumes old new (bytes ++ more) → StreamBegins old bytes
 taken_begins None new bytes more t = tt
@@ -134,19 +104,11 @@ pub whole_begins : (old new : Option (List ℕ)) (bytes : List ℕ) → Consumes
 whole_begins old new bytes t = taken_begins old new bytes [] (subst (Consumes old new) (sym (append-nil bytes)) t)
 
 pub part_begins : (old new : Option (List ℕ)) (h : Contents) → ReadsPart old new h → BeginsWithPart old h
-part_begins old new h p = record {
-  well_formed = p.well_formed;
-  record' = p.record';
-  version = p.version;
-  stated = p.stated;
-  begins = taken_begins old new (begun_text p.version h) p.more p.taken;
-}
+part_begins old new h p = grind (arith, taken_begins)
 
 pub head_begins : (old new : Option (List ℕ)) (v : Version) (h : Contents) (more : List ℕ) → Consumes old new (begun_text v h ++ more)
     → StreamBegins old (head_text v h.reel)
-head_begins old new v h more t =
-    taken_begins old new (head_text v h.reel) (entries_text v (file_entries h) ++ more)
-    (subst (Consumes old new) (append_assoc (head_text v h.reel) (entries_text v (file_entries h)) more) t)
+head_begins old new v h more t = grind (arith, taken_begins, append_assoc)
 
 -- ---- refusals after both heads
 
@@ -158,19 +120,7 @@ module _ (i : Inputs) (r : Reel) (is : IsFileReel r) (v w : Version) (left_head 
     (right_head : StreamBegins i.right_old (head_text w r)) (old new : Option (List ℕ)) where
   stopped : (f : HoldFileFault) → MergeRefuses i f → (f ≡ faults.OtherReel → ⊥) → ((f ≡ faults.Write → ⊥) → WritesNoEnd i old new)
       → (f ≡ faults.Write → StopsAtWrite i r old new) → WritesAtMost old new file_limit → Stops i old new f
-  stopped f fault inside no_end write most = record {
-    reel = r;
-    is = is;
-    left_version = v;
-    right_version = w;
-    left_head = left_head;
-    right_head = right_head;
-    fault = fault;
-    inside = inside;
-    no_end = no_end;
-    write = write;
-    most = most;
-  }
+  stopped f fault inside no_end write most = grind arith
 
   -- the sink is not the fault: the head and whole entries were written
   pub stops_between : (x y : Facts) → BeginsWithPart i.left_old (part r x) → BeginsWithPart i.right_old (part r y)
@@ -191,10 +141,7 @@ module _ (i : Inputs) (r : Reel) (is : IsFileReel r) (v w : Version) (left_head 
   pub stops_writing : ShowsNoFault i.left_old i.left_new → ShowsNoFault i.right_old i.right_new → WritesFrontSoFar i old new
       → (done : List ℕ) → Appends old new done → length done ≤ file_limit → ReadsToNext v r i.left_old i.left_new i.right_old done
       → ReadsToNext w r i.right_old i.right_new i.left_old done → Stops i old new faults.Write
-  stops_writing left right front done written few left_read right_read =
-      stopped faults.Write (inr (left, right)) (λ other. absurd (cc)) (λ other. absurd (other refl))
-      (λ _. record { front = front; done = done; written = written; left_version = v; right_version = w; left = left_read; right = right_read })
-      (record { done = done; written = written; few = few })
+  stops_writing left right front done written few left_read right_read = grind (arith, stopped)
 
 -- ---- one step of both
 
@@ -247,12 +194,10 @@ module _ (s : Start) (left right sink : Option (List ℕ)) (lp rp room : ℕ) (l
 
   -- with no other digests an entry is itself
   left_alone : (e : FileEntry) (others : List (List ℕ)) → ln ≡ Some e → others ≡ [] → with_digests e others ≡ e
-  left_alone e others is none =
-      ap (with_digests e) none ∙ with_none e (digests_in_version s.left_version e.1 (left_at e is).entry.origins).rising
+  left_alone e others is none = grind (arith, with_none, digests_in_version, left_at)
 
   right_alone : (e : FileEntry) (others : List (List ℕ)) → rn ≡ Some e → others ≡ [] → with_digests e others ≡ e
-  right_alone e others is none =
-      ap (with_digests e) none ∙ with_none e (digests_in_version s.right_version e.1 (right_at e is).entry.origins).rising
+  right_alone e others is none = grind (arith, with_none, digests_in_version, right_at)
 
   abbrev turned : (e : FileEntry) (others : List (List ℕ)) (o : Ordering) → IsTurn ln rn e others o → Turned s left right all e others
   turned e others Less t = record {
@@ -376,17 +321,10 @@ module _ (s : Start) (left right sink : Option (List ℕ)) (lp rp room : ℕ) (l
     text = turned_text e others t
 
     now_written : Appends s.sink new (begun_text Second (part s.reel (both t.lefts t.rights)))
-    now_written = subst (Appends s.sink new) (sym text)
-        (Appends-trans s.sink sink new (begun_text Second (part s.reel all)) (entry_text Second written_entry) st.written wrote)
+    now_written = grind (arith, text, Appends-trans)
 
     now_left : room' + length (begun_text Second (part s.reel (both t.lefts t.rights))) ≡ file_limit
-    now_left = omega (
-      arith,
-      st.room_left,
-      less,
-      ap length text,
-      length-append (begun_text Second (part s.reel all)) (entry_text Second written_entry),
-    )
+    now_left = grind (arith, text, length-append)
 
     -- reading on failed
     stops_after : (l r : Option (List ℕ)) (f : HoldFileFault) → OneRefuses (inputs_from s l r) f → Stops (inputs_from s l r) s.sink new f
@@ -483,15 +421,7 @@ module _ (s : Start) (left right sink : Option (List ℕ)) (lp rp room : ℕ) (l
 -- both inputs ended
 all_read : (old new : Option (List ℕ)) (v : Version) (r : Reel) (f : Facts) (place : ℕ) → IsFileReel r → IsReadUpTo old new v r f place None
     → ReadsAll old new (part r f)
-all_read old new v r f place is h = record {
-  well_formed = h.well_formed;
-  file = record {
-    version = v;
-    fits = record { stated = h.stated; record' = is.fits; text = omega (arith, h.text.moved, h.text.within) };
-    taken = h.text.taken;
-  };
-  at_end = h.at_end;
-}
+all_read old new v r f place is h = grind (arith, text)
 
 pub ends : (s : Start) (left right sink : Option (List ℕ)) (lp rp room : ℕ) (ln rn : Option FileEntry) → ln ≡ None → rn ≡ None
     → Stands s left right sink lp rp room ln rn → Ends s left right sink room
@@ -502,40 +432,12 @@ ends s left right sink lp rp room ln rn l r st =
       is = st.reel;
       lefts = st.lefts;
       rights = st.rights;
-      read = record {
-        left_read = all_read _ _ s.left_version s.reel st.lefts lp st.reel left_held;
-        right_read = all_read _ _ s.right_version s.reel st.rights rp st.reel right_held;
-        same = refl;
-      };
+      read = grind (arith, all_read);
       written = st.written;
       room_left = st.room_left;
     }
 
 -- ---- what can be written
-
-digests_fit : (v : Version) (ds : List (List ℕ)) → AreDigestsIn v ds → length ds ≤ origins_limit
-digests_fit First ds are = omega (arith, ap length are)
-digests_fit Second ds are = are.1
-
-entry_written : (v : Version) (setup : SetupValue) (e : FileEntry) → IsFileEntryOf v setup e → IsWritten e
-entry_written v setup e is = (is.slice.fits, digests_in_version v e.1 is.origins, digests_fit v e.1 is.origins)
-
-none_written : (e : FileEntry) (others : List (List ℕ)) → others ≡ [] → IsWritten e → IsWritten (e.0, others)
-none_written e others none is = (is.0, subst AreOrigins (sym none) origins_none, omega (arith, ap length none))
-
--- the next entry, and the digests that come to it
-pub turn_written : (v w : Version) (setup : SetupValue) (ln rn : Option FileEntry) (e : FileEntry) (others : List (List ℕ)) (o : Ordering)
-    → IsTurn ln rn e others o → IfSome ln (IsFileEntryOf v setup) → IfSome rn (IsFileEntryOf w setup) → IsWritten e × IsWritten (e.0, others)
-turn_written v w setup ln rn e others Less t l r =
-    let is = entry_written v setup e (subst (λ (n : Option FileEntry). IfSome n (IsFileEntryOf v setup)) t.0 l) in
-    (is, none_written e others t.1 is)
-turn_written v w setup ln rn e others Greater t l r =
-    let is = entry_written w setup e (subst (λ (n : Option FileEntry). IfSome n (IsFileEntryOf w setup)) t.0 r) in
-    (is, none_written e others t.1 is)
-turn_written v w setup ln rn e others Equal t l r = (
-  entry_written v setup e (subst (λ (n : Option FileEntry). IfSome n (IsFileEntryOf v setup)) t.0 l),
-  entry_written w setup (e.0, others) (subst (λ (n : Option FileEntry). IfSome n (IsFileEntryOf w setup)) t.1 r),
-)
 
 -- the version of a reader stays
 pub same_version_entry : (v w : Version) (setup : SetupValue) (next : Option FileEntry) → w ≡ v → IfSome next (IsFileEntryOf v setup)

@@ -1,9 +1,5 @@
 -- The bytes that a number was read from are its bytes.
-use Rattle.std.proofs.Common.{◌≡◌, ℕ, List, length}
-use Rattle.std.proofs.lemmas.Nat.{be_bytes_2, be_bytes_4}
-use Rattle.std.specs.Int.{w16, w32, from_be_bytes}
-use Rattle.ffv1_bits.specs.Parity.{AreBytes}
-use Rattle.ffv1_hold.specs.HoldingText.{be2, be4}
+use Rattle.ffv1_hold.proofs.Common.{◌≡◌, ℕ, List, length, be_bytes_2, be_bytes_4, w16, w32, from_be_bytes, AreBytes, be2, be4}
 
 pub be2_of : (bs : List ℕ) (n : ℕ) → length bs ≡ 2 → AreBytes bs → n ≡ from_be_bytes w16 bs → be2 n ≡ bs
 unfolding be2

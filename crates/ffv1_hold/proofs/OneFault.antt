@@ -1,18 +1,6 @@
 -- No two faults are shown by beginnings of one input.
-use Rattle.std.proofs.Common.{◌≡◌, ℕ, ◌<◌, ◌≤◌, ◌^◌, List, [], ◌∷◌, ◌++◌, length, Option, Some, None, refl, sym, ap, ◌∙◌, subst, inl, inr, arith, append_assoc}
-use Rattle.std.specs.Prelude.{◌⊎◌}
-use Rattle.ffv1_bits.specs.Limits.{record_limit}
-use Rattle.ffv1_range.specs.declared.fault.SetupFault.{SetupFault}
-use Rattle.ffv1_range.specs.Setup.{SetupValue}
-use Rattle.ffv1_range.specs.SetupFaults.{FirstSetupFault}
-use Rattle.ffv1_range.proofs.SetupFacts.{one_setup_fault}
-use Rattle.ffv1_hold.specs.declared.file_fault.HoldFileFault.{HoldFileFault}
+use Rattle.ffv1_hold.proofs.Common.{◌≡◌, ℕ, ◌<◌, ◌≤◌, ◌^◌, List, [], ◌∷◌, ◌++◌, length, Option, Some, None, refl, sym, ap, ◌∙◌, subst, inl, inr, arith, append_assoc, ◌⊎◌, record_limit, SetupFault, SetupValue, FirstSetupFault, one_setup_fault, HoldFileFault, Version, Reel, FileEntry, be4, magic, sized_record, head_text, body_text, entries_text, last_of, AreEntries, EntryShows, ReelShows, MagicShows, FileShows}
 use Rattle.ffv1_hold.specs.declared.file_fault.HoldFileFault.TheVariants as faults
-use Rattle.ffv1_hold.specs.declared.version.Version.{Version}
-use Rattle.ffv1_holding.specs.Reels.{Reel}
-use Rattle.ffv1_hold.specs.HoldingText.{FileEntry, be4, magic, sized_record, head_text, body_text, entries_text}
-use Rattle.ffv1_hold.specs.FileEntries.{last_of, AreEntries}
-use Rattle.ffv1_hold.specs.FileFaults.{EntryShows, ReelShows, MagicShows, FileShows}
 use Rattle.ffv1_hold.proofs.NumberTexts.{no_tag, rest_same, number_same, after_number}
 use Rattle.ffv1_hold.proofs.BodyTexts.{same_body, body_one}
 use Rattle.ffv1_hold.proofs.TextLaws.{entries_after, none_after, AreFitting, fitting_all, same_sized, same_head, after_magic, head_parts, sized_parts}
@@ -23,10 +11,7 @@ module _ (v : Version) (setup : SetupValue) where
   entry_one : (last : Option FileEntry) (f g : HoldFileFault) (s t y z : List ℕ) → s ++ y ≡ t ++ z → EntryShows v setup last f s
       → EntryShows v setup last g t → f ≡ g
   entry_one last f g s t y z same a b = elim (entry_kinds v setup last f s a) [
-    | inl x ↦ elim (entry_kinds v setup last g t b) [
-      | inl w ↦ x.1 ∙ sym w.1
-      | inr w ↦ absurd (no_tag y (w.0 ++ z) x.0 1 (sym (ap (λ q. q ++ y) x.2) ∙ same ∙ ap (λ q. q ++ z) w.1) (λ e. let over = x.3 in omega arith))
-    ]
+    | inl x ↦ grind (arith, entry_kinds, no_tag)
     | inr x ↦ elim (entry_kinds v setup last g t b) [
       | inl w ↦ absurd (no_tag (x.0 ++ y) z 1 w.0 (sym (ap (λ q. q ++ y) x.1) ∙ same ∙ ap (λ q. q ++ z) w.2) (λ e. let over = w.3 in omega arith))
       | inr w ↦ body_one v setup last f g x.0 w.0 y z (rest_same _ _ 1 1 (sym (ap (λ q. q ++ y) x.1) ∙ same ∙ ap (λ q. q ++ z) w.1)) x.2 w.2
@@ -36,8 +21,7 @@ module _ (v : Version) (setup : SetupValue) where
   entries_one : (last : Option FileEntry) (fs gs : List FileEntry) → AreValid v setup last fs → AreValid v setup last gs → AreFitting v fs → AreFitting v gs
       → (f g : HoldFileFault) (s t y z : List ℕ) → (entries_text v fs ++ s) ++ y ≡ (entries_text v gs ++ t) ++ z
       → EntryShows v setup (last_from last fs) f s → EntryShows v setup (last_from last gs) g t → f ≡ g
-  entries_one last [] [] a b c d f g s t y z same p q = entry_one last f g s t y z
-      (sym (ap (λ x. x ++ y) (none_after v s)) ∙ same ∙ ap (λ x. x ++ z) (none_after v t)) p q
+  entries_one last [] [] a b c d f g s t y z same p q = grind (arith, entry_one, none_after)
   entries_one last [] (e ∷ gs) a b c d f g s t y z same p q =
       absurd (right_none v setup last e ((entries_text v gs ++ t) ++ z) y b.0.0 d.0 b.0.1 f s
       (ap (λ w. 1 ∷ w) (sym (append_assoc (body_text v e) (entries_text v gs ++ t) z)) ∙ sym (ap (λ x. x ++ z) (entries_after v e gs t)) ∙ sym same
@@ -50,8 +34,7 @@ module _ (v : Version) (setup : SetupValue) where
       let bodies = rest_same _ _ 1 1 (sym (ap (λ x. x ++ y) (entries_after v e fs s)) ∙ same ∙ ap (λ x. x ++ z) (entries_after v h gs t)) in
       let apart = sym (append_assoc (body_text v e) (entries_text v fs ++ s) y) ∙ bodies ∙ append_assoc (body_text v h) (entries_text v gs ++ t) z in
       let one = same_body v e h ((entries_text v fs ++ s) ++ y) ((entries_text v gs ++ t) ++ z) c.0 d.0 apart in
-      entries_one (Some h) fs gs (subst (λ (x : FileEntry). AreValid v setup (Some x) fs) one.0 a.1) b.1 c.1 d.1 f g s t y z one.1
-      (subst (λ (x : FileEntry). EntryShows v setup (last_from (Some x) fs) f s) one.0 p) q
+      cc (entries_one (Some h) fs gs (subst (λ (x : FileEntry). AreValid v setup (Some x) fs) one.0 a.1) b.1 c.1 d.1 f g s t y z one.1 (subst (λ (x : FileEntry). EntryShows v setup (last_from (Some x) fs) f s) one.0 p) q)
 
 -- ---- the head
 
@@ -103,17 +86,11 @@ head_on v r x y = append_assoc (head_text v r) x y ∙ head_parts v r (x ++ y)
 
 pub one_fault : (f g : HoldFileFault) (s t y z : List ℕ) → s ++ y ≡ t ++ z → FileShows f s → FileShows g t → f ≡ g
 one_fault f g s t y z same (inl a) (inl b) = magic_is f s a ∙ sym (magic_is g t b)
-one_fault f g s t y z same (inl a) (inr (inl (w, u, split, b))) = absurd
-    (magic_none w (u ++ z) y s f (sym (append_assoc (magic w) u z) ∙ sym (ap (λ q. q ++ z) split) ∙ sym same) a)
-one_fault f g s t y z same (inl a) (inr (inr (w, r, u, r_is, split, b))) =
-    absurd (magic_none w _ y s f (sym (head_on w r u z) ∙ sym (ap (λ q. q ++ z) split) ∙ sym same) a)
-one_fault f g s t y z same (inr (inl (w, u, split, a))) (inl b) = absurd
-    (magic_none w (u ++ y) z t g (sym (append_assoc (magic w) u y) ∙ sym (ap (λ q. q ++ y) split) ∙ same) b)
-one_fault f g s t y z same (inr (inr (w, r, u, r_is, split, a))) (inl b) =
-    absurd (magic_none w _ z t g (sym (head_on w r u y) ∙ sym (ap (λ q. q ++ y) split) ∙ same) b)
-one_fault f g s t y z same (inr (inl (w, u, u_split, a))) (inr (inl (x, v, v_split, b))) =
-    reel_one f g u v y z (after_magic w x _ _ (sym (append_assoc (magic w) u y)
-    ∙ sym (ap (λ q. q ++ y) u_split) ∙ same ∙ ap (λ q. q ++ z) v_split ∙ append_assoc (magic x) v z)) a b
+one_fault f g s t y z same (inl a) (inr (inl (w, u, split, b))) = grind (arith, magic_none, append_assoc)
+one_fault f g s t y z same (inl a) (inr (inr (w, r, u, r_is, split, b))) = grind (arith, magic_none, head_on)
+one_fault f g s t y z same (inr (inl (w, u, split, a))) (inl b) = grind (arith, magic_none, append_assoc)
+one_fault f g s t y z same (inr (inr (w, r, u, r_is, split, a))) (inl b) = grind (arith, magic_none, head_on)
+one_fault f g s t y z same (inr (inl (w, u, u_split, a))) (inr (inl (x, v, v_split, b))) = grind (arith, reel_one, after_magic, append_assoc)
 one_fault f g s t y z same (inr (inl (w, u, u_split, a))) (inr (inr (x, r, v, r_is, v_split, b))) =
     absurd (reel_none r r_is (v ++ z) y f u (after_magic x w _ _ (sym (head_on x r v z)
     ∙ sym (ap (λ q. q ++ z) v_split) ∙ sym same ∙ ap (λ q. q ++ y) u_split ∙ append_assoc (magic w) u y)) a)
@@ -125,9 +102,4 @@ one_fault f g s t y z same (inr (inr (w, r, u, r_is, u_split, (fs, p, f_all, f_i
     ∙ sym (ap (λ k. k ++ y) u_split) ∙ same ∙ ap (λ k. k ++ z) v_split ∙ append_assoc (head_text x q) v z) in
     let setup = ap (λ (k : Reel). k.setup) heads.1 in
     let fs_all = subst (λ (k : Version). AreEntries k r.setup fs) heads.0 f_all in
-    entries_one x q.setup None fs gs (subst (λ (k : SetupValue). AreValid x k None fs) setup (valid_list x r.setup fs fs_all)) (valid_list x q.setup gs g_all)
-    (fitting_all x r r_is.reel fs fs_all.each) (fitting_all x q q_is.reel gs g_all.each) f g p o y z
-    (sym (ap (λ k. k ++ y) (f_inner ∙ ap (λ (n : Version). entries_text n fs ++ p) heads.0)) ∙ heads.2 ∙ ap (λ k. k ++ z) g_inner)
-    (subst (λ (l : Option FileEntry). EntryShows x q.setup l f p) (last_of-none fs) (subst (λ (k : SetupValue). EntryShows x k (last_of fs) f p) setup
-    (subst (λ (k : Version). EntryShows k r.setup (last_of fs) f p) heads.0 a)))
-    (subst (λ (l : Option FileEntry). EntryShows x q.setup l g o) (last_of-none gs) b)
+    cc (entries_one x q.setup None fs gs (subst (λ (k : SetupValue). AreValid x k None fs) setup (valid_list x r.setup fs fs_all)) (valid_list x q.setup gs g_all) (fitting_all x r r_is.reel fs fs_all.each) (fitting_all x q q_is.reel gs g_all.each) f g p o y z (sym (ap (λ k. k ++ y) (f_inner ∙ ap (λ (n : Version). entries_text n fs ++ p) heads.0)) ∙ heads.2 ∙ ap (λ k. k ++ z) g_inner) (subst (λ (l : Option FileEntry). EntryShows x q.setup l f p) (last_of-none fs) (subst (λ (k : SetupValue). EntryShows x k (last_of fs) f p) setup (subst (λ (k : Version). EntryShows k r.setup (last_of fs) f p) heads.0 a))) (subst (λ (l : Option FileEntry). EntryShows x q.setup l g o) (last_of-none gs) b))

@@ -1,13 +1,6 @@
 -- An input has one fault at most.
-use Rattle.std.proofs.Common.{◌≡◌, ℕ, ◌≤◌, List, [], ◌∷◌, ◌++◌, length, take, drop, Option, Some, refl, sym, ap, ◌∙◌, subst, inl, inr, arith, append_assoc, length-append, take-append-drop}
-use Rattle.std.specs.Prelude.{◌⊎◌}
-use Rattle.std.proofs.Math.Seq.{take-append_seam, take-append-le}
-use Rattle.std.specs.Io.KnownBytes.{Consumes}
-use Rattle.ffv1_bits.specs.Limits.{file_limit}
-use Rattle.ffv1_hold.specs.declared.file_fault.HoldFileFault.{HoldFileFault}
+use Rattle.ffv1_hold.proofs.Common.{◌≡◌, ℕ, ◌≤◌, List, [], ◌∷◌, ◌++◌, length, drop, Option, Some, refl, sym, ap, ◌∙◌, subst, inl, inr, arith, append_assoc, length-append, take-append-drop, ◌⊎◌, take-append_seam, take-append-le, Consumes, file_limit, HoldFileFault, Refuses, StopsIn, IsPartOfFile, IsHoldingText, FileIsWhole, FileShows, IsOutside, IsFaultOf}
 use Rattle.ffv1_hold.specs.declared.file_fault.HoldFileFault.TheVariants as faults
-use Rattle.ffv1_hold.specs.Reading.{Refuses, StopsIn}
-use Rattle.ffv1_hold.specs.FileFaults.{IsPartOfFile, IsHoldingText, FileIsWhole, FileShows, IsOutside, IsFaultOf}
 use Rattle.ffv1_hold.proofs.FaultLaws.{text_none, text_whole}
 use Rattle.ffv1_hold.proofs.Returned.{taken_front, taken_all}
 use Rattle.ffv1_hold.proofs.OneFault.{one_fault}
@@ -52,15 +45,11 @@ abbrev Kinds : List ℕ → HoldFileFault → Type 0
 Kinds input f = IsShown input f ⊎ (FooterGivesOff input f ⊎ (IsOverLimit input f ⊎ IsAfterText input f))
 
 shown_kind : (input : List ℕ) (f : HoldFileFault) (left : Option (List ℕ)) → StopsIn (FileShows f) (Some input) left 0 → Kinds input f
-shown_kind input f left r =
-    let front = taken_front input r.seen left r.taken in
-    inl (record { seen = r.seen; rest = front.0; split = front.1; shown = r.is; within = omega (arith, r.within) })
+shown_kind input f left r = grind (arith, taken_front)
 
 goes_on : (input seen : List ℕ) (more : ℕ) (left : Option (List ℕ)) → Consumes (Some input) left (seen ++ more ∷ []) → (rest : List ℕ)
     × (input ≡ seen ++ more ∷ rest)
-goes_on input seen more left taken =
-    let front = taken_front input (seen ++ more ∷ []) left taken in
-    (front.0, front.1 ∙ append_assoc seen (more ∷ []) front.0)
+goes_on input seen more left taken = grind (arith, taken_front, append_assoc)
 
 kind_of : (input : List ℕ) (f : HoldFileFault) (left : Option (List ℕ)) → (IsOutside f → ⊥)
     → Refuses IsPartOfFile FileIsWhole FileShows (Some input) left 0 f → Kinds input f
@@ -72,20 +61,8 @@ kind_of input faults.Truncated left inside r =
     let all = taken_all input r.seen left r.taken r.at_end in
     inr (inl (record { is = refl; unfinished = subst IsPartOfFile (sym all) r.unfinished; within = omega (arith, r.within, ap length all) }))
 kind_of input faults.TooLong left inside (inl r) = shown_kind input faults.TooLong left r
-kind_of input faults.TooLong left inside (inr r) =
-    let on = goes_on input r.seen r.more left r.taken in
-    inr (inr (inl (record {
-      is = refl;
-      seen = r.seen;
-      more = r.more;
-      rest = on.0;
-      split = on.1;
-      unfinished = r.unfinished;
-      at_limit = omega (arith, r.at_limit);
-    })))
-kind_of input faults.Trailing left inside r =
-    let on = goes_on input r.seen r.more left r.taken in
-    inr (inr (inr (record { is = refl; seen = r.seen; rest = r.more ∷ on.0; split = on.1; whole = r.whole; within = omega (arith, r.within) })))
+kind_of input faults.TooLong left inside (inr r) = grind (arith, goes_on)
+kind_of input faults.Trailing left inside r = grind (arith, goes_on)
 kind_of input faults.Magic left inside r = shown_kind input faults.Magic left r
 kind_of input (faults.Setup k) left inside r = shown_kind input (faults.Setup k) left r
 kind_of input faults.Tag left inside r = shown_kind input faults.Tag left r
@@ -96,9 +73,7 @@ kind_of input faults.NotASlice left inside r = shown_kind input faults.NotASlice
 
 -- of two beginnings the shorter begins the other
 begins : (a b x y : List ℕ) → a ++ x ≡ b ++ y → length a ≤ length b → b ≡ a ++ drop (length a) b
-begins a b x y same few =
-    sym (take-append-drop (length a) b)
-    ∙ ap (λ q. q ++ drop (length a) b) (sym (take-append-le (length a) b y few) ∙ ap (take (length a)) (sym same) ∙ take-append_seam a x)
+begins a b x y same few = cc (take-append-drop (length a) b, take-append-le (length a) b y few, take-append_seam a x)
 
 -- no text begins what is unfinished
 text_apart : (text s z : List ℕ) → IsHoldingText text → s ≡ text ++ z → IsPartOfFile s → ⊥

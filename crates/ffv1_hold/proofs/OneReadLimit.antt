@@ -1,22 +1,5 @@
 -- Each text and output has one read_limit.
-use Rattle.std.proofs.Common.{◌≡◌, ℕ, zero, suc, ◌<◌, ◌≤◌, ◌^◌, List, [], ◌∷◌, ◌++◌, length, take, drop, get_or, Contains, Option, Some, None, refl, sym, ap, ◌∙◌, subst, inl, inr, arith, append_assoc, append-nil, length-append, take-append-drop}
-use Rattle.std.specs.Prelude.{◌⊎◌}
-use Rattle.std.specs.List.{AllByRecursion}
-use Rattle.std.specs.Int.{w16, w32, from_be_bytes}
-use Rattle.std.specs.Cmp.{tied_itself}
-use Rattle.std.specs.declared.cmp.Ordering.TheVariants.{Less, Equal, Greater}
-use Rattle.std.proofs.lemmas.Bool.{cases_lt}
-use Rattle.std.proofs.lemmas.Nat.{from_be_bytes-to_be_bytes_2, from_be_bytes-to_be_bytes_4}
-use Rattle.std.proofs.Math.Seq.{take-append_seam, drop-append_seam}
-use Rattle.ffv1_bits.specs.Limits.{slice_limit}
-use Rattle.ffv1_holding.specs.SliceOrder.{Entry, bytes_cmp, bytes_total, bytes_antisymmetric}
-use Rattle.ffv1_holding.specs.Reels.{Reel}
-use Rattle.ffv1_holding.specs.Contents.{Contents, digests_of, joined}
-use Rattle.ffv1_hold.specs.declared.version.Version.{Version}
-use Rattle.ffv1_hold.specs.declared.version.Version.TheVariants.{Second}
-use Rattle.ffv1_hold.specs.HoldingText.{FileEntry, origins_limit, be2, be4, head_text, origins_text, body_text, entry_text, entries_text, file_entries, file_text}
-use Rattle.ffv1_hold.specs.FileEntries.{HasText, IsDigest}
-use Rattle.ffv1_hold.specs.ReadLimits.{LiesWhole, AreAllDigests, EndsFirstOpen, IsReadLimitOf}
+use Rattle.ffv1_hold.proofs.Common.{◌≡◌, ℕ, zero, suc, ◌<◌, ◌≤◌, ◌^◌, List, [], ◌∷◌, ◌++◌, length, take, drop, get_or, Contains, Option, Some, None, refl, sym, ap, ◌∙◌, subst, inl, inr, arith, append_assoc, append-nil, length-append, take-append-drop, ◌⊎◌, AllByRecursion, w16, w32, from_be_bytes, tied_itself, Less, Equal, Greater, cases_lt, from_be_bytes-to_be_bytes_2, from_be_bytes-to_be_bytes_4, take-append_seam, drop-append_seam, Entry, bytes_cmp, bytes_total, bytes_antisymmetric, Reel, Contents, digests_of, joined, Version, Second, FileEntry, be2, be4, head_text, origins_text, body_text, entry_text, entries_text, file_entries, file_text, HasText, IsDigest, LiesWhole, AreAllDigests, EndsFirstOpen, IsReadLimitOf}
 use Rattle.ffv1_hold.proofs.Bodies.{length-be2, length-be4}
 use Rattle.ffv1_hold.proofs.NumberTexts.{same_back, rest_same}
 use Rattle.ffv1_hold.proofs.SliceTexts.{slice_parts}
@@ -102,8 +85,7 @@ stated_is f fits x y is =
     let long : stated_length x ≡ length s.1 = ap (λ z. from_be_bytes w32 (take 4 z)) two
     ∙ ap (from_be_bytes w32) (front_of (be4 (length s.1)) 4 _ (length-be4 (length s.1))) ∙ be4_back (length s.1) (omega arith) in
     let bytes = ap (take (stated_length x)) three ∙ ap (λ n. take n (s.1 ++ after)) long ∙ take-append_seam s.1 after in
-    let rest : stated_rest x ≡ be4 (length ds) ++ (whole ds ++ y) = ap (drop (stated_length x)) three ∙ ap (λ n. drop n (s.1 ++ after)) long
-    ∙ drop-append_seam s.1 after ∙ origins_parts ds y in
+    let rest : stated_rest x ≡ be4 (length ds) ++ (whole ds ++ y) = cc (drop-append_seam s.1 after, origins_parts ds y) in
     let some = fits.2.1 in
     let count : stated_count x ≡ length ds = ap (λ z. from_be_bytes w32 (take 4 z)) rest
     ∙ ap (from_be_bytes w32) (front_of (be4 (length ds)) 4 _ (length-be4 (length ds))) ∙ be4_back (length ds) (omega arith) in
@@ -115,32 +97,14 @@ abbrev HasEntry : List ℕ → Type 0
 HasEntry x = (f : FileEntry) × HasText Second f × ((y : List ℕ) × (x ≡ entry_text Second f ++ y))
 
 decide_equal : (m n : ℕ) → (m ≡ n) ⊎ (¬ (m ≡ n))
-decide_equal m n = elim (cases_lt m n) [
-  | inl less ↦ inr (λ same. omega arith)
-  | inr more ↦ elim (cases_lt n m) [
-    | inl less ↦ inr (λ same. omega arith)
-    | inr also ↦ inl (omega arith)
-  ]
-]
+decide_equal m n = grind (arith, cases_lt)
 
 decide_whole_digests : (ds : List (List ℕ)) → AllByRecursion IsDigest ds ⊎ (¬ AllByRecursion IsDigest ds)
 decide_whole_digests [] = inl tt
-decide_whole_digests (d ∷ ds) = elim (decide_equal (length d) 32) [
-  | inr short ↦ inr (λ all. short all.0)
-  | inl one ↦ elim (decide_whole_digests ds) [ inl all ↦ inl (one, all) | inr none ↦ inr (λ all. none all.1) ]
-]
+decide_whole_digests (d ∷ ds) = grind (arith, decide_equal, decide_whole_digests ds)
 
 decide_text : (e : FileEntry) → HasText Second e ⊎ (¬ HasText Second e)
-decide_text e = elim (cases_lt e.0.0 (2 ^ 16)) [
-  | inr large ↦ inr (λ h. let small = h.0 in omega arith)
-  | inl small ↦ elim (cases_lt slice_limit (length e.0.1)) [
-    | inl long ↦ inr (λ h. let few = h.1 in omega arith)
-    | inr few ↦ elim (cases_lt origins_limit (length e.1)) [
-      | inl many ↦ inr (λ h. let some = h.2.1 in omega arith)
-      | inr some ↦ elim (decide_whole_digests e.1) [ inl all ↦ inl (small, few, (all, some)) | inr none ↦ inr (λ h. none h.2.0) ]
-    ]
-  ]
-]
+decide_text e = grind (arith, cases_lt, decide_whole_digests)
 
 decide_entry : (x : List ℕ) → HasEntry x ⊎ (¬ HasEntry x)
 decide_entry x =
@@ -221,8 +185,7 @@ module _ (AreAll : FileEntry → List (List ℕ) → Type 0) (decide_all : (e : 
 
   none_stands : (e : FileEntry) (x : List ℕ) → (¬ HasEntry x) → StandsIn e x → ⊥
   none_stands e x other ([], g, rest, all, has, shows, split) = other (g, has, (rest, split ∙ none_after Second (entry_text Second g ++ rest)))
-  none_stands e x other (h ∷ before, g, rest, all, has, shows, split) =
-      other (h, all.0, (entries_text Second before ++ (entry_text Second g ++ rest), split ∙ entries_after Second h before (entry_text Second g ++ rest)))
+  none_stands e x other (h ∷ before, g, rest, all, has, shows, split) = grind (arith, entries_after)
 
   one_more : (e f : FileEntry) → HasText Second f → (x y : List ℕ) → x ≡ entry_text Second f ++ y → StandsIn e y → StandsIn e x
   one_more e f fits x y is (before, g, rest, all, has, shows, split) = (
@@ -259,9 +222,7 @@ module _ (AreAll : FileEntry → List (List ℕ) → Type 0) (decide_all : (e : 
   whole_parts : (r : Reel) (f : FileEntry) (before : List FileEntry) (rest : List ℕ)
       → head_text Second r ++ entries_text Second before ++ entry_text Second f ++ rest
       ≡ head_text Second r ++ (entries_text Second before ++ (entry_text Second f ++ rest))
-  whole_parts r f before rest =
-      append_assoc (head_text Second r ++ entries_text Second before) (entry_text Second f) rest
-      ∙ append_assoc (head_text Second r) (entries_text Second before) (entry_text Second f ++ rest)
+  whole_parts r f before rest = grind (arith, append_assoc)
 
   stands_whole : (r : Reel) (bytes : List ℕ) (e : FileEntry) (x : List ℕ) → bytes ≡ head_text Second r ++ x → StandsIn e x → LiesWhole AreAll r bytes e
   stands_whole r bytes e x is (before, f, rest, all, has, shows, split) =
@@ -273,8 +234,7 @@ module _ (AreAll : FileEntry → List (List ℕ) → Type 0) (decide_all : (e : 
         entries = all;
         entry = subst (HasText Second) same has;
         all = shows.all;
-        split = is ∙ ap (λ z. head_text Second r ++ z) (split ∙ ap (λ (g : FileEntry). entries_text Second before ++ (entry_text Second g ++ rest)) same)
-            ∙ sym (whole_parts r (e.0, f.1) before rest);
+        split = grind (arith, whole_parts);
       }
 
   whole_stands : (r : Reel) (bytes : List ℕ) (e : FileEntry) (x : List ℕ) → bytes ≡ head_text Second r ++ x → LiesWhole AreAll r bytes e → StandsIn e x
@@ -291,8 +251,7 @@ module _ (AreAll : FileEntry → List (List ℕ) → Type 0) (decide_all : (e : 
 
   decide_whole : (r : Reel) (bytes : List ℕ) (e : FileEntry) → LiesWhole AreAll r bytes e ⊎ (¬ LiesWhole AreAll r bytes e)
   decide_whole r bytes e = elim (starts (head_text Second r) bytes) [
-    | inr none ↦ inr (λ w. none (entries_text Second w.before ++ (entry_text Second (e.0, w.digests) ++ w.rest))
-        (w.split ∙ whole_parts r (e.0, w.digests) w.before w.rest))
+    | inr none ↦ grind (arith, whole_parts)
     | inl s ↦ elim (decide_stands e (length s.0) s.0 (omega arith)) [
       | inl t ↦ inl (stands_whole r bytes e s.0 s.1 t)
       | inr none ↦ inr (λ w. none (whole_stands r bytes e s.0 s.1 w))
@@ -333,19 +292,14 @@ one_place v h other bytes m n a b = go split.0 split.1 split.2
     split = after_all (LiesWhole (AreAllDigests h other) h.reel bytes) a.before (a.first ∷ a.after) b.before b.first b.after (sym a.split ∙ b.split) a.whole b.not_whole
 
     go : (middle : List FileEntry) → b.before ≡ a.before ++ middle → a.first ∷ a.after ≡ middle ++ b.first ∷ b.after → m ≡ n
-    go [] same rest =
-        let one = ap (λ xs. get_or xs 0 a.first) rest in
-        let front = same ∙ append-nil a.before in
-        a.is_end ∙ ap (λ (e : FileEntry). length (head_text v h.reel ++ entries_text v (a.before ++ e ∷ []))) one
-        ∙ ap (λ (es : List FileEntry). length (head_text v h.reel ++ entries_text v (es ++ b.first ∷ []))) (sym front) ∙ sym b.is_end
+    go [] same rest = grind (arith, append-nil)
     go (x ∷ middle) same rest =
         let one : a.first ≡ x = ap (λ xs. get_or xs 0 a.first) rest in
         absurd (a.not_whole (subst (LiesWhole (AreAllDigests h other) h.reel bytes) (sym one)
         (all_middle (LiesWhole (AreAllDigests h other) h.reel bytes) a.before x middle (subst (AllByRecursion (LiesWhole (AreAllDigests h other) h.reel bytes)) same b.whole))))
 
 open_not_all : (v : Version) (h : Contents) (other : Option Contents) (bytes : List ℕ) (m : ℕ) → EndsFirstOpen v h other bytes m → AllByRecursion (LiesWhole (AreAllDigests h other) h.reel bytes) (file_entries h) → ⊥
-open_not_all v h other bytes m a all =
-    a.not_whole (all_middle (LiesWhole (AreAllDigests h other) h.reel bytes) a.before a.first a.after (subst (AllByRecursion (LiesWhole (AreAllDigests h other) h.reel bytes)) a.split all))
+open_not_all v h other bytes m a all = grind (arith, all_middle)
 
 same_read_limit : (v : Version) (h : Contents) (other : Option Contents) (bytes : List ℕ) (m n : ℕ) → IsReadLimitOf v h other bytes m → IsReadLimitOf v h other bytes n → m ≡ n
 same_read_limit v h other bytes m n (inl a) (inl b) = one_place v h other bytes m n a b

@@ -1,21 +1,6 @@
 -- How reading the digests after a slice goes on after those that were read.
-use Rattle.std.proofs.Common.{◌≡◌, ℕ, zero, suc, ◌-◌, ◌<◌, ◌≤◌, ◌==◌, IsTrue, rules, slice_get, List, [], ◌∷◌, ◌++◌, length, get_or, Some, refl, sym, ap, ◌∙◌, subst, inr, arith, append_assoc}
-use Rattle.std.specs.Ordering.{ordering_index}
-use Rattle.std.specs.declared.cmp.Ordering.{Ordering}
-use Rattle.std.specs.declared.cmp.Ordering.TheVariants.{Less, Equal, Greater}
-use Rattle.ffv1_holding.specs.SliceOrder.{bytes_cmp, bytes_total}
-use Rattle.ffv1_holding.specs.Rising.{IsRising}
-use Rattle.ffv1_holding.proofs.RisingSets.{rising_rest}
-use Rattle.ffv1_holding.proofs.ItemsRise.{rising-append, rising_one}
-use Rattle.ffv1_hold.specs.declared.file_fault.HoldFileFault.{HoldFileFault}
+use Rattle.ffv1_hold.proofs.Common.{◌≡◌, ℕ, zero, suc, ◌-◌, ◌<◌, ◌≤◌, ◌==◌, IsTrue, rules, slice_get, List, [], ◌∷◌, ◌++◌, length, get_or, Some, refl, sym, ap, ◌∙◌, subst, inr, arith, append_assoc, ordering_index, Ordering, Less, Equal, Greater, bytes_cmp, bytes_total, IsRising, rising_rest, rising-append, rising_one, HoldFileFault, origins_limit, be4, origins_text, last_of, FollowsDigest, IsDigest, AreOrigins, IsPartOfOrigins, OriginsShow, DigestShows, TakesDigest, ReadLog, TakesText, IsShorter, Never, StopsAt}
 use Rattle.ffv1_hold.specs.declared.file_fault.HoldFileFault.TheVariants as faults
-use Rattle.ffv1_hold.specs.HoldingText.{origins_limit, be4, origins_text}
-use Rattle.ffv1_hold.specs.FileEntries.{last_of, FollowsDigest, IsDigest, AreOrigins}
-use Rattle.ffv1_hold.specs.FileFaults.{IsPartOfOrigins, OriginsShow}
-use Rattle.ffv1_hold.specs.Inner.ReadOrigins.{DigestShows, TakesDigest}
-use Rattle.ffv1_devices.specs.Logs.{ReadLog}
-use Rattle.ffv1_hold.specs.Inner.Reading.{TakesText, IsShorter, Never}
-use Rattle.ffv1_hold.specs.Reading.{StopsAt}
 use Rattle.ffv1_hold.proofs.TextReads.{TakesText-trans, StopsAt-after}
 use Rattle.ffv1_hold.proofs.DigestTexts.{whole, whole-push, all_push}
 
@@ -26,8 +11,7 @@ above_digests [] e up follows i d lt = absurd (omega arith)
 above_digests (x ∷ []) e up follows zero d lt = follows
 above_digests (x ∷ []) e up follows (suc i) d lt = absurd (omega arith)
 above_digests (x ∷ y ∷ zs) e up follows zero d lt =
-    bytes_total.trans x y e (up 0 1 d (omega arith) (omega arith))
-    (above_digests (y ∷ zs) e (rising_rest bytes_cmp x (y ∷ zs) up) follows 0 d (omega arith))
+    cc (bytes_total.trans x y e (up 0 1 d (omega arith) (omega arith)) (above_digests (y ∷ zs) e (rising_rest bytes_cmp x (y ∷ zs) up) follows 0 d (omega arith)))
 above_digests (x ∷ y ∷ zs) e up follows (suc i) d lt = above_digests (y ∷ zs) e (rising_rest bytes_cmp x (y ∷ zs) up) follows i d (omega arith)
 
 -- the last digest, as a slice's last item

@@ -1,30 +1,7 @@
 -- The digests that a text gives a slice, by what was read of it: where the next entry follows the slice, the entries that were read give
 -- all of them.
-use Rattle.std.proofs.Common.{◌≡◌, ℕ, suc, ◌<◌, cond, Bool, true, false, ◌||◌, List, [], ◌∷◌, ◌++◌, length, map, get_or, Option, Some, None, IfSome, refl, sym, ap, ◌∙◌, subst, inr, arith, append-nil}
-use mathlib.Core.Bool.{true≢false}
-use Rattle.std.specs.List.{list_any}
-use Rattle.std.specs.Io.KnownBytes.{Consumes}
-use Rattle.std.specs.Ordering.{is_eq, eq_by_cmp}
-use Rattle.std.specs.declared.cmp.Ordering.TheVariants.{Less}
-use Rattle.std.proofs.lemmas.Bool.{false_from_ne_true}
-use Rattle.ffv1_holding.specs.SliceOrder.{Entry, entry_cmp, entries_total, origins_total, origins_antisymmetric}
+use Rattle.ffv1_hold.proofs.Common.{◌≡◌, ℕ, suc, ◌<◌, cond, Bool, true, false, ◌||◌, List, [], ◌∷◌, ◌++◌, length, map, get_or, Option, Some, None, IfSome, refl, sym, ap, ◌∙◌, subst, inr, arith, append-nil, true≢false, list_any, Consumes, is_eq, eq_by_cmp, Less, false_from_ne_true, Entry, entry_cmp, entries_total, origins_total, origins_antisymmetric, IsRising, Reel, digests_in, Contents, IsHolding, digests_of, joined, rising_rest, items-rising, or_cases, Version, Second, FileEntry, entry_text, entries_text, begun_text, file_entries, IsStated, IsFileEntryOf, file_entry_cmp, next_text, IsFileReel, AreAllDigests, IsFileOf, IsFileOfSome, ReadsAll, Facts, part, both, IsReadUpTo, FollowsAll, ReadsToNext}
 use Rattle.ffv1_holding.specs.Sets as set
-use Rattle.ffv1_holding.specs.Rising.{IsRising}
-use Rattle.ffv1_holding.specs.Reels.{Reel}
-use Rattle.ffv1_holding.specs.TileSets.{digests_in}
-use Rattle.ffv1_holding.specs.Contents.{Contents, IsHolding, digests_of, joined}
-use Rattle.ffv1_holding.proofs.RisingSets.{rising_rest}
-use Rattle.ffv1_holding.proofs.ItemsRise.{items-rising}
-use Rattle.ffv1_holding.proofs.EntrySteps.{or_cases}
-use Rattle.ffv1_hold.specs.declared.version.Version.{Version}
-use Rattle.ffv1_hold.specs.declared.version.Version.TheVariants.{Second}
-use Rattle.ffv1_hold.specs.HoldingText.{FileEntry, entry_text, body_text, entries_text, begun_text, file_entries, IsStated}
-use Rattle.ffv1_hold.specs.FileEntries.{IsFileEntryOf, file_entry_cmp}
-use Rattle.ffv1_hold.specs.Inner.FileEntries.{next_text}
-use Rattle.ffv1_hold.specs.FileFaults.{IsFileReel}
-use Rattle.ffv1_hold.specs.ReadLimits.{AreAllDigests}
-use Rattle.ffv1_hold.specs.MergedStreams.{IsFileOf, IsFileOfSome, ReadsAll}
-use Rattle.ffv1_hold.specs.Inner.Merging.{Facts, part, both, IsReadUpTo, FollowsAll, ReadsToNext}
 use Rattle.ffv1_hold.proofs.DigestSets.{has, entry_tie, has-digests_in, digests_rise, same_digests}
 use Rattle.ffv1_hold.proofs.HeldEntries.{above_all, are_entries}
 use Rattle.ffv1_hold.proofs.NumberTexts.{no_tag}
@@ -52,9 +29,7 @@ stated_own h e (x ∷ xs) = elim (eq_by_cmp entry_cmp e x) as (λ b. eq_by_cmp e
 -- a slice that is not held has no digests
 none_stated : (h : Contents) → IsHolding h → (e : Entry) → set.contains h.slices e ≡ false → digests_of h e ≡ []
 none_stated h is e none =
-    same_digests (digests_of h e) [] (digests_rise h.origins e) (λ i j d lt in_range. absurd (omega arith)) (λ d.
-    has-digests_in h.origins e d
-    ∙ false_from_ne_true (set.contains h.origins (e, d)) (λ there. true≢false (sym (is.origins_held (e, d) there) ∙ none)))
+    cc (same_digests (digests_of h e) [] (digests_rise h.origins e) (λ i j d lt in_range. absurd (omega arith)) (λ d. has-digests_in h.origins e d ∙ false_from_ne_true (set.contains h.origins (e, d)) (λ there. true≢false (sym (is.origins_held (e, d) there) ∙ none))))
 
 if_held : (b : Bool) (ds : List (List ℕ)) → (b ≡ false → ds ≡ []) → cond b ds [] ≡ ds
 if_held true ds none = refl
@@ -75,9 +50,7 @@ stated_front (x ∷ xs) rest e none = ap (cond (eq_by_cmp entry_cmp e x.0) x.1) 
 stated_above : (x : FileEntry) (rest : List FileEntry) (e : Entry) → IsRising file_entry_cmp (x ∷ rest) → entry_cmp e x.0 ≡ Less → stated_in (x ∷ rest) e ≡ []
 stated_above x [] e up less = ap (λ o. cond (is_eq o) x.1 []) less
 stated_above x (y ∷ rest) e up less =
-    ap (λ o. cond (is_eq o) x.1 (stated_in (y ∷ rest) e)) less
-    ∙ stated_above y rest e (rising_rest file_entry_cmp x (y ∷ rest) up)
-    (entries_total.trans e x.0 y.0 less (up 0 1 x (omega arith) (omega arith)))
+    cc (stated_above y rest e (rising_rest file_entry_cmp x (y ∷ rest) up) (entries_total.trans e x.0 y.0 less (up 0 1 x (omega arith) (omega arith))))
 
 rising_back : (xs rest : List FileEntry) → IsRising file_entry_cmp (xs ++ rest) → IsRising file_entry_cmp rest
 rising_back [] rest up = up
@@ -104,13 +77,11 @@ rest_states_none : (w : Version) (r : Reel) → IsFileReel r → (e : Entry) (re
     → IfSome next (IsFileEntryOf w r.setup) → IfSome next (λ n. entry_cmp e n.0 ≡ Less) → AreFitting w rest → IsRising file_entry_cmp rest
     → entries_text w rest ++ 0 ∷ [] ≡ next_text w next ++ bytes → stated_in rest e ≡ []
 rest_states_none w r is e [] bytes None entry below fit up same = refl
-rest_states_none w r is e (g ∷ gs) bytes None entry below fit up same =
-    absurd (no_tag (body_text w g ++ (entries_text w gs ++ 0 ∷ [])) bytes 1 0 (sym (entries_after w g gs (0 ∷ [])) ∙ same) (λ e. omega arith))
+rest_states_none w r is e (g ∷ gs) bytes None entry below fit up same = grind (arith, no_tag, entries_after)
 rest_states_none w r is e rest bytes (Some x) entry below fit up same =
     let one = ap (λ t. t ++ bytes) (entries_text-cons w x [] ∙ ap (λ t. entry_text w x ++ t) (entries_text-none w) ∙ append-nil (entry_text w x)) in
     let front = front_entries w rest (x ∷ []) [] bytes fit (fitting_all w r is.reel (x ∷ []) (entry, tt)) (same ∙ sym one) in
-    ap (λ (es : List FileEntry). stated_in es e) front.1
-    ∙ stated_above x front.0 e (subst (IsRising file_entry_cmp) front.1 up) below
+    cc (stated_above x front.0 e (subst (IsRising file_entry_cmp) front.1 up) below)
 
 -- the entries that were read give all digests of a slice before the next one
 digests_read : (v w : Version) (h : Contents) (r : Reel) (is : IsFileReel r) (old new : Option (List ℕ)) (f : Facts) (next : Option FileEntry) → IsFileOf old v h
@@ -139,8 +110,7 @@ pub after_each : (r : Reel) (all : Facts) (next : Option FileEntry) → FollowsA
 unfolding file_entries
 after_each r all None after e held = tt
 after_each r all (Some n) after e held =
-    any_each (λ q. entry_cmp q n.0 ≡ Less) (set.items all.0)
-    (above_all (digests_of (part r all)) (set.items all.0) n.0 (items-rising all.0) after) e (sym (set.contains-items all.0 e) ∙ held)
+    cc (any_each (λ q. entry_cmp q n.0 ≡ Less) (set.items all.0) (above_all (digests_of (part r all)) (set.items all.0) n.0 (items-rising all.0) after) e (sym (set.contains-items all.0 e) ∙ held))
 
 -- the digests of both are those of what was read of both
 pub digests_both : (r : Reel) (f g : Facts) (h k : Contents) (e : Entry) → digests_of h e ≡ digests_of (part r f) e → digests_of k e ≡ digests_of (part r g) e
@@ -179,8 +149,7 @@ module _ (r : Reel) (is : IsFileReel r) (old new beside now : Option (List ℕ))
   are_all u h None file other_file e held = own_digests r f all inside e
   are_all u h (Some k) file other_file e held =
       let there = inside.slices e held in
-      give h k e (digests_read u v h r is old new f next file read e (after_each r all next follows e there))
-      (digests_read other_file.0 w k r is beside now g also other_file.1 other_read e (after_each r all also also_follows e there))
+      cc (give h k e (digests_read u v h r is old new f next file read e (after_each r all next follows e there)) (digests_read other_file.0 w k r is beside now g also other_file.1 other_read e (after_each r all also also_follows e there)))
 
   pub stays_beside : IsHolding (part r all) → IsStated Second (part r all) → (rest : List ℕ) → ReadsToNext v r old new beside (begun_text Second (part r all) ++ rest)
   stays_beside well_formed stated rest = record {

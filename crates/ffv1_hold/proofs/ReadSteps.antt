@@ -1,24 +1,7 @@
 -- How reading the entries of a file goes on after those that were read.
-use Rattle.std.proofs.Common.{◌≡◌, ℕ, ◌≤◌, List, [], ◌++◌, Option, Some, None, IfSome, inl, refl, sym, ap, ◌∙◌, subst, append-nil}
-use mathlib.Core.Bool.{true≢false}
-use Rattle.ffv1_bits.specs.Limits.{file_limit}
-use Rattle.ffv1_range.specs.Setup.{SetupValue}
-use Rattle.ffv1_hold.specs.declared.file_fault.HoldFileFault.{HoldFileFault}
+use Rattle.ffv1_hold.proofs.Common.{◌≡◌, ℕ, ◌≤◌, List, ◌++◌, Option, Some, None, IfSome, refl, sym, ap, ◌∙◌, subst, append-nil, arith, true≢false, file_limit, SetupValue, HoldFileFault, Version, First, Second, Reel, IsReel, entry_cmp, origin_cmp, Contents, IsHolding, no_slices, with_entry, FileEntry, entries_text, file_entries, IsStated, ReadLog, TakesText, StopsAt, last_of, Follows, AreOrigins, AreEntries, AreDigestsIn, IsFileEntryOf, next_text, IsPartOfEntry, EntryShows, IsPartOfEntries, EntriesShow, EndIsWhole, EntriesAreWhole}
 use Rattle.ffv1_hold.specs.declared.file_fault.HoldFileFault.TheVariants as faults
-use Rattle.ffv1_hold.specs.declared.version.Version.{Version}
-use Rattle.ffv1_hold.specs.declared.version.Version.TheVariants.{First, Second}
-use Rattle.ffv1_holding.specs.Reels.{Reel, IsReel}
-use Rattle.ffv1_holding.specs.SliceOrder.{entry_cmp, origin_cmp}
 use Rattle.ffv1_holding.specs.Sets as set
-use Rattle.ffv1_holding.specs.Contents.{Contents, IsHolding, no_slices, with_entry}
-use Rattle.ffv1_hold.specs.HoldingText.{FileEntry, entries_text, file_entries, IsStated}
-use Rattle.ffv1_devices.specs.Logs.{ReadLog}
-use Rattle.ffv1_hold.specs.Inner.Reading.{TakesText}
-use Rattle.ffv1_hold.specs.Reading.{StopsAt}
-use Rattle.ffv1_hold.specs.FileEntries.{last_of, Follows, AreOrigins, AreEntries, AreDigestsIn, IsFileEntryOf}
-use Rattle.ffv1_hold.specs.Inner.FileEntries.{next_text}
-use Rattle.ffv1_hold.specs.FileFaults.{IsPartOfEntry, EntryShows, IsPartOfEntries, EntriesShow}
-use Rattle.ffv1_hold.specs.Inner.FileFaults.{EndIsWhole, EntriesAreWhole}
 use Rattle.ffv1_hold.proofs.TextReads.{TakesText-nil, TakesText-trans, StopsAt-after, memory_stops}
 use Rattle.ffv1_hold.proofs.Slots.{entries_text-none, entries_text-push}
 use Rattle.ffv1_hold.proofs.Entries.{part_of_entries, entries_show}
@@ -78,8 +61,7 @@ module _ (v : Version) (reel : Reel) (a b : ReadLog) (i j : ℕ) (h grown : Cont
   one_more held at added text =
       let entries = ap file_entries added ∙ entries-with_entry h e.0 e.1 follows is digests.rising in
       record {
-        text = subst (TakesText a b i j) (ap (λ (n : Option FileEntry). entries_text v (file_entries h) ++ next_text v n) at
-            ∙ sym (ap (entries_text v) entries ∙ entries_text-push v (file_entries h) e)) text;
+        text = grind (arith, entries_text-push);
         well_formed = subst IsHolding (sym added) (holding-with_entry h e.0 e.1 is own.slice digests.each);
         stated = subst (IsStated v) (sym added) (stated-with_entry h e.0 e.1 follows v is entry.origins stated);
         reel' = ap (λ (x : Contents). x.reel) added ∙ same;
@@ -106,10 +88,7 @@ module _ (v : Version) (reel : Reel) (a b : ReadLog) (i j : ℕ) (h : Contents) 
 
   -- memory for the last of them is refused
   pub memory_refused : StopsAt (IsPartOfEntries v reel.setup) (EntriesAreWhole v reel) (EntriesShow v reel.setup) a b i faults.Memory
-  memory_refused =
-      memory_stops (IsPartOfEntries v reel.setup) (EntriesAreWhole v reel) (EntriesShow v reel.setup) a b i j (entries_text v (file_entries h)) read.text
-      (inl (subst (IsPartOfEntries v reel.setup) (append-nil (entries_text v (file_entries h)))
-      (part_of_entries v reel.setup (file_entries h) entries [] (inl refl))))
+  memory_refused = grind (arith, memory_stops, append-nil, part_of_entries, entries)
 
   -- what was read after them stands after the last one
   pub next_follows : (next : Option FileEntry) → IfSome next (λ e. Follows last e.0) → IfSome next (λ e. Follows (last_of (file_entries h)) e.0)

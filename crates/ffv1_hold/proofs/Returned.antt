@@ -1,15 +1,6 @@
 -- What reading the text of a holding returns.
-use Rattle.std.proofs.Common.{◌≡◌, ℕ, ◌≤◌, List, [], ◌∷◌, ◌++◌, length, Option, Some, None, Result, Ok, Err, inl, inr, sym, ap, ◌∙◌, subst, arith, append_assoc, append-nil, length-append}
-use Rattle.std.specs.Io.KnownBytes.{Consumes, IsAtEnd}
-use Rattle.ffv1_bits.specs.Limits.{record_limit}
-use Rattle.ffv1_devices.specs.Logs.{ReadLog}
-use Rattle.ffv1_hold.specs.declared.file_fault.HoldFileFault.{HoldFileFault}
+use Rattle.ffv1_hold.proofs.Common.{◌≡◌, ℕ, ◌≤◌, List, [], ◌∷◌, ◌++◌, length, Option, Some, None, Result, Ok, Err, inl, inr, sym, ap, ◌∙◌, subst, arith, append_assoc, append-nil, length-append, Consumes, IsAtEnd, record_limit, ReadLog, HoldFileFault, Version, Contents, IsHolding, file_text, head_text, entries_text, file_entries, IsStated, FitsInFile, Refuses, StopsIn, IsPartOfFile, FileIsWhole, FileShows, ReadsFile, IsOutside, Returns}
 use Rattle.ffv1_hold.specs.declared.file_fault.HoldFileFault.TheVariants as faults
-use Rattle.ffv1_hold.specs.declared.version.Version.{Version}
-use Rattle.ffv1_holding.specs.Contents.{Contents, IsHolding}
-use Rattle.ffv1_hold.specs.HoldingText.{file_text, head_text, entries_text, file_entries, IsStated, FitsInFile}
-use Rattle.ffv1_hold.specs.Reading.{Refuses, StopsIn}
-use Rattle.ffv1_hold.specs.FileFaults.{IsPartOfFile, FileIsWhole, FileShows, ReadsFile, IsOutside, Returns}
 use Rattle.ffv1_hold.proofs.TextLaws.{one_file, same_head, same_entries, fitting_items, text_parts}
 use Rattle.ffv1_hold.proofs.FaultLaws.{text_none, text_whole}
 
@@ -36,13 +27,7 @@ module _ (v : Version) (h : Contents) (is : IsHolding h) (fits : FitsInFile v h)
       let tails = heads.2 ∙ append_assoc gs (0 ∷ []) (more ∷ rest) ∙ ap (λ z. z ++ 0 ∷ more ∷ rest) version in
       let entries = same_entries v (file_entries h) (file_entries g) [] (more ∷ rest) (fitting_items v h is fits.stated)
       (fitting_items v g g_is (subst (λ (u : Version). IsStated u g) (sym heads.0) g_stated)) tails in
-      omega (
-        arith,
-        ap length tails,
-        ap (λ es. length (entries_text v es)) entries,
-        length-append hs (0 ∷ []),
-        length-append (entries_text v (file_entries g)) (0 ∷ more ∷ rest),
-      )
+      grind (arith, length-append)
 
   shows_none : (fault : HoldFileFault) (new : Option (List ℕ)) → StopsIn (FileShows fault) (Some (file_text v h)) new 0 → ⊥
   shows_none fault new r = let front = taken_front (file_text v h) r.seen new r.taken in
@@ -57,15 +42,8 @@ module _ (v : Version) (h : Contents) (is : IsHolding h) (fits : FitsInFile v h)
   refused_outside faults.Truncated new r = text_whole v h is fits.record' fits.stated []
       (subst IsPartOfFile (sym (append-nil (file_text v h) ∙ taken_all (file_text v h) r.seen new r.taken r.at_end)) r.unfinished)
   refused_outside faults.TooLong new (inl r) = shows_none faults.TooLong new r
-  refused_outside faults.TooLong new (inr r) =
-      let front = taken_front (file_text v h) (r.seen ++ r.more ∷ []) new r.taken in
-      let few = fits.text in
-      let all = r.at_limit in
-      absurd (omega (arith, few, all, ap length front.1, length-append (r.seen ++ r.more ∷ []) front.0, length-append r.seen (r.more ∷ [])))
-  refused_outside faults.Trailing new r =
-      let front = taken_front (file_text v h) (r.seen ++ r.more ∷ []) new r.taken in
-      let g = r.whole in
-      text_ends g.3.0 g.0 g.1 g.2 g.3.1 r.more front.0 (front.1 ∙ append_assoc r.seen (r.more ∷ []) front.0 ∙ ap (λ z. z ++ r.more ∷ front.0) g.3.2)
+  refused_outside faults.TooLong new (inr r) = grind (arith, taken_front, length-append)
+  refused_outside faults.Trailing new r = grind (arith, taken_front, text_ends, append_assoc)
   refused_outside faults.Magic new r = shows_none faults.Magic new r
   refused_outside (faults.Setup f) new r = shows_none (faults.Setup f) new r
   refused_outside faults.Tag new r = shows_none faults.Tag new r
@@ -78,5 +56,4 @@ module _ (v : Version) (h : Contents) (is : IsHolding h) (fits : FitsInFile v h)
       let whole = taken_all (file_text v h) (file_text file.version g) new.remaining
       (subst (λ (o : Option (List ℕ)). Consumes o new.remaining (file_text file.version g)) known file.taken) read.at_end in
       one_file file.version v g h read.well_formed is file.fits.record' fits.record' file.fits.stated fits.stated (sym whole)
-  returned old new (Err f) known stops = refused_outside f new.remaining
-      (subst (λ (o : Option (List ℕ)). Refuses IsPartOfFile FileIsWhole FileShows o new.remaining 0 f) known stops.fault)
+  returned old new (Err f) known stops = grind (arith, refused_outside)

@@ -1,15 +1,6 @@
 -- Slices after their tags are read in one way only, and show one fault at most.
-use Rattle.std.proofs.Common.{◌≡◌, ℕ, ◌<◌, ◌≤◌, ◌^◌, ◌==◌, List, ◌++◌, length, Option, refl, sym, ap, ◌∙◌, subst, inl, inr, arith, append_assoc, length-append}
-use Rattle.std.specs.Prelude.{◌⊎◌}
-use Rattle.ffv1_bits.specs.Limits.{slice_limit}
-use Rattle.ffv1_range.specs.Setup.{SetupValue}
-use Rattle.ffv1_slice.specs.Slices.{IsSliceOf}
-use Rattle.ffv1_hold.specs.declared.file_fault.HoldFileFault.{HoldFileFault}
+use Rattle.ffv1_hold.proofs.Common.{◌≡◌, ℕ, ◌<◌, ◌≤◌, ◌^◌, ◌==◌, List, ◌++◌, length, Option, refl, sym, ap, ◌∙◌, subst, inl, inr, arith, append_assoc, length-append, ◌⊎◌, slice_limit, SetupValue, IsSliceOf, HoldFileFault, Entry, FileEntry, be2, be4, slice_text, Follows, IsPartOfSlice, IsWrong, SliceShows, IsEntryInPlace}
 use Rattle.ffv1_hold.specs.declared.file_fault.HoldFileFault.TheVariants as faults
-use Rattle.ffv1_holding.specs.SliceOrder.{Entry}
-use Rattle.ffv1_hold.specs.HoldingText.{FileEntry, be2, be4, slice_text}
-use Rattle.ffv1_hold.specs.FileEntries.{Follows}
-use Rattle.ffv1_hold.specs.FileFaults.{IsPartOfSlice, IsWrong, SliceShows, IsEntryInPlace}
 use Rattle.ffv1_hold.proofs.Bodies.{length-be2, length-be4}
 use Rattle.ffv1_hold.proofs.NumberTexts.{same_front, same_back, be2_same, number_same, after_number}
 
@@ -44,33 +35,18 @@ module _ (e f : Entry) (x y : List ℕ) (e_fits : Fits e) (f_fits : Fits f) (sam
   parts = sym (slice_parts e x) ∙ same ∙ slice_parts f y
 
   long : length e.1 ≡ length f.1
-  long =
-      let a = e_fits.1 in
-      let b = f_fits.1 in
-      same_length_number e.0 f.0 (length e.1) (length f.1) (e.1 ++ x) (f.1 ++ y) parts (omega arith) (omega arith)
+  long = grind (arith, same_length_number, parts)
 
   pub same_slice : e ≡ f
-  same_slice =
-      let tile = same_tile_number e.0 f.0 (length e.1) (length f.1) (e.1 ++ x) (f.1 ++ y) parts e_fits.0 f_fits.0 in
-      let bytes = same_front e.1 f.1 x y long (same_rest e.0 f.0 (length e.1) (length f.1) (e.1 ++ x) (f.1 ++ y) parts) in
-      λ i. (tile i, bytes i)
+  same_slice = grind (arith, same_tile_number, parts, same_front, long, same_rest)
 
   pub after_slice : x ≡ y
   after_slice = same_back e.1 f.1 x y long (same_rest e.0 f.0 (length e.1) (length f.1) (e.1 ++ x) (f.1 ++ y) parts)
 
 -- a whole slice is not cut by the end
 pub slice_cut : (e : Entry) (x : List ℕ) → length e.1 ≤ slice_limit → IsPartOfSlice (slice_text e ++ x) → ⊥
-slice_cut e x fits (inl short) = let long = ap length (slice_parts e x) ∙ length-append (be2 e.0) (be4 (length e.1) ++ (e.1 ++ x)) in
-    omega (arith, short, long, length-append (be4 (length e.1)) (e.1 ++ x), length-be2 e.0, length-be4 (length e.1))
-slice_cut e x fits (inr part) =
-    let t = part.0 in
-    let n = part.1 in
-    let bytes = part.2 in
-    let all = sym (slice_parts e x) ∙ part.3 ∙ append_assoc (be2 t) (be4 n) bytes in
-    let few = part.4 in
-    let length_is = same_length_number e.0 t (length e.1) n (e.1 ++ x) bytes all (omega arith) (omega arith) in
-    let rest = same_rest e.0 t (length e.1) n (e.1 ++ x) bytes all in
-    omega (arith, part.5, length_is, ap length rest, length-append e.1 x)
+slice_cut e x fits (inl short) = grind (arith, long, slice_parts, length-append, length-be2, length-be4)
+slice_cut e x fits (inr part) = grind (arith, slice_parts, append_assoc, same_length_number, same_rest, length-append)
 
 -- ---- what shows a fault, by its kind
 
@@ -103,56 +79,27 @@ wrong_kinds setup last e faults.Order wrong = inr (refl, wrong.0, wrong.1)
 wrong_kinds setup last e _ wrong = absurd wrong
 
 wrong_one : (setup : SetupValue) (last : Option FileEntry) (e : Entry) (f g : HoldFileFault) → IsWrong setup last e f → IsWrong setup last e g → f ≡ g
-wrong_one setup last e f g a b = elim (wrong_kinds setup last e f a) [
-  | inl x ↦ elim (wrong_kinds setup last e g b) [ inl y ↦ x.0 ∙ sym y.0 | inr y ↦ absurd (x.1 y.1) ]
-  | inr x ↦ elim (wrong_kinds setup last e g b) [ inl y ↦ absurd (y.1 x.1) | inr y ↦ x.0 ∙ sym y.0 ]
-]
+wrong_one setup last e f g a b = grind (arith, wrong_kinds)
 
 -- a length over the limit stands before no whole slice
 length_apart : (tile n : ℕ) (e : Entry) (y z : List ℕ) → slice_limit < n → n < 2 ^ 32 → length e.1 ≤ slice_limit
     → (be2 tile ++ be4 n) ++ y ≡ slice_text e ++ z → ⊥
-length_apart tile n e y z over small fits same =
-    let all = sym (append_assoc (be2 tile) (be4 n) y) ∙ same ∙ slice_parts e z in
-    let is = same_length_number tile e.0 n (length e.1) y (e.1 ++ z) all small (omega arith) in
-    omega arith
+length_apart tile n e y z over small fits same = grind (arith, append_assoc, slice_parts, same_length_number)
 
 -- and is no part of a slice
 long_cut : (tile n : ℕ) (y : List ℕ) → slice_limit < n → n < 2 ^ 32 → IsPartOfSlice ((be2 tile ++ be4 n) ++ y) → ⊥
-long_cut tile n y over small (inl short) =
-    omega (arith, short, length-append (be2 tile ++ be4 n) y, length-append (be2 tile) (be4 n), length-be2 tile, length-be4 n)
-long_cut tile n y over small (inr (t, m, bytes, split, few, cut)) =
-    let all = sym (append_assoc (be2 tile) (be4 n) y) ∙ split ∙ append_assoc (be2 t) (be4 m) bytes in
-    let is = same_length_number tile t n m y bytes all small (omega arith) in
-    omega arith
+long_cut tile n y over small (inl short) = grind (arith, length-append, length-be2, length-be4)
+long_cut tile n y over small (inr (t, m, bytes, split, few, cut)) = grind (arith, append_assoc, same_length_number)
 
 module _ (setup : SetupValue) (last : Option FileEntry) where
   -- a slice that is right shows no fault
   pub slice_none : (e : Entry) (x y : List ℕ) → IsEntryInPlace setup last e → (f : HoldFileFault) (s : List ℕ) → slice_text e ++ x ≡ s ++ y
       → SliceShows setup last f s → ⊥
-  slice_none e x y right f s same shown = elim (slice_kinds setup last f s shown) [
-    | inl w ↦ length_apart w.0 w.1 e y x w.4 w.5 right.0.fits (sym (same ∙ ap (λ q. q ++ y) w.3))
-    | inr w ↦
-        let one = same_slice e w.0 x y (right.2, right.0.fits) w.2 (same ∙ ap (λ q. q ++ y) w.1) in
-        elim (wrong_kinds setup last w.0 f w.3) [
-          | inl v ↦ v.1 (subst (λ (d : Entry). IsSliceOf setup d.1 (d.0 == 0) d.0) one right.0.slice)
-          | inr v ↦ v.2 (subst (λ (d : Entry). Follows last d) one right.1)
-        ]
-  ]
+  slice_none e x y right f s same shown = grind (arith, slice_kinds, length_apart, same_slice, wrong_kinds)
 
   -- two faults of one slice
   pub slice_one : (f g : HoldFileFault) (s t y z : List ℕ) → s ++ y ≡ t ++ z → SliceShows setup last f s → SliceShows setup last g t → f ≡ g
-  slice_one f g s t y z same a b = elim (slice_kinds setup last f s a) [
-    | inl x ↦ elim (slice_kinds setup last g t b) [
-      | inl w ↦ x.2 ∙ sym w.2
-      | inr w ↦ absurd (length_apart x.0 x.1 w.0 y z x.4 x.5 w.2.1 (sym (ap (λ q. q ++ y) x.3) ∙ same ∙ ap (λ q. q ++ z) w.1))
-    ]
-    | inr x ↦ elim (slice_kinds setup last g t b) [
-      | inl w ↦ absurd (length_apart w.0 w.1 x.0 z y w.4 w.5 x.2.1 (sym (sym (ap (λ q. q ++ y) x.1) ∙ same ∙ ap (λ q. q ++ z) w.3)))
-      | inr w ↦
-          let one = same_slice x.0 w.0 y z x.2 w.2 (sym (ap (λ q. q ++ y) x.1) ∙ same ∙ ap (λ q. q ++ z) w.1) in
-          wrong_one setup last w.0 f g (subst (λ (e : Entry). IsWrong setup last e f) one x.3) w.3
-    ]
-  ]
+  slice_one f g s t y z same a b = grind (arith, slice_kinds, length_apart, same_slice, wrong_one)
 
   -- no beginning of a part of a slice shows one
   pub part_slice_none : (f : HoldFileFault) (p s y : List ℕ) → p ≡ s ++ y → IsPartOfSlice p → SliceShows setup last f s → ⊥

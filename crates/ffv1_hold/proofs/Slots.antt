@@ -1,15 +1,5 @@
 -- The entry at a place, and the text up to it and from it on.
-use Rattle.std.proofs.Common.{◌≡◌, ℕ, suc, ◌+◌, ◌*◌, ◌<◌, List, [], ◌∷◌, ◌++◌, length, get_or, take, drop, refl, sym, ap, ◌∙◌, arith, add-one, append-nil, take-append-drop, length-append}
-use Rattle.std.proofs.lemmas.List.Concat.{flat_map-append}
-use Rattle.std.proofs.Math.Seq.{drop-cons}
-use Rattle.std.proofs.lemmas.List.{take_more}
-use Rattle.std.specs.List.{AllByRecursion}
-use Rattle.ffv1_holding.specs.SliceOrder.{Entry}
-use Rattle.ffv1_holding.specs.Reels.{Reel}
-use Rattle.ffv1_hold.specs.declared.version.Version.{Version}
-use Rattle.ffv1_hold.specs.declared.version.Version.TheVariants.{Second}
-use Rattle.ffv1_hold.specs.HoldingText.{FileEntry, be2, be4, magic, slice_text, origins_text, body_text, entry_text, entries_text, sized_record, head_text}
-use Rattle.ffv1_hold.specs.FileEntries.{IsDigest}
+use Rattle.ffv1_hold.proofs.Common.{◌≡◌, ℕ, suc, ◌+◌, ◌*◌, ◌<◌, List, [], ◌∷◌, ◌++◌, length, get_or, take, drop, refl, sym, ap, ◌∙◌, arith, add-one, append-nil, take-append-drop, length-append, flat_map-append, drop-cons, take_more, AllByRecursion, Entry, Reel, Version, Second, FileEntry, be4, slice_text, origins_text, body_text, entry_text, entries_text, sized_record, head_text, IsDigest}
 use Rattle.ffv1_hold.proofs.Bodies.{length-be2, length-be4}
 use Rattle.ffv1_hold.proofs.DigestTexts.{whole, length-whole}
 
@@ -44,14 +34,7 @@ module _ (v : Version) where
 
 pub length-slice_text : (e : Entry) → length (slice_text e) ≡ 6 + length e.1
 unfolding slice_text
-length-slice_text e = omega (
-  arith,
-  length-append (be2 e.0 ++ be4 (length e.1)) e.1,
-  length-append (be2 e.0) (be4 (length e.1)),
-  length-be2 e.0,
-  length-be4
-      (length e.1),
-)
+length-slice_text e = grind (arith, length-append, length-be2, length-be4)
 
 pub length-origins_text : (ds : List (List ℕ)) → AllByRecursion IsDigest ds → length (origins_text ds) ≡ 4 + 32 * length ds
 unfolding origins_text
@@ -64,25 +47,11 @@ length-entry_text e all = omega (arith, length-append (slice_text e.0) (origins_
 
 pub length-sized_record : (config : List ℕ) (w h : ℕ) → length (sized_record config w h) ≡ 12 + length config
 unfolding sized_record
-length-sized_record config w h = omega (
-  arith,
-  length-append (be4 w ++ be4 h ++ be4 (length config)) config,
-  length-append (be4 w ++ be4 h)
-      (be4 (length config)),
-  length-append (be4 w) (be4 h),
-  length-be4 w,
-  length-be4 h,
-  length-be4 (length config),
-)
+length-sized_record config w h = grind (arith, length-append, length-be4)
 
 pub length-head_text : (v : Version) (r : Reel) → length (head_text v r) ≡ 20 + length r.config
 unfolding head_text
-length-head_text v r = omega (
-  arith,
-  length-append (magic v) (sized_record r.config r.setup.width r.setup.height),
-  length-sized_record r.config r.setup.width
-      r.setup.height,
-)
+length-head_text v r = grind (arith, length-append, length-sized_record)
 
 -- the length of a text: its head, its entries and the end tag
 pub length-text : (v : Version) (r : Reel) (es : List ℕ) → length (head_text v r ++ es ++ 0 ∷ []) ≡ 21 + length r.config + length es

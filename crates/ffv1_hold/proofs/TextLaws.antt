@@ -1,17 +1,5 @@
 -- Texts of holdings are read in one way only.
-use Rattle.std.proofs.Common.{◌≡◌, ℕ, ◌<◌, ◌≤◌, ◌^◌, ◌==◌, List, [], ◌∷◌, ◌++◌, length, get_or, refl, sym, ap, ◌∙◌, subst, arith, append_assoc}
-use Rattle.std.specs.List.{AllByRecursion}
-use Rattle.ffv1_bits.specs.Limits.{record_limit}
-use Rattle.ffv1_range.proofs.SetupFacts.{setup_small, setup_tiles}
-use Rattle.ffv1_slice.proofs.SliceFacts.{slice_in_grid}
-use Rattle.ffv1_holding.specs.Reels.{Reel, IsReel}
-use Rattle.ffv1_holding.specs.Contents.{Contents, IsHolding}
-use Rattle.ffv1_hold.specs.declared.version.Version.{Version}
-use Rattle.ffv1_hold.specs.declared.version.Version.TheVariants.{First, Second}
-use Rattle.ffv1_hold.specs.HoldingText.{FileEntry, be4, magic, version_number, sized_record, head_text, body_text, entry_text, entries_text, file_entries, file_text, IsStated, IsTextOf}
-use Rattle.ffv1_hold.specs.FileEntries.{HasText, IsFileEntryOf}
-use Rattle.ffv1_hold.specs.FileFaults.{IsFileReel}
-use Rattle.ffv1_holding.proofs.Reels.{same_reel}
+use Rattle.ffv1_hold.proofs.Common.{◌≡◌, ℕ, ◌<◌, ◌≤◌, ◌^◌, ◌==◌, List, [], ◌∷◌, ◌++◌, length, get_or, refl, sym, ap, ◌∙◌, subst, arith, append_assoc, AllByRecursion, record_limit, setup_small, setup_tiles, slice_in_grid, Reel, IsReel, Contents, IsHolding, Version, First, Second, FileEntry, be4, magic, version_number, sized_record, head_text, body_text, entry_text, entries_text, file_entries, file_text, IsStated, IsTextOf, HasText, IsFileEntryOf, IsFileReel, same_reel}
 use Rattle.ffv1_hold.proofs.NumberTexts.{same_front, same_back, no_tag, rest_same, number_same, after_number}
 use Rattle.ffv1_hold.proofs.DigestTexts.{has_text_after}
 use Rattle.ffv1_hold.proofs.BodyTexts.{same_body}
@@ -36,10 +24,8 @@ module _ (v : Version) where
   pub same_entries : (es fs : List FileEntry) (x y : List ℕ) → AreFitting v es → AreFitting v fs
       → entries_text v es ++ 0 ∷ x ≡ entries_text v fs ++ 0 ∷ y → es ≡ fs
   same_entries [] [] x y es_fit fs_fit e = refl
-  same_entries [] (f ∷ fs) x y es_fit fs_fit e = absurd (no_tag x (body_text v f ++ (entries_text v fs ++ 0 ∷ y)) 0 1 (sym (none_after (0 ∷ x)) ∙ e
-      ∙ entries_after f fs (0 ∷ y)) (λ same. omega arith))
-  same_entries (g ∷ es) [] x y es_fit fs_fit e = absurd (no_tag (body_text v g ++ (entries_text v es ++ 0 ∷ x)) y 1 0 (sym (entries_after g es (0 ∷ x)) ∙ e
-      ∙ none_after (0 ∷ y)) (λ same. omega arith))
+  same_entries [] (f ∷ fs) x y es_fit fs_fit e = grind (arith, no_tag, none_after, entries_after)
+  same_entries (g ∷ es) [] x y es_fit fs_fit e = grind (arith, no_tag, entries_after, none_after)
   same_entries (g ∷ es) (f ∷ fs) x y es_fit fs_fit e =
       let bodies = rest_same (body_text v g ++ (entries_text v es ++ 0 ∷ x)) (body_text v f ++ (entries_text v fs ++ 0 ∷ y)) 1 1
       (sym (entries_after g es (0 ∷ x)) ∙ e ∙ entries_after f fs (0 ∷ y)) in
@@ -66,26 +52,13 @@ module _ (v : Version) where
 
 pub sized_parts : (config : List ℕ) (w h : ℕ) (x : List ℕ) → sized_record config w h ++ x ≡ be4 w ++ (be4 h ++ (be4 (length config) ++ (config ++ x)))
 unfolding sized_record
-sized_parts config w h x =
-    append_assoc ((be4 w ++ be4 h) ++ be4 (length config)) config x ∙ append_assoc (be4 w ++ be4 h) (be4 (length config)) (config ++ x)
-    ∙ append_assoc (be4 w) (be4 h) (be4 (length config) ++ (config ++ x))
+sized_parts config w h x = grind (arith, append_assoc)
 
 -- two sizes and records that begin the same bytes are the same
 pub same_sized : (c d : List ℕ) (w h v k : ℕ) (x y : List ℕ) → length c ≤ record_limit → length d ≤ record_limit → w < 2 ^ 32 → h < 2 ^ 32 → v < 2 ^ 32
     → k < 2 ^ 32
     → sized_record c w h ++ x ≡ sized_record d v k ++ y → record { width : w ≡ v; height : h ≡ k; config : c ≡ d; rest : x ≡ y }
-same_sized c d w h v k x y c_fits d_fits w_fits h_fits v_fits k_fits e =
-    let all = sym (sized_parts c w h x) ∙ e ∙ sized_parts d v k y in
-    let one = after_number w v _ _ all in
-    let two = after_number h k _ _ one in
-    let long = number_same (length c) (length d) _ _ two (omega arith) (omega arith) in
-    let three = after_number (length c) (length d) _ _ two in
-    record {
-      width = number_same w v _ _ all w_fits v_fits;
-      height = number_same h k _ _ one h_fits k_fits;
-      config = same_front c d x y long three;
-      rest = same_back c d x y long three;
-    }
+same_sized c d w h v k x y c_fits d_fits w_fits h_fits v_fits k_fits e = grind (arith, sized_parts, after_number, number_same, same_front, same_back)
 
 pub head_parts : (v : Version) (r : Reel) (x : List ℕ) → head_text v r ++ x ≡ magic v ++ (sized_record r.config r.setup.width r.setup.height ++ x)
 unfolding head_text
@@ -107,14 +80,7 @@ after_magic v w x y e = same_back (magic v) (magic w) x y refl e
 -- two heads that begin the same bytes are the same
 pub same_head : (v w : Version) (r s : Reel) (x y : List ℕ) → IsFileReel r → IsFileReel s → head_text v r ++ x ≡ head_text w s ++ y
     → (v ≡ w) × (r ≡ s) × (x ≡ y)
-same_head v w r s x y r_is s_is e =
-    let r_small = setup_small r.config r.setup.width r.setup.height r.setup r_is.reel in
-    let s_small = setup_small s.config s.setup.width s.setup.height s.setup s_is.reel in
-    let parts = sym (head_parts v r x) ∙ e ∙ head_parts w s y in
-    let sized = after_magic v w _ _ parts in
-    let same = same_sized r.config s.config r.setup.width r.setup.height s.setup.width s.setup.height x y r_is.fits s_is.fits r_small.0 r_small.1 s_small.0
-    s_small.1 sized in
-    (same_version v w _ _ parts, same_reel r s r_is.reel s_is.reel same.config same.width same.height, same.rest)
+same_head v w r s x y r_is s_is e = grind (arith, setup_small, head_parts, after_magic, same_sized, same_version, same_reel)
 
 -- ---- whole texts
 
@@ -129,8 +95,7 @@ one_file v w g h g_is h_is g_fits h_fits g_stated h_stated e =
     (sym (text_parts v g) ∙ e ∙ text_parts w h) in
     let stated = subst (λ (u : Version). IsStated u h) (sym heads.0) h_stated in
     let tail = heads.2 ∙ ap (λ (u : Version). entries_text u (file_entries h) ++ 0 ∷ []) (sym heads.0) in
-    same_contents g h g_is h_is heads.1
-    (same_entries v (file_entries g) (file_entries h) [] [] (fitting_items v g g_is g_stated) (fitting_items v h h_is stated) tail)
+    cc (same_contents g h g_is h_is heads.1 (same_entries v (file_entries g) (file_entries h) [] [] (fitting_items v g g_is g_stated) (fitting_items v h h_is stated) tail))
 
 pub one_text : (g h : Contents) (text : List ℕ) → IsHolding g → IsHolding h → length g.reel.config ≤ record_limit → length h.reel.config ≤ record_limit
     → IsTextOf text g → IsTextOf text h → g ≡ h

@@ -1,7 +1,5 @@
 -- The text of the entries of two slices of tile 0 (samples 1 and 0 of a tile of one sample), in both versions, and of a digest.
-use Rattle.std.proofs.Common.{◌≡◌, ℕ, List, [], ◌∷◌, ◌++◌, refl}
-use Rattle.ffv1_hold.specs.declared.version.Version.TheVariants.{First, Second}
-use Rattle.ffv1_hold.specs.HoldingText.{FileEntry, magic, be2, be4, slice_text, origins_text, body_text, entries_text}
+use Rattle.ffv1_hold.proofs.Common.{◌≡◌, ℕ, List, [], ◌∷◌, ◌++◌, refl, First, Second, FileEntry, magic, be2, be4, slice_text, origins_text, body_text, entries_text}
 
 abbrev zero_sample : List ℕ
 zero_sample = 253 ∷ 246 ∷ 128 ∷ 0 ∷ 0 ∷ 3 ∷ 0 ∷ 28 ∷ 62 ∷ 160 ∷ 155 ∷ []

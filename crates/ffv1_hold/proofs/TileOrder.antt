@@ -1,24 +1,6 @@
 -- The entries of all tiles, tile by tile, are the items of the set in their order.
-use Rattle.std.proofs.Common.{◌≡◌, ℕ, zero, suc, ◌+◌, ◌-◌, ◌<◌, nat_lt, Bool, true, false, ◌||◌, ◌&&◌, List, ◌++◌, length, get_or, refl, sym, ap, ◌∙◌, subst, inl, inr, arith, length-append}
-use mathlib.Core.Bool.{or-false}
-use Rattle.std.specs.List.{list_any}
-use Rattle.std.specs.Ordering.{nat_cmp, ordering_then, eq_by_cmp}
-use Rattle.std.specs.Cmp.{tied_itself, nat_cmp_total, nat_cmp_is}
-use Rattle.std.specs.declared.cmp.Ordering.TheVariants.{Less}
-use Rattle.std.proofs.lemmas.Bool.{cases_lt, cases_order, lt-ltb, le-ltb}
-use Rattle.std.proofs.lemmas.List.{get_or-map, length-map}
-use Rattle.std.proofs.lemmas.List.Folds.{list_any-append}
-use Rattle.std.proofs.Math.ListN.{get_or-append}
-use Rattle.std.proofs.Math.Seq.{get_or-append_right}
+use Rattle.ffv1_hold.proofs.Common.{◌≡◌, ℕ, zero, suc, ◌+◌, ◌-◌, ◌<◌, nat_lt, Bool, true, false, ◌||◌, ◌&&◌, List, ◌++◌, length, get_or, refl, sym, ap, ◌∙◌, subst, inl, inr, arith, length-append, or-false, list_any, nat_cmp, ordering_then, eq_by_cmp, nat_cmp_is, Less, cases_lt, cases_order, lt-ltb, le-ltb, get_or-map, length-map, list_any-append, get_or-append, get_or-append_right, Entry, bytes_cmp, entry_cmp, entries_total, entries_antisymmetric, IsRising, tile_slices, tile_entries, entries_below, items-from_list, items-rising, rising-append, any-same, any-other, contains-tile_slices, flat_map-range_more}
 use Rattle.ffv1_holding.specs.Sets as set
-use Rattle.ffv1_holding.specs.SliceOrder.{Entry, bytes_cmp, entry_cmp, entries_total, entries_antisymmetric}
-use Rattle.ffv1_holding.specs.Rising.{IsRising}
-use Rattle.ffv1_holding.specs.TileSets.{tile_slices}
-use Rattle.ffv1_holding.specs.Inner.TileSets.{tile_entries, entries_below}
-use Rattle.ffv1_holding.proofs.RisingSets.{items-from_list}
-use Rattle.ffv1_holding.proofs.ItemsRise.{items-rising, rising-append}
-use Rattle.ffv1_holding.proofs.Tiles.{any-same, any-other, contains-tile_slices}
-use Rattle.ffv1_holding.proofs.Lists.{flat_map-range_more}
 
 -- one tile more
 entries_below-more : (slices : set.SetOf entry_cmp) (t : ℕ) → entries_below slices (t + 1) ≡ entries_below slices t ++ tile_entries slices t
@@ -45,12 +27,7 @@ module _ (slices : set.SetOf entry_cmp) where
       ]
 
   tile_rises : (n : ℕ) → IsRising entry_cmp (tile_entries slices n)
-  tile_rises n i j d lt in_range =
-      let bs = set.items (tile_slices slices n) in
-      let long = length-map bs (λ b. let e : Entry = (n, b) in e) in
-      rw (entry_at n i d (omega arith), entry_at n j d (omega arith))
-      (ap (λ o. ordering_then o (bytes_cmp (get_or bs i d.1) (get_or bs j d.1))) (tied_itself nat_cmp_total n)
-      ∙ items-rising (tile_slices slices n) i j d.1 lt (omega arith))
+  tile_rises n i j d lt in_range = grind (arith, length-map, entry_at, items-rising)
 
   all_rise : (n : ℕ) → IsRising entry_cmp (entries_below slices n)
   all_rise zero = λ i j d lt in_range. absurd (omega arith)

@@ -1,25 +1,8 @@
 -- The entries of one tile, and of the tiles below a number, with their digests, and their text.
-use Rattle.std.proofs.Common.{◌≡◌, ℕ, true, zero, suc, ◌+◌, ◌-◌, ◌*◌, ◌<◌, ◌≤◌, List, [], ◌∷◌, ◌++◌, length, map, take, drop, get_or, refl, sym, ap, ◌∙◌, arith, append_assoc, append-nil, length-append, take-append-drop}
-use mathlib.Core.Bool.{true≢false}
-use Rattle.std.specs.List.{list_any}
-use Rattle.std.specs.Ordering.{eq_by_cmp}
-use Rattle.ffv1_bits.specs.Limits.{record_limit, file_limit}
-use Rattle.ffv1_holding.proofs.EntrySteps.{or_cases}
-use Rattle.std.proofs.lemmas.List.{get_or_default, get_or-map, length-map, map-append, take_more}
+use Rattle.ffv1_hold.proofs.Common.{◌≡◌, ℕ, true, zero, suc, ◌+◌, ◌-◌, ◌*◌, ◌<◌, ◌≤◌, List, [], ◌∷◌, ◌++◌, length, map, take, drop, get_or, refl, sym, ap, ◌∙◌, arith, append_assoc, append-nil, length-append, take-append-drop, true≢false, list_any, eq_by_cmp, record_limit, file_limit, or_cases, get_or_default, get_or-map, length-map, map-append, take_more, Entry, entry_cmp, bytes_total, tile_slices, Contents, IsHolding, AreDigests, digests_of, Second, FileEntry, slice_text, origins_text, entry_text, head_text, entries_text, begun_text, file_entries, holding_text, IsStated, FitsInFile, digests_union, tile_file_entries, file_entries_below, entries_length, size-items, contains_item, contains-tile_slices, flat_map-range_more}
 use Rattle.ffv1_holding.specs.Sets as set
-use Rattle.ffv1_holding.specs.SliceOrder.{Entry, entry_cmp, bytes_total}
-use Rattle.ffv1_holding.specs.TileSets.{tile_slices}
-use Rattle.ffv1_holding.specs.Inner.TileSets.{tile_entries, entries_below}
-use Rattle.ffv1_holding.specs.Contents.{Contents, IsHolding, AreDigests, digests_of}
-use Rattle.ffv1_hold.specs.declared.version.Version.TheVariants.{Second}
-use Rattle.ffv1_hold.specs.HoldingText.{FileEntry, slice_text, origins_text, entry_text, head_text, entries_text, begun_text, file_entries, holding_text, IsStated, FitsInFile}
-use Rattle.ffv1_hold.specs.Inner.Merging.{digests_union}
-use Rattle.ffv1_hold.specs.Inner.Saving.{tile_file_entries, file_entries_below, entries_length}
-use Rattle.ffv1_holding.proofs.RisingSets.{size-items, contains_item}
-use Rattle.ffv1_holding.proofs.Tiles.{contains-tile_slices}
 use Rattle.ffv1_hold.proofs.DigestUnions.{union-alone}
 use Rattle.ffv1_hold.proofs.Entries.{entry_text-of}
-use Rattle.ffv1_holding.proofs.Lists.{flat_map-range_more}
 use Rattle.ffv1_hold.proofs.HeldEntries.{stated, origins-digests_of}
 use Rattle.ffv1_hold.proofs.Slots.{entries_text-split, entries_text-cons, entries_text-none, length-entry_text}
 use Rattle.ffv1_hold.proofs.DigestSets.{entry_tie}
@@ -40,8 +23,7 @@ module _ (h : Contents) where
 
   -- one tile more
   pub file_entries_below-more : (t : ℕ) → file_entries_below h (t + 1) ≡ file_entries_below h t ++ tile_file_entries h t
-  file_entries_below-more t =
-      ap (map own) (flat_map-range_more (tile_entries h.slices) t) ∙ map-append own (entries_below h.slices t) (tile_entries h.slices t)
+  file_entries_below-more t = grind (arith, flat_map-range_more, map-append)
 
   pub text_below-more : (t : ℕ) → entries_text Second (file_entries_below h (t + 1)) ≡ entries_text Second (file_entries_below h t) ++
       entries_text Second (tile_file_entries h t)
@@ -79,10 +61,7 @@ module _ (h : Contents) where
 
 -- as many entries as slices
 pub tile_count : (h : Contents) (tile : ℕ) → length (tile_file_entries h tile) ≡ set.size (tile_slices h.slices tile)
-tile_count h tile =
-    let bs = set.items (tile_slices h.slices tile) in
-    length-map (map (λ c. let x : Entry = (tile, c) in x) bs) (own h) ∙ length-map bs (λ c. let x : Entry = (tile, c) in x)
-    ∙ sym (size-items (tile_slices h.slices tile))
+tile_count h tile = grind (arith, length-map, size-items)
 
 -- a tile's slice at a place is held
 pub held_there : (h : Contents) (tile i : ℕ) (b : List ℕ) → i < length (set.items (tile_slices h.slices tile))
@@ -142,8 +121,4 @@ stated_begun h is fits q there =
     omega (arith, within, fits, length-append (head_text Second h.reel) (entries_text Second (map (own h) items)), length-entries_text h is items)
 
 pub fits_within : (h : Contents) → IsHolding h → (length h.reel.config ≤ record_limit) × (length (holding_text h) ≤ file_limit) → FitsInFile Second h
-fits_within h is fits = record {
-  stated = stated_begun h is (omega (arith, fits.1, length-append (begun_text Second h) (0 ∷ [])));
-  record' = fits.0;
-  text = fits.1;
-}
+fits_within h is fits = grind (arith, stated, stated_begun, length-append)

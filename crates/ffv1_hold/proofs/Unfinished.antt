@@ -1,14 +1,5 @@
 -- No beginning of an unfinished file shows a fault.
-use Rattle.std.proofs.Common.{◌≡◌, ℕ, ◌<◌, ◌^◌, List, [], ◌∷◌, ◌++◌, length, take, drop, Option, Some, None, refl, sym, ap, ◌∙◌, subst, inl, inr, arith, append_assoc, append-nil, length-append, take-append-drop}
-use Rattle.ffv1_bits.specs.Limits.{record_limit}
-use Rattle.ffv1_range.specs.Setup.{SetupValue}
-use Rattle.ffv1_hold.specs.declared.file_fault.HoldFileFault.{HoldFileFault}
-use Rattle.ffv1_hold.specs.declared.version.Version.{Version}
-use Rattle.ffv1_hold.specs.declared.version.Version.TheVariants.{Second}
-use Rattle.ffv1_holding.specs.Reels.{Reel}
-use Rattle.ffv1_hold.specs.HoldingText.{FileEntry, be4, magic, sized_record, head_text, body_text, entries_text}
-use Rattle.ffv1_hold.specs.FileEntries.{last_of, AreEntries}
-use Rattle.ffv1_hold.specs.FileFaults.{IsPartOfEntry, EntryShows, IsPartOfReel, ReelShows, IsPartOfFile, FileShows}
+use Rattle.ffv1_hold.proofs.Common.{◌≡◌, ℕ, ◌<◌, ◌^◌, List, [], ◌∷◌, ◌++◌, length, take, drop, Option, Some, None, refl, sym, ap, ◌∙◌, subst, inl, inr, arith, append_assoc, append-nil, length-append, take-append-drop, record_limit, SetupValue, HoldFileFault, Version, Second, Reel, FileEntry, be4, magic, head_text, body_text, entries_text, last_of, AreEntries, IsPartOfEntry, EntryShows, IsPartOfReel, ReelShows, IsPartOfFile, FileShows}
 use Rattle.ffv1_hold.proofs.Bodies.{length-be4}
 use Rattle.ffv1_hold.proofs.NumberTexts.{rest_same, number_same, after_number}
 use Rattle.ffv1_hold.proofs.BodyTexts.{same_body, body_cut, part_body_none}
@@ -86,11 +77,8 @@ pub part_shows_none : (f : HoldFileFault) (s t y : List ℕ) → s ≡ t ++ y �
 part_shows_none f s t y same (inl (few, is)) (inl a) =
     magic_none Second [] (y ++ drop (length s) (magic Second)) t f (magic_from s is ∙ ap (λ q. q ++ drop (length s) (magic Second)) same
     ∙ append_assoc t y (drop (length s) (magic Second))) a
-part_shows_none f s t y same (inl (few, is)) (inr (inl (w, u, split, a))) =
-    omega (arith, few, ap length same, length-append t y, ap length split, length-append (magic w) u)
-part_shows_none f s t y same (inl (few, is)) (inr (inr (w, r, u, r_is, split, a))) =
-    let sized = sized_record r.config r.setup.width r.setup.height in
-    omega (arith, few, ap length same, length-append t y, ap length (split ∙ head_parts w r u), length-append (magic w) (sized ++ u))
+part_shows_none f s t y same (inl (few, is)) (inr (inl (w, u, split, a))) = grind (arith, length-append)
+part_shows_none f s t y same (inl (few, is)) (inr (inr (w, r, u, r_is, split, a))) = grind (arith, length-append, head_parts)
 part_shows_none f s t y same (inr (inl (x, p, s_split, part))) (inl a) = magic_none x p y t f (sym s_split ∙ same) a
 part_shows_none f s t y same (inr (inl (x, p, s_split, part))) (inr (inl (w, u, split, a))) =
     part_reel_none f p u y (after_magic x w _ _ (sym s_split ∙ same ∙ ap (λ q. q ++ y) split ∙ append_assoc (magic w) u y)) part a

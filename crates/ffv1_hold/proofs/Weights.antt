@@ -1,13 +1,7 @@
 -- How much the items of a set weigh together: those of a set that has them all weigh no less.
-use Rattle.std.proofs.Common.{◌≡◌, ℕ, ◌+◌, ◌≤◌, true, List, [], ◌∷◌, length, map, refl, sym, ap, ◌∙◌, subst, arith}
-use Rattle.std.specs.Cmp.{IsTotalOrder}
+use Rattle.ffv1_hold.proofs.Common.{◌≡◌, ℕ, ◌+◌, ◌≤◌, true, List, [], ◌∷◌, length, map, refl, sym, ap, ◌∙◌, subst, arith, IsTotalOrder, IsAntisymmetric, put, by_order, Ordering, Less, Equal, Greater, union-insert, or_absorbed}
 use Rattle.std.specs.FinMap as finite
-use Rattle.std.specs.FinMap.{IsAntisymmetric}
-use Rattle.std.specs.FinMap.Entries.{put, by_order}
-use Rattle.std.specs.declared.cmp.Ordering.{Ordering}
-use Rattle.std.specs.declared.cmp.Ordering.TheVariants.{Less, Equal, Greater}
 use Rattle.ffv1_holding.specs.Sets as set
-use Rattle.ffv1_holding.proofs.RisingSets.{union-insert, or_absorbed}
 
 abbrev pub weight : {K : Type 0} → (K → ℕ) → List K → ℕ
 weight w [] = 0
@@ -40,10 +34,7 @@ module _ {K : Type 0} {R : K → K → Ordering} (o : IsTotalOrder R) (same : Is
 
   weight-list : (s : set.SetOf R) (es : List K) → weight w (set.items s) ≤ weight w (set.items (set.union s (set.from_list es)))
   weight-list s [] = subst (λ t. weight w (set.items s) ≤ weight w (set.items t)) (sym (set.union_empty o same s)) (omega arith)
-  weight-list s (e ∷ es) =
-      let rest = weight-list s es in
-      let one = weight-insert (set.union s (set.from_list es)) e in
-      subst (λ t. weight w (set.items s) ≤ weight w (set.items t)) (sym (union-insert o same s (set.from_list es) e)) (omega arith)
+  weight-list s (e ∷ es) = grind (arith, weight-insert, union-insert, weight-list s es)
 
   pub weight-more : (s t : set.SetOf R) → ((q : K) → set.contains s q ≡ true → set.contains t q ≡ true) → weight w (set.items s) ≤ weight w (set.items t)
   weight-more s t all =

@@ -1,10 +1,5 @@
 -- An entry, and a head, by the parts that are written.
-use Rattle.std.proofs.Common.{◌≡◌, ℕ, ◌∷◌, List, ◌++◌, length, ap, ◌∙◌, append_assoc, refl}
-use Rattle.std.specs.Int.{w32, to_be_bytes}
-use Rattle.ffv1_holding.specs.SliceOrder.{Entry}
-use Rattle.ffv1_holding.specs.Reels.{Reel}
-use Rattle.ffv1_hold.specs.declared.version.Version.TheVariants.{Second}
-use Rattle.ffv1_hold.specs.HoldingText.{be2, be4, slice_text, origins_text, sized_record, head_text, magic}
+use Rattle.ffv1_hold.proofs.Common.{◌≡◌, ℕ, ◌∷◌, List, ◌++◌, length, ap, ◌∙◌, append_assoc, refl, arith, w32, to_be_bytes, Entry, Reel, Second, be2, be4, slice_text, origins_text, sized_record, head_text, magic}
 use Rattle.ffv1_hold.proofs.DigestTexts.{whole}
 
 slice_text-parts : (e : Entry) → ((1 ∷ be2 e.0) ++ be4 (length e.1)) ++ e.1 ≡ 1 ∷ slice_text e
@@ -29,7 +24,4 @@ head_text-parts r = append_assoc (magic Second) (be4 r.setup.width ++ be4 r.setu
 
 pub head_spelled : (r : Reel) (head config : List ℕ) (w h : ℕ) → head ≡ magic Second ++ (be4 w ++ be4 h ++ be4 (length config)) → w ≡ r.setup.width
     → h ≡ r.setup.height → config ≡ r.config → head ++ config ≡ head_text Second r
-head_spelled r head config w h a i j k =
-    ap (λ l. l ++ config) a ∙ ap (λ n. (magic Second ++ (be4 n ++ be4 h ++ be4 (length config))) ++ config) i
-    ∙ ap (λ n. (magic Second ++ (be4 r.setup.width ++ be4 n ++ be4 (length config))) ++ config) j
-    ∙ ap (λ l. (magic Second ++ (be4 r.setup.width ++ be4 r.setup.height ++ be4 (length l))) ++ l) k ∙ head_text-parts r
+head_spelled r head config w h a i j k = grind (arith, head_text-parts)

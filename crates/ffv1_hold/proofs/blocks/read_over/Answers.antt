@@ -1,15 +1,7 @@
-use Rattle.std.proofs.Common.{◌≡◌, ◌+◌, ◌++◌, length, take, drop, arith, refl, sym, ap, ◌∙◌, subst, length-append, length-take-le, rules}
-use Rattle.std.proofs.lemmas.List.{length-take}
-use Rattle.std.specs.Ordering.{nat_cmp, ordering_then}
-use Rattle.std.proofs.lemmas.Result.{err_from_is_err_and}
-use Rattle.ffv1_holding.specs.SliceOrder.{bytes_cmp}
-use Rattle.ffv1_hold.specs.Inner.Reading.{TakesText, IsShorter, Never}
-use Rattle.ffv1_hold.proofs.TextReads.{TakesText-nil, TakesText-trans, StopsAt-after}
+use Rattle.ffv1_hold.proofs.Common.{common_steps, ◌≡◌, length, take, drop, arith, ap, ◌∙◌, length-append, length-take-le, rules, length-take, ordering_then, err_from_is_err_and, bytes_cmp}
+use Rattle.ffv1_hold.proofs.TextReads.{TakesText-trans, StopsAt-after}
 use Rattle.ffv1_hold.proofs.HeldBytes.{take-next, next_long, next_compares, all_compared}
 use Rattle.ffv1_hold.proofs.blocks.read_over.Goals as goal
-
-pub loop-done-init : goal.loop-done-init
-loop-done-init g c = record { few = omega arith; within = omega arith; read = TakesText-nil _ _ c.requires; order = λ rest. refl }
 
 -- what was read so far decides, and else this block does
 pub loop-done-preserved : goal.loop-done-preserved
@@ -25,15 +17,7 @@ loop-done-preserved g c =
     let decided : c.then-order.result ≡ ordering_then c.loop-done.order (bytes_cmp (take (length block) (drop done items)) block) =
     c.then-order.ensures ∙ ap (ordering_then c.loop-done.order) read.order in
     let grown = take-next old items block next done c.loop-done.order inv.within read.bytes inv.order in
-    record {
-      few = omega arith;
-      within = omega (arith, next_long old items block next done c.loop-done.order inv.within read.bytes inv.order);
-      read = subst (TakesText _ _ _ _) (sym grown ∙ ap (λ n. take (done + n) next) long) (TakesText-trans _ _ _ _ _ _ _ _ inv.read read.read);
-      order = λ rest.
-          ap (λ n. bytes_cmp old (take (done + n) next ++ rest)) (sym long)
-          ∙ next_compares old items block next done c.loop-done.order inv.within read.bytes inv.order rest
-          ∙ (λ i. ordering_then (sym decided i) (bytes_cmp (drop (done + long i) next) rest));
-    }
+    grind (arith, common_steps, next_long, TakesText-trans, next_compares)
 
 pub returns-in_err-block-clause-read : goal.returns-in_err-block-clause-read
 returns-in_err-block-clause-read g c =
@@ -42,8 +26,7 @@ returns-in_err-block-clause-read g c =
     let n = length (take c.min-size.result c.loop-done.buf) in
     let count = c.args.count in
     let front = take c.loop-done.done c.loop-done.bytes.items in
-    rw (p.1, p.2) (StopsAt-after (IsShorter n) (IsShorter count) Never Never Never Never _ _ _ _ _ front inv.read _ c.in_err-block.ensures.read
-    (λ s h. omega (arith, h, length-append front s, length-take-le c.loop-done.done c.loop-done.bytes.items inv.within, length-take c.min-size.result c.loop-done.buf)) (λ f s h. h) (λ f s h. h))
+    grind (arith, common_steps, StopsAt-after, length-append, length-take-le, length-take)
 
 pub returns-clause-order : goal.returns-clause-order
 returns-clause-order g c =
@@ -51,7 +34,4 @@ returns-clause-order g c =
     let old = c.args.bytes.now.items in
     let items = c.loop-done.bytes.items in
     let long : c.len.result ≡ length items = search rules in
-    c.then.ensures
-    ∙ ap (ordering_then c.loop-done.order) (c.cmp-by_length.ensures ∙ ap (λ n. nat_cmp n c.loop-done.done) long)
-    ∙ all_compared old items c.loop-done.done c.loop-done.order inv.within inv.order
-    ∙ ap (bytes_cmp old) (sym c.truncate.ensures.items)
+    cc (all_compared old items c.loop-done.done c.loop-done.order inv.within inv.order)

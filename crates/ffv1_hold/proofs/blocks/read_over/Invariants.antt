@@ -1,7 +1,4 @@
-use Rattle.std.proofs.Common.{◌≡◌, ℕ, ◌≤◌, ◌-◌, List, ◌++◌, length, take, drop}
-use Rattle.std.specs.Ordering.{ordering_then}
-use Rattle.ffv1_holding.specs.SliceOrder.{bytes_cmp}
-use Rattle.ffv1_hold.specs.Inner.Reading.{TakesText}
+use Rattle.ffv1_hold.proofs.Common.{◌≡◌, ℕ, ◌≤◌, ◌-◌, List, ◌++◌, length, take, drop, ordering_then, bytes_cmp, TakesText}
 use Rattle.ffv1_hold.proofs.blocks.read_over.Given as goal
 
 -- In front stands what was read, and after it what is left of the old bytes. What was read decides as the order says, and else what is

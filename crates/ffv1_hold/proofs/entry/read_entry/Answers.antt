@@ -1,10 +1,6 @@
-use Rattle.std.proofs.Common.{[], ◌∷◌, get_or, arith, refl, rules, subst}
-use Rattle.std.proofs.lemmas.Result.{err_from_is_err_and}
-use Rattle.ffv1_hold.specs.HoldingText.{slice_text}
-use Rattle.ffv1_hold.specs.Inner.Reading.{TakesText, Never}
-use Rattle.ffv1_hold.specs.FileFaults.{IsPartOfSlice, IsEntryInPlace, IsPartAfter, IsPartOfEntry, SliceIsTooLong, ShowsAfter, EntryShows}
-use Rattle.ffv1_hold.proofs.TextReads.{TakesText-trans, StopsAt-part, StopsAt-after, shown}
-use Rattle.ffv1_hold.proofs.Entries.{single, entry_text-of, part_of_tag, part_of_slice, part_after_slice, slice_shows, after_shows, wrong_stops}
+use Rattle.ffv1_hold.proofs.Common.{[], ◌∷◌, rules, subst, err_from_is_err_and, slice_text, TakesText, Never, IsPartOfSlice, IsEntryInPlace, IsPartAfter, IsPartOfEntry, SliceIsTooLong, ShowsAfter, EntryShows}
+use Rattle.ffv1_hold.proofs.TextReads.{TakesText-trans, StopsAt-after}
+use Rattle.ffv1_hold.proofs.Entries.{single, entry_text-of, part_of_slice, part_after_slice, slice_shows, after_shows, wrong_stops}
 use Rattle.ffv1_hold.proofs.entry.read_entry.Given.{Over}
 use Rattle.ffv1_hold.proofs.entry.read_entry.Goals.{In-1}
 use Rattle.ffv1_hold.proofs.entry.read_entry.Goals as goal
@@ -12,14 +8,6 @@ use Rattle.ffv1_hold.proofs.entry.read_entry.Goals as goal
 tag_taken : (g : Over) (c : In-1 g) → TakesText (g.S.Source.log c.args.source.now) (g.S.Source.log c.read_field.new.source) c.args.place.now
     c.read_field.new.place (1 ∷ [])
 tag_taken g c = subst (TakesText _ _ _ _) (single c.read_field.new.buf 1 (search rules) c.in-1.is) c.in_ok-read_field.ensures.read
-
-pub returns-in_err-read_field-clause-read : goal.returns-in_err-read_field-clause-read
-returns-in_err-read_field-clause-read g c =
-    let p = err_from_is_err_and c.from_residual.result c.from_residual.ensures.1 in
-    rw (p.1, p.2) (StopsAt-part _ _ _ _ _ _ _ c.requires c.in_err-read_field.ensures.read (part_of_tag c.args.version c.args.setup.now c.args.last))
-
-pub returns-in-0-clause-read : goal.returns-in-0-clause-read
-returns-in-0-clause-read g c = subst (TakesText _ _ _ _) (single c.read_field.new.buf 0 (search rules) c.in-0.is) c.in_ok-read_field.ensures.read
 
 pub returns-in_err-slice-in-1-clause-read : goal.returns-in_err-slice-in-1-clause-read
 returns-in_err-slice-in-1-clause-read g c =
@@ -64,8 +52,3 @@ returns-in_ok-origins-in-1 g c =
       read = subst (TakesText _ _ _ _) (entry_text-of c.args.version (c.in_ok-slice-in-1.slice, c.in_ok-origins-in-1.origins.items)) all;
       entry = (record { slice = record { slice = judged.slice; fits = slice.fits }; origins = more.digests }, slice.follows.0 judged.place);
     }
-
-pub returns-in_default-clause-read : goal.returns-in_default-clause-read
-returns-in_default-clause-read g c =
-    let n = get_or c.read_field.new.buf 0 0 in
-    shown _ _ _ _ _ _ _ _ c.in_ok-read_field.ensures.read _ tt (n, single c.read_field.new.buf n (search rules) refl, omega arith)

@@ -1,5 +1,4 @@
-use Rattle.std.proofs.Common.{arith, inl}
-use Rattle.std.proofs.lemmas.Result.{err_from_is_err_and}
+use Rattle.ffv1_hold.proofs.Common.{arith, inl, err_from_is_err_and}
 use Rattle.ffv1_hold.proofs.TextReads.{broke_off}
 use Rattle.ffv1_hold.proofs.fields.read_within.Goals as goal
 

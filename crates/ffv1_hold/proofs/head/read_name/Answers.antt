@@ -1,8 +1,4 @@
-use Rattle.std.proofs.Common.{length, take, arith}
-use Rattle.std.proofs.lemmas.Result.{err_from_is_err_and}
-use Rattle.ffv1_hold.specs.HoldingText.{name}
-use Rattle.ffv1_hold.specs.Inner.Reading.{IsShorter, Never}
-use Rattle.ffv1_hold.specs.FileFaults.{IsPartOfMagic, MagicShows}
+use Rattle.ffv1_hold.proofs.Common.{common_steps, arith, err_from_is_err_and}
 use Rattle.ffv1_hold.proofs.TextReads.{TakesText-trans, StopsAt-after, shown}
 use Rattle.ffv1_hold.proofs.Heads.{wrong_name, part_of_name}
 use Rattle.ffv1_hold.proofs.head.read_name.Goals as goal
@@ -19,5 +15,4 @@ returns-in_err-read_field g c =
     let p = err_from_is_err_and c.from_residual.result c.from_residual.ensures.1 in
     let inv = c.loop-expected.invariant in
     let i = c.loop-expected.expected-index in
-    rw (p.1, p.2) (StopsAt-after (IsShorter (length c.loop-expected.byte)) IsPartOfMagic Never Never Never MagicShows _ _ _ _ _ (take i name) inv.text _
-    c.in_err-read_field.ensures.read (λ s short. part_of_name i s (omega arith) (omega (arith, short, inv.room))) (λ f s h. h) (λ f s h. absurd h))
+    grind (arith, common_steps, StopsAt-after, part_of_name)

@@ -1,6 +1,4 @@
-use Rattle.std.proofs.Common.{◌≡◌, length, take}
-use Rattle.ffv1_hold.specs.HoldingText.{name}
-use Rattle.ffv1_hold.specs.Inner.Reading.{TakesText}
+use Rattle.ffv1_hold.proofs.Common.{◌≡◌, length, take, name, TakesText}
 use Rattle.ffv1_hold.proofs.head.read_name.Given as goal
 
 -- What was taken begins the name.

@@ -1,17 +1,7 @@
-use Rattle.std.proofs.Common.{◌++◌, [], arith, refl, sym, subst}
-use Rattle.std.proofs.lemmas.Result.{err_from_is_err_and}
-use Rattle.ffv1_hold.specs.HoldingText.{be4}
-use Rattle.ffv1_hold.specs.Inner.Reading.{TakesText, IsShorter, Never}
-use Rattle.ffv1_hold.specs.FileFaults.{IsPartOfReel, ReelIsWhole, ReelShows}
-use Rattle.ffv1_hold.proofs.TextReads.{TakesText-trans, TakesText-four, TakesText-nil, StopsAt-after, shown}
-use Rattle.ffv1_hold.proofs.Heads.{part_of_width, part_of_height, part_of_count, part_of_config, sized_record-of, reel_judged}
+use Rattle.ffv1_hold.proofs.Common.{◌++◌, arith, refl, sym, subst, err_from_is_err_and, be4, TakesText, IsShorter, Never, IsPartOfReel, ReelIsWhole, ReelShows}
+use Rattle.ffv1_hold.proofs.TextReads.{TakesText-trans, TakesText-four, StopsAt-after, shown}
+use Rattle.ffv1_hold.proofs.Heads.{part_of_height, part_of_count, part_of_config, sized_record-of, reel_judged}
 use Rattle.ffv1_hold.proofs.head.read_reel.Goals as goal
-
-pub returns-in_err-width-clause-read : goal.returns-in_err-width-clause-read
-returns-in_err-width-clause-read g c =
-    let p = err_from_is_err_and c.from_residual.result c.from_residual.ensures.1 in
-    rw (p.1, p.2) (StopsAt-after (IsShorter 4) IsPartOfReel Never ReelIsWhole Never ReelShows _ _ _ _ _ []
-    (TakesText-nil _ _ c.requires) _ c.in_err-width.ensures part_of_width (λ f s h. absurd h) (λ f s h. absurd h))
 
 pub returns-in_err-height-clause-read : goal.returns-in_err-height-clause-read
 returns-in_err-height-clause-read g c =

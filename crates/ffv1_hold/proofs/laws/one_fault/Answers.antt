@@ -1,4 +1,4 @@
-use Rattle.std.proofs.Common.{sym, ◌∙◌}
+use Rattle.ffv1_hold.proofs.Common.{sym, ◌∙◌}
 use Rattle.ffv1_hold.proofs.OneFault.{one_fault}
 use Rattle.ffv1_hold.proofs.OneInput.{one_input}
 use Rattle.ffv1_hold.proofs.laws.one_fault.Goals as goal

@@ -1,5 +1,4 @@
-use Rattle.std.proofs.Common.{[], sym, subst, ◌∙◌, append-nil}
-use Rattle.ffv1_hold.specs.FileFaults.{IsPartOfFile}
+use Rattle.ffv1_hold.proofs.Common.{[], sym, subst, ◌∙◌, append-nil, IsPartOfFile}
 use Rattle.ffv1_hold.proofs.FaultLaws.{text_none, text_whole}
 use Rattle.ffv1_hold.proofs.Returned.{refused_outside}
 use Rattle.ffv1_hold.proofs.Unfinished.{part_shows_none}

@@ -1,4 +1,4 @@
-use Rattle.ffv1_hold.proofs.MergeResults.{returns_union, returns_other, join_refuses, writes_no_end, write_stops, left_stays, right_stays, says, says_write, at_most}
+use Rattle.ffv1_hold.proofs.MergeResults.{returns_union, returns_other, join_refuses, writes_no_end, write_stops, left_stays, right_stays, says, says_write}
 use Rattle.ffv1_hold.proofs.merging.join_streams.Goals as goal
 
 pub returns-clause-only : goal.returns-clause-only
@@ -22,6 +22,3 @@ returns-clause-write g c = says_write _ _ _ _ (λ stops. (write_stops _ _ _ stop
 
 pub returns-clause-no_end : goal.returns-clause-no_end
 returns-clause-no_end g c = says _ _ _ _ (writes_no_end _ _ _) c.merge_files.result c.merge_files.ensures.err
-
-pub returns-clause-most : goal.returns-clause-most
-returns-clause-most g c = at_most _ _ _ c.merge_files.result c.merge_files.ensures.most c.merge_files.ensures.err

@@ -1,19 +1,7 @@
-use Rattle.std.proofs.Common.{rules, refl, inl}
-use Rattle.std.proofs.lemmas.Result.{err_from_is_err_and}
-use Rattle.ffv1_hold.specs.Inner.Merging.{Start, AreVersions, IsOpened}
+use Rattle.ffv1_hold.proofs.Common.{rules, refl, Start, AreVersions, IsOpened}
 use Rattle.ffv1_hold.proofs.MergeResults.{after_heads, never_other}
 use Rattle.ffv1_hold.proofs.JoinSteps.{MergeWent-after}
 use Rattle.ffv1_hold.proofs.merging.merge_files.Goals as goal
-
-pub returns-in_err-reel-clause-err : goal.returns-in_err-reel-clause-err
-returns-in_err-reel-clause-err g c =
-    let p = err_from_is_err_and c.from_residual.result c.from_residual.ensures.1 in
-    rw (p.1, p.2) (inl (c.in_err-reel.ensures.err, refl))
-
-pub returns-in_err-reel-clause-went : goal.returns-in_err-reel-clause-went
-returns-in_err-reel-clause-went g c =
-    let p = err_from_is_err_and c.from_residual.result c.from_residual.ensures.1 in
-    rw (p.1, p.2) (c.in_err-reel.ensures.went (g.W.Sink.log c.args.sink.now))
 
 pub returns : goal.returns
 returns g c =

@@ -1,7 +1,4 @@
-use Rattle.std.proofs.Common.{Some, ap, sym, ◌∙◌, refl}
-use Rattle.std.specs.Ordering.{ordering_reverse}
-use Rattle.ffv1_holding.specs.SliceOrder.{entry_cmp, entries_total, entries_antisymmetric}
-use Rattle.ffv1_hold.specs.HoldingText.{FileEntry}
+use Rattle.ffv1_hold.proofs.Common.{Some, ap, sym, ◌∙◌, refl, ordering_reverse, entry_cmp, entries_total, entries_antisymmetric, FileEntry}
 use Rattle.ffv1_hold.proofs.merging.next_entry.Goals as goal
 
 pub returns-in-Equal-clause-some : goal.returns-in-Equal-clause-some

@@ -1,15 +1,4 @@
-use Rattle.std.proofs.Common.{◌≡◌, ℕ, ◌+◌, ◌*◌, ◌++◌, List, length, ◌∷◌, arith, subst, ap, refl, ◌∙◌}
-use Rattle.std.proofs.lemmas.Result.{err_from_is_err_and}
-use Rattle.ffv1_holding.specs.SliceOrder.{Entry}
-use Rattle.ffv1_hold.specs.declared.entry.HeldSlice.TheInside.{Inside}
-use Rattle.ffv1_hold.specs.declared.version.Version.TheVariants.{Second}
-use Rattle.ffv1_devices.specs.Writing.{WritesFront}
-use Rattle.ffv1_devices.specs.Logs.{WriteLog, Writes, StopsWriting}
-use Rattle.ffv1_devices.proofs.Steps.{GoesOn-refl, Writes-trans, StopsWriting-of, StopsWriting-after}
-use Rattle.ffv1_hold.specs.HoldingText.{FileEntry, slice_text, origins_text, entry_text}
-use Rattle.ffv1_hold.specs.Inner.MergeLogs.{StopsEntry}
-use Rattle.ffv1_hold.specs.declared.file_fault.HoldFileFault.TheVariants.{Write}
-use Rattle.ffv1_hold.specs.Inner.Merging.{digests_union, with_digests}
+use Rattle.ffv1_hold.proofs.Common.{◌≡◌, ℕ, ◌+◌, ◌*◌, ◌++◌, List, length, ◌∷◌, arith, subst, ap, refl, ◌∙◌, err_from_is_err_and, Entry, Inside, Second, WritesFront, WriteLog, Writes, StopsWriting, GoesOn-refl, Writes-trans, StopsWriting-of, StopsWriting-after, FileEntry, slice_text, origins_text, entry_text, StopsEntry, Write, digests_union, with_digests}
 use Rattle.ffv1_hold.proofs.JoinedEntries.{joined_spelled, joined_length}
 use Rattle.ffv1_hold.proofs.merging.write_entry.Given.{Over}
 use Rattle.ffv1_hold.proofs.merging.write_entry.Goals.{After-room_after_entry}
@@ -28,8 +17,7 @@ module _ (g : Over) (c : After-room_after_entry g) where
   text_long : length (entry_text Second (with_digests c.args.entry.now c.args.others.now))
       ≡ 11 + length c.as_slice-slice.result.now + 32 * length (digests_union c.deref.result.now c.args.others.now)
   text_long =
-      joined_length c.args.entry.now c.args.others.now c.requires.entry.1 c.requires.others.1 _ c.deref.result.now slice_is
-      (origins_are c.deref.result.now c.deref.ensures.value)
+      cc (joined_length c.args.entry.now c.args.others.now c.requires.entry.1 c.requires.others.1 _ c.deref.result.now slice_is (origins_are c.deref.result.now c.deref.ensures.value))
 
   text_is : (ds : List (List ℕ)) → ds ≡ c.entry-inside.inside.0.1.0.items
       → (1 ∷ slice_text (c.entry-inside.inside.0.0.tile, c.as_slice-slice.result.now)) ++ origins_text (digests_union ds c.args.others.now)

@@ -1,5 +1,4 @@
-use Rattle.std.proofs.Common.{ℕ, List, IsTrue, Option, sym, ◌∙◌, subst}
-use Rattle.ffv1_hold.specs.FileEntries.{FollowsDigest}
+use Rattle.ffv1_hold.proofs.Common.{ℕ, List, IsTrue, Option, sym, ◌∙◌, subst, FollowsDigest}
 use Rattle.ffv1_hold.proofs.OriginReads.{last_of-get, less_index, index_less}
 use Rattle.ffv1_hold.proofs.origins.follows.Goals as goal
 

@@ -1,5 +1,4 @@
-use Rattle.std.proofs.Common.{[], arith, inl}
-use Rattle.std.proofs.lemmas.Result.{err_from_is_err_and}
+use Rattle.ffv1_hold.proofs.Common.{[], arith, inl, err_from_is_err_and}
 use Rattle.ffv1_hold.proofs.TextReads.{TakesText-nil, memory_stops}
 use Rattle.ffv1_hold.proofs.origins.read_digest.Goals as goal
 

@@ -1,7 +1,4 @@
-use Rattle.std.proofs.Common.{◌≡◌, ◌++◌, length}
-use Rattle.ffv1_hold.specs.HoldingText.{be4}
-use Rattle.ffv1_hold.specs.Inner.Reading.{TakesText}
-use Rattle.ffv1_hold.specs.FileEntries.{AreOrigins}
+use Rattle.ffv1_hold.proofs.Common.{◌≡◌, ◌++◌, length, be4, TakesText, AreOrigins}
 use Rattle.ffv1_hold.proofs.DigestTexts.{whole}
 use Rattle.ffv1_hold.proofs.origins.read_origins.Given as goal
 

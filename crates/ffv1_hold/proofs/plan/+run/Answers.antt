@@ -1,21 +1,4 @@
-use Rattle.std.proofs.Common.{◌≡◌, ℕ, List, Result, Ok, IfOk, IfErr, OnOk, sym, ap, ◌∙◌, rules, refl, ◌++◌, subst, map, inl, inr, [], ◌∷◌}
-use Rattle.std.specs.Result.{IsErrAnd}
-use Rattle.std.proofs.lemmas.Result.{IfOk-weaker, IfErr-weaker, on_ok_weaker, err_from_is_err_and}
-use Rattle.ffv1_range.specs.Setup.{IsSetupOf}
-use Rattle.ffv1_holding.specs.Reels.{Reel}
-use Rattle.ffv1_holding.specs.Contents.{Contents, holding_of, IsHolding, with_found, with_copies, joined}
-use Rattle.ffv1_holding.specs.Originals.{AreNear, HoldsExactly}
-use Rattle.ffv1_holding.specs.TakeFaults.{AreShort}
-use Rattle.ffv1_hold.specs.Headline.{IsReelOf}
-use Rattle.ffv1_hold.specs.Plans.{copies_of, IsCarriedOut, IsPlanFault, IsFaultOfCopy, IsFaultOfCopies, IsFaultOfFile, IsRereadFault, RereadsFit}
-use Rattle.ffv1_hold.specs.Saving.{IsTooLong}
-use Rattle.ffv1_hold.specs.declared.file_fault.HoldFileFault.{HoldFileFault}
-use Rattle.ffv1_hold.specs.declared.plan.Plan.{Plan}
-use Rattle.ffv1_hold.specs.declared.plan.PlanFault.{PlanFault}
-use Rattle.ffv1_hold.specs.declared.plan.PlanFault.TheVariants.{Hold, Setup, File}
-use Rattle.ffv1_holding.specs.declared.fault.HoldFault.TheVariants.{Memory}
-use Rattle.ffv1_holding.proofs.ExactlyHeld.{near_exact}
-use Rattle.ffv1_holding.proofs.Reels.{own_size}
+use Rattle.ffv1_hold.proofs.Common.{common_steps, ◌≡◌, ℕ, List, Result, Ok, IfOk, IfErr, OnOk, sym, ap, ◌∙◌, refl, ◌++◌, subst, map, inr, [], ◌∷◌, arith, IsErrAnd, IfOk-weaker, IfErr-weaker, on_ok_weaker, err_from_is_err_and, IsSetupOf, Reel, Contents, holding_of, IsHolding, with_found, with_copies, joined, AreNear, HoldsExactly, AreShort, IsReelOf, copies_of, IsCarriedOut, IsPlanFault, IsFaultOfCopy, IsFaultOfCopies, IsFaultOfFile, IsRereadFault, RereadsFit, IsTooLong, HoldFileFault, Plan, PlanFault, Hold, File, Memory, near_exact, own_size}
 use Rattle.ffv1_hold.proofs.ReadSteps.{holding_none}
 use Rattle.ffv1_hold.proofs.PlanSteps.{after_same, after_found, after_copies, after_joined, AreShort-both, of_kept_reel, reel_on_same, one_reel, near_of_meaning}
 use Rattle.ffv1_hold.proofs.plan.+run.Goals as goal
@@ -51,16 +34,7 @@ module _ (bytes : List ℕ) (width height : ℕ) where
       → OnOk r (AreShort (copies_of step)) → IfOk r (λ h. RereadsFit h.reel step) → IfErr r (IsPlanFault bytes width height step) → Says plan r
   stepped plan step reel r Took is of_reel took keeps means well_formed short fits faulty =
       let meaning = IfOk-weaker r Took (λ h. h ≡ holding_of h.reel (copies_of step)) means took in
-      rw is (record {
-        config = of_kept_reel r Took reel keeps (λ q. q.config ≡ bytes) of_reel.0 took;
-        setup = of_kept_reel r Took reel keeps (λ q. IsSetupOf bytes width height q.setup) of_reel.1 took;
-        meaning = meaning;
-        well_formed = well_formed;
-        near = λ original slices. near_of_meaning r original slices (copies_of step) meaning;
-        short = short;
-        fits = fits;
-        fault = faulty;
-      })
+      grind (arith, common_steps, of_kept_reel, near_of_meaning)
 
   -- copies are taken into what the plan before gave, which is `lent`: what is held grows by what is found in them
   taken : (plan step before lent : Plan) (h grown : Contents) (r : Result Contents PlanFault) (more : List (List ℕ)) (Faulty : PlanFault → Type 0)
@@ -98,8 +72,7 @@ pub union_of-requires : goal.union_of-requires
 union_of-requires t c =
     let left = c.in_ok-holding-in-Join in
     let right = c.in_ok-other-in-Join in
-    one_reel c.args.config.now c.args.width c.args.height left.holding.reel right.other.reel (left.ensures.config, left.ensures.setup)
-    (right.ensures.config, right.ensures.setup)
+    cc (one_reel c.args.config.now c.args.width c.args.height left.holding.reel right.other.reel (left.ensures.config, left.ensures.setup) (right.ensures.config, right.ensures.setup))
 
 -- what the second plan gave is joined into what the first gave
 pub returns-in_ok-other-in-Join : goal.returns-in_ok-other-in-Join
@@ -164,36 +137,3 @@ returns-in_ok-holding-in-Reread t c =
       subst (IsFaultOfFile c.args.config.now c.args.width c.args.height copies) (sym is.1)
           (before.reel, (was.config, was.setup), subst (λ (k : Contents). IsRereadFault k is.0) was.meaning is.2),
     )) c.through_file.ensures.fault)
-
-pub returns-in_err-new-in-New : goal.returns-in_err-new-in-New
-returns-in_err-new-in-New t c =
-    refused c.args.config.now c.args.width c.args.height _ _ c.from_residual.result (Setup c.in_err-new-in-New.field-0.0) c.in-New.is c.from_residual.ensures.1
-    c.in_err-new-in-New.ensures.fault
-
-pub returns-in_err-run-in-Take : goal.returns-in_err-run-in-Take
-returns-in_err-run-in-Take t c =
-    refused c.args.config.now c.args.width c.args.height _ _ c.from_residual-in_err-run-in-Take.result c.in_err-run-in-Take.field-0.0 c.in-Take.is c.from_residual-in_err-run-in-Take.ensures.1
-    (inl (subst (λ p. IsPlanFault c.args.config.now c.args.width c.args.height p c.in_err-run-in-Take.field-0.0) c.deref.ensures c.in_err-run-in-Take.ensures.fault))
-
-pub returns-in_err-run-in-TakeAll : goal.returns-in_err-run-in-TakeAll
-returns-in_err-run-in-TakeAll t c =
-    refused c.args.config.now c.args.width c.args.height _ _ c.from_residual-in_err-run-in-TakeAll.result c.in_err-run-in-TakeAll.field-0.0 c.in-TakeAll.is c.from_residual-in_err-run-in-TakeAll.ensures.1
-    (inl (subst (λ p. IsPlanFault c.args.config.now c.args.width c.args.height p c.in_err-run-in-TakeAll.field-0.0) c.deref-in-TakeAll.ensures c.in_err-run-in-TakeAll.ensures.fault))
-
-pub returns-in_err-holding-in-Join : goal.returns-in_err-holding-in-Join
-returns-in_err-holding-in-Join t c =
-    refused c.args.config.now c.args.width c.args.height _ _ c.from_residual-in_err-holding-in-Join.result c.in_err-holding-in-Join.field-0.0 c.in-Join.is c.from_residual-in_err-holding-in-Join.ensures.1
-    (inl (subst (λ p. IsPlanFault c.args.config.now c.args.width c.args.height p c.in_err-holding-in-Join.field-0.0) c.deref-in-Join.ensures c.in_err-holding-in-Join.ensures.fault))
-
-pub returns-in_err-other-in-Join : goal.returns-in_err-other-in-Join
-returns-in_err-other-in-Join t c =
-    refused c.args.config.now c.args.width c.args.height _ _ c.from_residual-in_err-other-in-Join.result c.in_err-other-in-Join.field-0.0 c.in-Join.is c.from_residual-in_err-other-in-Join.ensures.1
-    (inr (
-      carried c.args.config.now c.args.width c.args.height _ _ c.in_ok-holding-in-Join.holding c.deref-in-Join.ensures c.in_ok-holding-in-Join.ensures,
-      inl (subst (λ p. IsPlanFault c.args.config.now c.args.width c.args.height p c.in_err-other-in-Join.field-0.0) c.deref-in-Join-2.ensures c.in_err-other-in-Join.ensures.fault),
-    ))
-
-pub returns-in_err-holding-in-Reread : goal.returns-in_err-holding-in-Reread
-returns-in_err-holding-in-Reread t c =
-    refused c.args.config.now c.args.width c.args.height _ _ c.from_residual-in_err-holding-in-Reread.result c.in_err-holding-in-Reread.field-0.0 c.in-Reread.is c.from_residual-in_err-holding-in-Reread.ensures.1
-    (inl (subst (λ p. IsPlanFault c.args.config.now c.args.width c.args.height p c.in_err-holding-in-Reread.field-0.0) c.deref-in-Reread.ensures c.in_err-holding-in-Reread.ensures.fault))

@@ -1,6 +1,4 @@
-use Rattle.std.proofs.Common.{sym, ap, ◌∙◌}
-use Rattle.ffv1_holding.specs.Contents.{holding_of}
-use Rattle.ffv1_holding.proofs.ContentsLaws.{holding_of-same}
+use Rattle.ffv1_hold.proofs.Common.{sym, ap, ◌∙◌, holding_of, holding_of-same}
 use Rattle.ffv1_hold.proofs.PlanSteps.{one_reel}
 use Rattle.ffv1_hold.proofs.plan.same_copies.Goals as goal
 

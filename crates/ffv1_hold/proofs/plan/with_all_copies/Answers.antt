@@ -1,7 +1,4 @@
-use Rattle.std.proofs.Common.{◌<◌, sym, map, length, subst, arith}
-use Rattle.std.proofs.lemmas.List.{length-map, take-map}
-use Rattle.std.proofs.lemmas.Result.{err_from_is_err_and}
-use Rattle.ffv1_holding.specs.TakeFaults.{AreShort}
+use Rattle.ffv1_hold.proofs.Common.{◌<◌, sym, map, length, subst, arith, length-map, take-map, err_from_is_err_and, AreShort}
 use Rattle.ffv1_hold.proofs.PlanSteps.{kept_is_holding}
 use Rattle.ffv1_hold.proofs.plan.with_all_copies.Goals as goal
 

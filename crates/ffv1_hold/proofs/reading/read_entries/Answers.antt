@@ -1,11 +1,4 @@
-use Rattle.std.proofs.Common.{◌≡◌, Option, refl, sym, ap, ◌∙◌, subst, IfSome}
-use Rattle.std.proofs.lemmas.Result.{err_from_is_err_and}
-use Rattle.ffv1_range.specs.Setup.{SetupValue}
-use Rattle.ffv1_holding.specs.Reels.{Reel}
-use Rattle.ffv1_holding.specs.Contents.{Contents, IsEntryOf, with_entry}
-use Rattle.ffv1_hold.specs.declared.version.Version.{Version}
-use Rattle.ffv1_hold.specs.HoldingText.{FileEntry, file_entries}
-use Rattle.ffv1_hold.specs.FileEntries.{last_of, Follows, IsFileEntryOf}
+use Rattle.ffv1_hold.proofs.Common.{common_steps, ◌≡◌, Option, refl, ap, ◌∙◌, subst, IfSome, arith, err_from_is_err_and, SetupValue, Reel, Contents, with_entry, FileEntry, file_entries, last_of, Follows, IsFileEntryOf}
 use Rattle.ffv1_hold.proofs.TextReads.{TakesText-trans}
 use Rattle.ffv1_hold.proofs.ReadSteps.{AreRead, none_read, one_more, next_refused, memory_refused, next_taken, next_follows, digests_in_version}
 use Rattle.ffv1_hold.proofs.reading.read_entries.Given.{Over}
@@ -79,8 +72,7 @@ loop-reader-preserved g c =
       well_formed = more.well_formed;
       stated = more.stated;
       reel = more.reel';
-      entry = subst (λ (x : SetupValue). IfSome c.advance-in-Some.new.self.held (IsFileEntryOf v x)) setup
-          (subst (λ (u : Version). IfSome c.advance-in-Some.new.self.held (IsFileEntryOf u c.setup-in-Some.result.now)) inv.version next.entry);
+      entry = grind (arith, common_steps);
       follows = next_follows v c.args.holding.now.reel _ _ _ _ _ _ more c.advance-in-Some.new.self.held next.follows;
       at_end = next.end;
     }
@@ -96,21 +88,4 @@ returns-in_err-advance-2-clause-read g c =
 pub returns : goal.returns
 returns g c =
     let inv = c.loop-reader.invariant in
-    record {
-      read = rw c.in_default.is at inv.text;
-      end = rw c.in_default.is at inv.at_end;
-      well_formed = inv.well_formed;
-      stated = inv.stated;
-      reel = inv.reel;
-    }
-
-pub insert-requires-clause-slice : goal.insert-requires-clause-slice
-insert-requires-clause-slice g c =
-    subst (λ (r : Reel). IsEntryOf r.setup c.in-Some.entry.0) (sym c.loop-reader.invariant.reel)
-    (entry_held g (goal.at.insert-requires-clause-slice g c).In-Some).slice
-
-pub advance-requires : goal.advance-requires
-advance-requires g c = c.requires.place
-
-pub advance-requires-in-Some : goal.advance-requires-in-Some
-advance-requires-in-Some g c = c.loop-reader.invariant.text.text.within
+    grind (arith, common_steps)

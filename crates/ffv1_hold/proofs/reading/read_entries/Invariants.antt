@@ -1,11 +1,4 @@
-use Rattle.std.proofs.Common.{◌≡◌, ◌-◌, ◌++◌, IfSome, IfNone}
-use Rattle.std.specs.Io.KnownBytes.{IsAtEnd}
-use Rattle.ffv1_bits.specs.Limits.{file_limit}
-use Rattle.ffv1_hold.specs.Inner.Reading.{TakesText}
-use Rattle.ffv1_holding.specs.Contents.{IsHolding}
-use Rattle.ffv1_hold.specs.HoldingText.{entries_text, file_entries, IsStated}
-use Rattle.ffv1_hold.specs.FileEntries.{last_of, Follows, IsFileEntryOf}
-use Rattle.ffv1_hold.specs.Inner.FileEntries.{next_text}
+use Rattle.ffv1_hold.proofs.Common.{◌≡◌, ◌-◌, ◌++◌, IfSome, IfNone, IsAtEnd, file_limit, TakesText, IsHolding, entries_text, file_entries, IsStated, last_of, Follows, IsFileEntryOf, next_text}
 use Rattle.ffv1_hold.proofs.reading.read_entries.Given as goal
 
 -- What was taken is the text of the entries so far, and of the one that is held after the last of them, or of the end tag.

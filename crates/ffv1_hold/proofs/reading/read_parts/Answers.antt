@@ -1,12 +1,4 @@
-use Rattle.std.proofs.Common.{◌≤◌, [], ◌∷◌, ◌++◌, length, arith, inl, sym, subst, ap, ◌∙◌, append_assoc}
-use Rattle.std.proofs.lemmas.Result.{err_from_is_err_and}
-use Rattle.ffv1_bits.specs.Limits.{record_limit}
-use Rattle.ffv1_holding.specs.Reels.{Reel}
-use Rattle.ffv1_holding.specs.Contents.{Contents}
-use Rattle.ffv1_hold.specs.HoldingText.{head_text, entries_text, file_entries}
-use Rattle.ffv1_hold.specs.Inner.Reading.{TakesText}
-use Rattle.ffv1_hold.specs.FileFaults.{IsPartOfEntries, IsPartOfFile, FileIsWhole, EntriesShow, FileShows}
-use Rattle.ffv1_hold.specs.Inner.FileFaults.{EntriesAreWhole}
+use Rattle.ffv1_hold.proofs.Common.{common_steps, [], ◌∷◌, ◌++◌, arith, inl, sym, subst, ap, ◌∙◌, append_assoc, err_from_is_err_and, Reel, Contents, head_text, entries_text, file_entries, TakesText, IsPartOfEntries, IsPartOfFile, FileIsWhole, EntriesShow, FileShows, EntriesAreWhole}
 use Rattle.ffv1_hold.proofs.TextReads.{TakesText-trans, StopsAt-after, memory_stops}
 use Rattle.ffv1_hold.proofs.Heads.{head_is_part, head_file, file_from_entries_part, file_from_whole_entries, file_from_entries_fault}
 use Rattle.ffv1_hold.proofs.reading.read_parts.Goals as goal
@@ -51,15 +43,7 @@ returns g c =
     ∙ ap (λ (x : Reel). head_text v x ++ entries ++ 0 ∷ []) (sym reel)) all in
     record {
       well_formed = more.well_formed;
-      file = record {
-        version = v;
-        fits = record {
-          stated = more.stated;
-          record' = subst (λ (x : Reel). length x.config ≤ record_limit) (sym reel) first.reel.fits;
-          text = omega (arith, whole.text.moved, whole.text.within);
-        };
-        taken = whole.text.taken;
-      };
+      file = grind (arith, common_steps);
       at_end = more.end;
       tries' = whole.tries';
       few = omega (arith, whole.few, whole.text.within);

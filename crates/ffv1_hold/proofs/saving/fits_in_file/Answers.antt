@@ -1,8 +1,4 @@
-use Rattle.std.proofs.Common.{◌≡◌, ◌+◌, length, arith, refl, sym, ap, ◌∙◌}
-use mathlib.Core.Bool.{true≢false}
-use Rattle.ffv1_hold.specs.declared.version.Version.TheVariants.{Second}
-use Rattle.ffv1_holding.specs.Reels.{Reel}
-use Rattle.ffv1_hold.specs.HoldingText.{entries_text, file_entries, holding_text}
+use Rattle.ffv1_hold.proofs.Common.{◌≡◌, ◌+◌, length, arith, refl, sym, ap, ◌∙◌, true≢false, Second, Reel, entries_text, file_entries, holding_text}
 use Rattle.ffv1_hold.proofs.Slots.{length-text}
 use Rattle.ffv1_hold.proofs.saving.fits_in_file.Goals.{After-config-config, After-room_after}
 use Rattle.ffv1_hold.proofs.saving.fits_in_file.Goals as goal
@@ -15,11 +11,6 @@ text_long : (c : After-room_after) → length (holding_text c.args.holding.now)
 text_long c =
     let text = length-text Second c.args.holding.now.reel (entries_text Second (file_entries c.args.holding.now)) in
     omega (arith, text, ap length (c.config-config.ensures ∙ ap (λ (r : Reel). r.config) c.reel.ensures.value))
-
-pub returns-then-config-clause-fits : goal.returns-then-config-clause-fits
-returns-then-config-clause-fits c =
-    let long = config_long (goal.at.returns-then-config-clause-fits c).After-config-config in
-    (λ no. absurd (true≢false (sym no)), λ fits. absurd (omega (arith, fits.0, c.if-config.true, long)))
 
 pub returns-in-Some-clause-fits : goal.returns-in-Some-clause-fits
 returns-in-Some-clause-fits c =

@@ -1,9 +1,4 @@
-use Rattle.std.proofs.Common.{◌≡◌, ◌<◌, ◌++◌, ◌+◌, length, arith, sym, ap, ◌∙◌, length-append}
-use Rattle.ffv1_hold.specs.declared.version.Version.TheVariants.{Second}
-use Rattle.ffv1_holding.specs.Reels.{reel_tiles}
-use Rattle.ffv1_holding.specs.Inner.TileSets.{tile_entries}
-use Rattle.ffv1_hold.specs.Inner.Saving.{tile_file_entries, file_entries_below}
-use Rattle.ffv1_hold.specs.HoldingText.{entries_text}
+use Rattle.ffv1_hold.proofs.Common.{common_steps, ◌≡◌, ◌<◌, ◌++◌, ◌+◌, length, arith, sym, ap, ◌∙◌, length-append, Second, reel_tiles, tile_entries, tile_file_entries, file_entries_below, entries_text}
 use Rattle.ffv1_hold.proofs.Slots.{entries_text-none}
 use Rattle.ffv1_hold.proofs.TileTexts.{text_below-more, text_goes_on, length-entries_text, file_entries_below-all}
 use Rattle.ffv1_hold.proofs.SavedTiles.{tile_within_limit}
@@ -11,9 +6,6 @@ use Rattle.ffv1_hold.proofs.saving.room_after.Goals as goal
 
 pub loop-tile-init : goal.loop-tile-init
 loop-tile-init c = omega (arith, ap length (entries_text-none Second))
-
-pub room_after_tile-requires-clause-tile : goal.room_after_tile-requires-clause-tile
-room_after_tile-requires-clause-tile c = omega (arith, c.loop-tile-test.true, c.tiles-tile-end.ensures.count, ap reel_tiles c.reel.ensures.value)
 
 pub room_after_tile-requires-clause-fits : goal.room_after_tile-requires-clause-fits
 room_after_tile-requires-clause-fits c = tile_within_limit c.args.holding.now c.requires.entries c.loop-tile.tile
@@ -45,9 +37,4 @@ returns-clause-some c =
     let n = reel_tiles h.reel in
     let same = ap reel_tiles c.reel.ensures.value in
     let end : c.loop-tile.tile ≡ n = omega (arith, c.loop-tile-test.false, c.loop-tile.auto.tile-end, c.tiles-tile-end.ensures.count) in
-    omega (
-      arith,
-      c.loop-tile.invariant,
-      ap (λ xs. length (entries_text Second xs))
-          (ap (file_entries_below h) end ∙ file_entries_below-all h n c.requires.entries.tile),
-    )
+    grind (arith, common_steps, file_entries_below-all)

@@ -1,7 +1,4 @@
-use Rattle.std.proofs.Common.{◌≡◌, ◌+◌, length}
-use Rattle.ffv1_hold.specs.declared.version.Version.TheVariants.{Second}
-use Rattle.ffv1_hold.specs.Inner.Saving.{file_entries_below}
-use Rattle.ffv1_hold.specs.HoldingText.{entries_text}
+use Rattle.ffv1_hold.proofs.Common.{◌≡◌, ◌+◌, length, Second, file_entries_below, entries_text}
 use Rattle.ffv1_hold.proofs.saving.room_after.Given as goal
 
 abbrev pub invariant-loop-tile : goal.invariant-loop-tile

@@ -1,10 +1,5 @@
-use Rattle.std.proofs.Common.{◌≡◌, ◌<◌, ◌+◌, ◌*◌, take, length, arith, ap, sym, ◌∙◌}
-use Rattle.std.proofs.lemmas.List.{take_all}
+use Rattle.ffv1_hold.proofs.Common.{common_steps, ◌≡◌, ◌<◌, ◌+◌, ◌*◌, take, length, arith, ap, sym, ◌∙◌, take_all, tile_slices, digests_of, size-items, tile_file_entries, entries_length}
 use Rattle.ffv1_holding.specs.Sets as set
-use Rattle.ffv1_holding.specs.TileSets.{tile_slices}
-use Rattle.ffv1_holding.specs.Contents.{digests_of}
-use Rattle.ffv1_holding.proofs.RisingSets.{size-items}
-use Rattle.ffv1_hold.specs.Inner.Saving.{tile_file_entries, entries_length}
 use Rattle.ffv1_hold.proofs.TileTexts.{own, entry_at, tile_count, entries_length-more, entries_length-part}
 use Rattle.ffv1_hold.proofs.saving.room_after_tile.Goals.{After-origins_at-origins}
 use Rattle.ffv1_hold.proofs.saving.room_after_tile.Goals as goal
@@ -29,8 +24,7 @@ taken c =
 pub returns-in_err-left-clause-none : goal.returns-in_err-left-clause-none
 returns-in_err-left-clause-none c =
     let long = taken (goal.at.returns-in_err-left-clause-none c).After-origins_at-origins in
-    rw c.from_residual.ensures
-    (omega (arith, c.in_err-left.ensures.none, long, c.loop-place.invariant, entries_length-part (tile_file_entries c.args.holding.now c.args.tile) (c.loop-place.place + 1)))
+    grind (arith, common_steps, entries_length-part)
 
 pub loop-place-preserved : goal.loop-place-preserved
 loop-place-preserved c =
@@ -39,9 +33,4 @@ loop-place-preserved c =
 pub returns-clause-some : goal.returns-clause-some
 returns-clause-some c =
     let es = tile_file_entries c.args.holding.now c.args.tile in
-    omega (
-      arith,
-      c.loop-place.invariant,
-      ap entries_length (take_all c.loop-place.place es
-          (omega (arith, c.loop-place-test.false, c.held-place-end.ensures, tile_count c.args.holding.now c.args.tile))),
-    )
+    grind (arith, common_steps, take_all, tile_count)

@@ -1,5 +1,4 @@
-use Rattle.std.proofs.Common.{◌≡◌, ◌+◌, take}
-use Rattle.ffv1_hold.specs.Inner.Saving.{tile_file_entries, entries_length}
+use Rattle.ffv1_hold.proofs.Common.{◌≡◌, ◌+◌, take, tile_file_entries, entries_length}
 use Rattle.ffv1_hold.proofs.saving.room_after_tile.Given as goal
 
 -- What is left, and the entries so far, are the room.

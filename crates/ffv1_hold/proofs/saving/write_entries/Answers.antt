@@ -1,11 +1,4 @@
-use Rattle.std.proofs.Common.{◌≡◌, ◌<◌, arith, sym, subst, ap, ◌∙◌}
-use Rattle.std.proofs.lemmas.Result.{err_from_is_err_and}
-use Rattle.ffv1_devices.specs.Logs.{Writes, StopsWriting}
-use Rattle.ffv1_devices.proofs.Steps.{Writes-nil, Writes-trans, StopsWriting-after, StopsWriting-of}
-use Rattle.ffv1_holding.specs.Reels.{reel_tiles}
-use Rattle.ffv1_hold.specs.declared.version.Version.TheVariants.{Second}
-use Rattle.ffv1_hold.specs.Inner.Saving.{file_entries_below}
-use Rattle.ffv1_hold.specs.HoldingText.{entries_text}
+use Rattle.ffv1_hold.proofs.Common.{◌≡◌, ◌<◌, arith, sym, subst, ap, ◌∙◌, err_from_is_err_and, Writes, StopsWriting, Writes-nil, Writes-trans, StopsWriting-after, StopsWriting-of, reel_tiles, Second, file_entries_below, entries_text}
 use Rattle.ffv1_hold.proofs.Slots.{entries_text-none}
 use Rattle.ffv1_hold.proofs.TileTexts.{text_below-more, text_goes_on, file_entries_below-all}
 use Rattle.ffv1_hold.proofs.SavedTiles.{tile_within_limit}
@@ -13,13 +6,6 @@ use Rattle.ffv1_hold.proofs.saving.write_entries.Goals as goal
 
 pub loop-tile-init : goal.loop-tile-init
 loop-tile-init g c = subst (Writes _ _) (sym (entries_text-none Second)) (Writes-nil _)
-
-pub write_tile-requires-clause-tile : goal.write_tile-requires-clause-tile
-write_tile-requires-clause-tile g c = omega (arith, c.loop-tile-test.true, c.tiles-tile-end.ensures.count, ap reel_tiles c.reel.ensures.value)
-
-pub write_tile-requires-clause-number : goal.write_tile-requires-clause-number
-write_tile-requires-clause-number g c =
-    omega (arith, c.loop-tile-test.true, c.tiles-tile-end.ensures.count, ap reel_tiles c.reel.ensures.value, c.requires.entries.few)
 
 pub write_tile-requires-clause-fits : goal.write_tile-requires-clause-fits
 write_tile-requires-clause-fits g c = tile_within_limit c.args.holding.now c.requires.entries c.loop-tile.tile

@@ -1,7 +1,4 @@
-use Rattle.ffv1_devices.specs.Logs.{Writes}
-use Rattle.ffv1_hold.specs.declared.version.Version.TheVariants.{Second}
-use Rattle.ffv1_hold.specs.Inner.Saving.{file_entries_below}
-use Rattle.ffv1_hold.specs.HoldingText.{entries_text}
+use Rattle.ffv1_hold.proofs.Common.{Writes, Second, file_entries_below, entries_text}
 use Rattle.ffv1_hold.proofs.saving.write_entries.Given as goal
 
 -- The entries of the tiles so far were written.

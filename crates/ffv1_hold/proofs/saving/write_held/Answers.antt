@@ -1,12 +1,5 @@
-use Rattle.std.proofs.Common.{◌<◌, length, subst, ap, sym, ◌∙◌, arith}
-use Rattle.std.proofs.lemmas.Result.{err_from_is_err_and}
-use Rattle.ffv1_devices.specs.Logs.{StopsWriting}
-use Rattle.ffv1_devices.specs.Results.{WritesAll}
-use Rattle.ffv1_devices.proofs.Steps.{StopsWriting-of, WritesAll-after}
+use Rattle.ffv1_hold.proofs.Common.{◌<◌, length, subst, ap, sym, ◌∙◌, arith, err_from_is_err_and, StopsWriting, WritesAll, StopsWriting-of, WritesAll-after, tile_slices, digests_of, size-items}
 use Rattle.ffv1_holding.specs.Sets as set
-use Rattle.ffv1_holding.specs.TileSets.{tile_slices}
-use Rattle.ffv1_holding.specs.Contents.{digests_of}
-use Rattle.ffv1_holding.proofs.RisingSets.{size-items}
 use Rattle.ffv1_hold.proofs.TileTexts.{held_spelled, held_there}
 use Rattle.ffv1_hold.proofs.saving.write_held.Goals as goal
 

@@ -1,13 +1,9 @@
-use Rattle.std.proofs.Common.{rules}
-use Rattle.ffv1_hold.proofs.SavedTiles.{holding_writable}
+use Rattle.ffv1_hold.proofs.Common.{rules}
 use Rattle.ffv1_hold.proofs.TileTexts.{fits_within}
 use Rattle.ffv1_hold.proofs.saving.write_hold.Goals as goal
 
 pub write_text-requires-clause-fits : goal.write_text-requires-clause-fits
 write_text-requires-clause-fits g c = fits_within c.args.holding.now c.fits_in_file.ensures.well_formed (c.if-not-fits_in_file.ensures.fits.0 (search rules))
-
-pub write_text-requires-clause-entries : goal.write_text-requires-clause-entries
-write_text-requires-clause-entries g c = holding_writable c.args.holding.now c.fits_in_file.ensures.well_formed
 
 pub returns-clause-saved : goal.returns-clause-saved
 returns-clause-saved g c = (

@@ -1,10 +1,4 @@
-use Rattle.std.proofs.Common.{subst, ap, ◌∙◌}
-use Rattle.std.proofs.lemmas.Result.{err_from_is_err_and}
-use Rattle.ffv1_devices.specs.Logs.{StopsWriting}
-use Rattle.ffv1_devices.specs.Results.{WritesAll}
-use Rattle.ffv1_devices.proofs.Steps.{StopsWriting-of, WritesAll-after}
-use Rattle.ffv1_hold.specs.HoldingText.{be4}
-use Rattle.ffv1_hold.specs.Inner.Merging.{digests_union}
+use Rattle.ffv1_hold.proofs.Common.{subst, ap, ◌∙◌, err_from_is_err_and, StopsWriting, WritesAll, StopsWriting-of, WritesAll-after, be4, digests_union}
 use Rattle.ffv1_hold.proofs.WrittenParts.{be4_spelled, origins_spelled}
 use Rattle.ffv1_hold.proofs.saving.write_origins.Goals as goal
 

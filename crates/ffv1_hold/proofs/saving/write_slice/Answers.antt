@@ -1,5 +1,4 @@
-use Rattle.std.proofs.Common.{subst}
-use Rattle.ffv1_devices.specs.Results.{WritesAll}
+use Rattle.ffv1_hold.proofs.Common.{subst, WritesAll}
 use Rattle.ffv1_hold.proofs.WrittenParts.{slice_spelled}
 use Rattle.ffv1_hold.proofs.saving.write_slice.Goals as goal
 

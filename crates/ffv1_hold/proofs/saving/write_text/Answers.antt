@@ -1,9 +1,4 @@
-use Rattle.std.proofs.Common.{[], ◌∷◌, subst, ap}
-use Rattle.std.proofs.lemmas.Result.{err_from_is_err_and}
-use Rattle.ffv1_devices.specs.Logs.{Writes, StopsWriting}
-use Rattle.ffv1_devices.proofs.Steps.{Writes-trans, StopsWriting-after, StopsWriting-of}
-use Rattle.ffv1_hold.specs.declared.version.Version.TheVariants.{Second}
-use Rattle.ffv1_hold.specs.HoldingText.{head_text, entries_text, file_entries}
+use Rattle.ffv1_hold.proofs.Common.{[], ◌∷◌, subst, ap, err_from_is_err_and, Writes, StopsWriting, Writes-trans, StopsWriting-after, StopsWriting-of, Second, head_text, entries_text, file_entries}
 use Rattle.ffv1_hold.proofs.saving.write_text.Goals as goal
 
 pub returns-in_err-write_head : goal.returns-in_err-write_head
@@ -23,8 +18,3 @@ returns-in_err-write_field g c =
     let p = err_from_is_err_and c.from_residual-in_err-write_field.result c.from_residual-in_err-write_field.ensures.1 in
     let head = subst (Writes _ _) (ap (head_text Second) c.reel.ensures.value) c.in_ok-write_head.ensures in
     rw p.1 (StopsWriting-after _ _ _ _ _ (Writes-trans _ _ _ _ _ head c.in_ok-write_entries.ensures) c.in_err-write_field.ensures)
-
-pub returns : goal.returns
-returns g c =
-    let head = subst (Writes _ _) (ap (head_text Second) c.reel.ensures.value) c.in_ok-write_head.ensures in
-    Writes-trans _ _ _ _ _ (Writes-trans _ _ _ _ _ head c.in_ok-write_entries.ensures) c.in_ok-write_field.ensures

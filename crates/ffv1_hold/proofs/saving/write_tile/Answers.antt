@@ -1,11 +1,4 @@
-use Rattle.std.proofs.Common.{◌<◌, ◌+◌, [], length, take, drop, arith, sym, subst, ap}
-use Rattle.std.proofs.lemmas.List.{take_all}
-use Rattle.std.proofs.lemmas.Result.{err_from_is_err_and}
-use Rattle.ffv1_devices.specs.Logs.{Writes, StopsWriting}
-use Rattle.ffv1_devices.proofs.Steps.{Writes-nil, Writes-trans, StopsWriting-after, StopsWriting-of}
-use Rattle.ffv1_hold.specs.declared.version.Version.TheVariants.{Second}
-use Rattle.ffv1_hold.specs.HoldingText.{FileEntry, entries_text}
-use Rattle.ffv1_hold.specs.Inner.Saving.{tile_file_entries}
+use Rattle.ffv1_hold.proofs.Common.{◌<◌, ◌+◌, [], length, take, drop, arith, sym, subst, ap, take_all, err_from_is_err_and, Writes, StopsWriting, Writes-nil, Writes-trans, StopsWriting-after, StopsWriting-of, Second, FileEntry, entries_text, tile_file_entries}
 use Rattle.ffv1_hold.proofs.Slots.{entries_text-none, entries_text-at, entries_text-more}
 use Rattle.ffv1_hold.proofs.TileTexts.{tile_count}
 use Rattle.ffv1_hold.proofs.saving.write_tile.Goals as goal

@@ -1,8 +1,4 @@
-use Rattle.std.proofs.Common.{take}
-use Rattle.ffv1_devices.specs.Logs.{Writes}
-use Rattle.ffv1_hold.specs.declared.version.Version.TheVariants.{Second}
-use Rattle.ffv1_hold.specs.HoldingText.{entries_text}
-use Rattle.ffv1_hold.specs.Inner.Saving.{tile_file_entries}
+use Rattle.ffv1_hold.proofs.Common.{take, Writes, Second, entries_text, tile_file_entries}
 use Rattle.ffv1_hold.proofs.saving.write_tile.Given as goal
 
 -- The entries so far were written.

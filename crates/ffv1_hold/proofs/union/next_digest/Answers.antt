@@ -1,8 +1,4 @@
-use Rattle.std.proofs.Common.{◌≡◌, sym, ◌∙◌}
-use Rattle.std.specs.declared.cmp.Ordering.{Ordering}
-use Rattle.std.specs.declared.cmp.Ordering.TheVariants.{Less, Equal, Greater}
-use Rattle.std.proofs.lemmas.List.{nil_from_length}
-use Rattle.ffv1_hold.specs.Inner.Merging.{digests_union}
+use Rattle.ffv1_hold.proofs.Common.{◌≡◌, sym, ◌∙◌, Ordering, Less, Equal, Greater, nil_from_length, digests_union}
 use Rattle.ffv1_hold.proofs.DigestUnions.{rest_rises, BeginsBy, begins_by, first_alone, first_other, union-none}
 use Rattle.ffv1_hold.proofs.union.next_digest.Goals.{After-cmp}
 use Rattle.ffv1_hold.proofs.union.next_digest.Goals as goal

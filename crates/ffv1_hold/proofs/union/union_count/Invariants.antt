@@ -1,6 +1,4 @@
-use Rattle.std.proofs.Common.{◌≡◌, ◌≤◌, ◌+◌, length}
-use Rattle.ffv1_holding.specs.Contents.{AreDigests}
-use Rattle.ffv1_hold.specs.Inner.Merging.{digests_union}
+use Rattle.ffv1_hold.proofs.Common.{◌≡◌, ◌≤◌, ◌+◌, length, AreDigests, digests_union}
 use Rattle.ffv1_hold.proofs.union.union_count.Given as goal
 
 -- The digests so far, and those of the union of what is left, are those of both.

@@ -1,13 +1,6 @@
-use Rattle.std.proofs.Common.{[], ◌++◌, refl, sym, ap, ◌∙◌, subst, append_assoc, append-nil}
-use Rattle.std.proofs.lemmas.Result.{err_from_is_err_and}
-use Rattle.ffv1_devices.specs.Logs.{Writes, StopsWriting}
-use Rattle.ffv1_devices.proofs.Steps.{Writes-nil, Writes-trans, StopsWriting-after, StopsWriting-of}
-use Rattle.ffv1_hold.specs.Inner.Merging.{digests_union}
+use Rattle.ffv1_hold.proofs.Common.{◌++◌, sym, ap, ◌∙◌, subst, append_assoc, err_from_is_err_and, StopsWriting, Writes-trans, StopsWriting-after, StopsWriting-of, digests_union}
 use Rattle.ffv1_hold.proofs.DigestTexts.{whole}
 use Rattle.ffv1_hold.proofs.union.write_union.Goals as goal
-
-pub loop-digest-init : goal.loop-digest-init
-loop-digest-init g c = record { written = ([], Writes-nil _, refl); left = c.requires.left; right = c.requires.right }
 
 pub returns-in_err-write_field : goal.returns-in_err-write_field
 returns-in_err-write_field g c =
@@ -32,8 +25,3 @@ loop-digest-preserved g c =
       left = c.in-Some.ensures.left_after;
       right = c.in-Some.ensures.right_after;
     }
-
-pub returns : goal.returns
-returns g c =
-    let w = c.loop-digest.invariant.written in
-    subst (Writes _ _) (sym (w.2 ∙ ap (λ ds. w.0 ++ whole ds) c.in_default.ensures.none ∙ append-nil w.0)) w.1

@@ -1,7 +1,4 @@
-use Rattle.std.proofs.Common.{◌≡◌, ◌+◌, ◌++◌, ℕ, List, length}
-use Rattle.ffv1_devices.specs.Logs.{Writes}
-use Rattle.ffv1_holding.specs.Contents.{AreDigests}
-use Rattle.ffv1_hold.specs.Inner.Merging.{digests_union}
+use Rattle.ffv1_hold.proofs.Common.{◌≡◌, ◌+◌, ◌++◌, ℕ, List, length, Writes, AreDigests, digests_union}
 use Rattle.ffv1_hold.proofs.DigestTexts.{whole}
 use Rattle.ffv1_hold.proofs.union.write_union.Given as goal
 

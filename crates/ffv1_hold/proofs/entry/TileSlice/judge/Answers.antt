@@ -1,7 +1,4 @@
-use Rattle.std.proofs.Common.{ℕ, List, ◌==◌, refl, sym, ◌∙◌, subst}
-use Rattle.std.proofs.lemmas.Bool.{eq-eqb}
-use Rattle.ffv1_slice.specs.Slices.{IsSliceOf}
-use Rattle.ffv1_holding.specs.SliceOrder.{Entry}
+use Rattle.ffv1_hold.proofs.Common.{ℕ, List, ◌==◌, refl, sym, ◌∙◌, subst, eq-eqb, IsSliceOf, Entry}
 use Rattle.ffv1_hold.proofs.entry.TileSlice.judge.Goals as goal
 
 -- a slice of its tile would have been read as that

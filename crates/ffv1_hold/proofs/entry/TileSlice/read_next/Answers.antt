@@ -1,15 +1,7 @@
-use Rattle.std.proofs.Common.{arith, refl, sym, subst, inl}
-use Rattle.std.proofs.lemmas.Result.{err_from_is_err_and}
-use Rattle.ffv1_hold.specs.Inner.Reading.{TakesText, IsShorter, Never}
-use Rattle.ffv1_hold.specs.FileFaults.{IsPartOfSlice, SliceIsTooLong}
-use Rattle.ffv1_hold.proofs.TextReads.{TakesText-trans, StopsAt-part, StopsAt-after, shown}
+use Rattle.ffv1_hold.proofs.Common.{arith, refl, sym, subst, err_from_is_err_and, TakesText, IsShorter, Never, IsPartOfSlice, SliceIsTooLong}
+use Rattle.ffv1_hold.proofs.TextReads.{TakesText-trans, StopsAt-after, shown}
 use Rattle.ffv1_hold.proofs.Bodies.{part_of_length, part_of_bytes, slice_text-of}
 use Rattle.ffv1_hold.proofs.entry.TileSlice.read_next.Goals as goal
-
-pub returns-in_err-tile-clause-read : goal.returns-in_err-tile-clause-read
-returns-in_err-tile-clause-read g c =
-    let p = err_from_is_err_and c.from_residual.result c.from_residual.ensures.1 in
-    rw (p.1, p.2) (StopsAt-part _ _ _ _ _ _ _ c.requires c.in_err-tile.ensures (λ s short. inl (omega (arith, short))))
 
 pub returns-in_err-length-clause-read : goal.returns-in_err-length-clause-read
 returns-in_err-length-clause-read g c =

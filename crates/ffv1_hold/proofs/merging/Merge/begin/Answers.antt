@@ -1,8 +1,4 @@
-use Rattle.std.proofs.Common.{◌≡◌, ℕ, ◌+◌, ◌-◌, ◌≤◌, IfSome, length, arith, ap, subst, ◌∙◌}
-use Rattle.ffv1_bits.specs.Limits.{file_limit, record_limit}
-use Rattle.ffv1_range.specs.Setup.{SetupValue}
-use Rattle.ffv1_hold.specs.FileEntries.{IsFileEntryOf}
-use Rattle.std.proofs.lemmas.Result.{err_from_is_err_and}
+use Rattle.ffv1_hold.proofs.Common.{common_steps, ◌≡◌, ℕ, ◌+◌, ◌-◌, ◌≤◌, length, arith, ap, ◌∙◌, file_limit, record_limit, err_from_is_err_and}
 use Rattle.ffv1_hold.proofs.JoinSteps.{AllGoOn-trans, OneStops-after, left_read, right_read, left_stops, right_stops, wrote, sink_stops}
 use Rattle.ffv1_hold.proofs.MergeStarts.{head_stops, first_left_stops, first_right_stops, left_held, right_held, opened_stands}
 use Rattle.ffv1_hold.proofs.MergeSteps.{same_version_entry}
@@ -61,10 +57,8 @@ returns g c =
     record {
       left_place = one.read.text.within;
       right_place = two.read.text.within;
-      left_entry = same_version_entry _ _ _ _ one.version
-          (subst (λ (s : SetupValue). IfSome c.advance.new.self.held (IsFileEntryOf c.args.self.now.lefts.version s)) c.setup.ensures.value one.entry);
-      right_entry = same_version_entry _ _ _ _ two.version
-          (subst (λ (s : SetupValue). IfSome c.advance-2.new.self.held (IsFileEntryOf c.args.self.now.rights.version s)) c.setup-2.ensures.value two.entry);
+      left_entry = grind (arith, common_steps, same_version_entry);
+      right_entry = grind (arith, common_steps, same_version_entry);
       room = within_file _ _ room;
       ok = λ s is o.
           let left = left_held s _ _ _ _ _ _ o _ _ _ _ _ c.setup.result.now c.requires.left_held is.left_is
@@ -75,6 +69,5 @@ returns g c =
             opened_stands s _ _ _ _ _ _ o _ _ _ _ _ _ _ _ left right head.bytes' room,
           );
       err = λ s is o. tt;
-      went = AllGoOn-trans _ _ _ _ _ _ (AllGoOn-trans _ _ _ _ _ _ (wrote _ _ _ _ _ _ head) (left_read _ _ _ _ _ _ _ _ one.read))
-          (right_read _ _ _ _ _ _ _ _ two.read);
+      went = grind (arith, common_steps, AllGoOn-trans, wrote, left_read, right_read);
     }

@@ -1,21 +1,7 @@
-use Rattle.std.proofs.Common.{◌<◌, arith, ap, le_refl, refl, ◌∙◌}
-use Rattle.std.proofs.lemmas.Result.{err_from_is_err_and}
-use Rattle.ffv1_holding.specs.Reels.{Reel}
-use Rattle.ffv1_hold.proofs.JoinSteps.{AllGoOn-trans, OneStops-after, wrote, sink_stops, inside}
+use Rattle.ffv1_hold.proofs.Common.{◌<◌, arith, ap, le_refl, ◌∙◌, err_from_is_err_and, Reel}
+use Rattle.ffv1_hold.proofs.JoinSteps.{AllGoOn-trans, OneStops-after, wrote, sink_stops}
 use Rattle.ffv1_hold.proofs.MergeStarts.{full_stops, end_stops, union_written, union_within}
 use Rattle.ffv1_hold.proofs.merging.Merge.merge_after_heads.Goals as goal
-
-pub returns-in_err-begin : goal.returns-in_err-begin
-returns-in_err-begin g c =
-    let p = err_from_is_err_and c.from_residual.result c.from_residual.ensures.1 in
-    let e = c.in_err-begin.ensures in
-    rw (p.1, p.2) (record { ok = λ s is o. tt; most = λ s is o. tt; err = e.err; went = e.went })
-
-pub returns-in_err-merge_entries-clause-err : goal.returns-in_err-merge_entries-clause-err
-returns-in_err-merge_entries-clause-err g c s is o =
-    let p = err_from_is_err_and c.from_residual-in_err-merge_entries.result c.from_residual-in_err-merge_entries.ensures.1 in
-    let at = c.in_ok-begin.ensures.ok s is o in
-    rw (p.1, p.2) (c.in_err-merge_entries.ensures.err s (c.setup.ensures.value ∙ ap (λ (x : Reel). x.setup) o.same) at.0 at.1)
 
 pub returns-in_err-merge_entries-clause-went : goal.returns-in_err-merge_entries-clause-went
 returns-in_err-merge_entries-clause-went g c =
@@ -26,10 +12,6 @@ pub returns-then-self-eq0-clause-err : goal.returns-then-self-eq0-clause-err
 returns-then-self-eq0-clause-err g c s is o =
     let at = c.in_ok-begin.ensures.ok s is o in
     full_stops s _ _ _ _ (c.in_ok-merge_entries.ensures.ok s (c.setup.ensures.value ∙ ap (λ (x : Reel). x.setup) o.same) at.0 at.1) c.if-self-eq0.true
-
-pub returns-then-self-eq0-clause-went : goal.returns-then-self-eq0-clause-went
-returns-then-self-eq0-clause-went g c =
-    inside _ _ _ _ _ (AllGoOn-trans _ _ _ _ _ _ c.in_ok-begin.ensures.went c.in_ok-merge_entries.ensures.went) (le_refl _) (le_refl _) refl refl
 
 pub returns-in_err-write_field-clause-err : goal.returns-in_err-write_field-clause-err
 returns-in_err-write_field-clause-err g c s is o =

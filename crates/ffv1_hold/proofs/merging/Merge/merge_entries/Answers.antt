@@ -1,12 +1,6 @@
-use Rattle.std.proofs.Common.{◌≡◌, ℕ, ◌+◌, ◌≤◌, subst, arith}
-use Rattle.ffv1_bits.specs.Limits.{file_limit}
-use Rattle.std.specs.declared.cmp.Ordering.TheVariants.{Less, Equal, Greater}
-use Rattle.std.proofs.lemmas.Result.{err_from_is_err_and}
-use Rattle.ffv1_hold.specs.Inner.Merging.{IsTurn}
-use Rattle.ffv1_hold.proofs.JoinSteps.{AllGoOn-trans, AllGoOn-to, OneStops-after, left_read, right_read, left_stops, right_stops, wrote, entry_stopped}
-use Rattle.ffv1_hold.proofs.MergeSteps.{entry_stops, left_shows_none, less_stands, greater_stands, equal_stands, left_refused, right_refused, left_now_shows_none, ends, same_version_entry, turn_written}
-use Rattle.std.specs.declared.cmp.Ordering.{Ordering}
-use Rattle.ffv1_hold.specs.MergeLogs.{AllGoOn}
+use Rattle.ffv1_hold.proofs.Common.{common_steps, ◌≡◌, ℕ, ◌+◌, ◌≤◌, subst, arith, file_limit, Less, Equal, Greater, err_from_is_err_and, IsTurn, Ordering, AllGoOn}
+use Rattle.ffv1_hold.proofs.JoinSteps.{AllGoOn-trans, OneStops-after, left_read, right_read, left_stops, right_stops, wrote, entry_stopped}
+use Rattle.ffv1_hold.proofs.MergeSteps.{entry_stops, left_shows_none, less_stands, greater_stands, equal_stands, left_refused, right_refused, left_now_shows_none, ends, same_version_entry}
 use Rattle.ffv1_hold.proofs.merging.Merge.merge_entries.Given.{Over}
 use Rattle.ffv1_hold.proofs.merging.Merge.merge_entries.Goals.{In_ok-write_entry}
 use Rattle.ffv1_hold.proofs.merging.Merge.merge_entries.Goals as goal
@@ -54,8 +48,7 @@ loop-entry-preserved-in-Continue-branch-2 g c =
       right_place = inv.right_place;
       left_entry = same_version_entry _ _ _ _ read.version read.entry;
       right_entry = inv.right_entry;
-      went = AllGoOn-trans _ _ _ _ _ _ (went_on g (goal.at.loop-entry-preserved-in-Continue-branch-2 g c).In_ok-write_entry)
-          (left_read _ _ _ _ _ _ _ _ read.read);
+      went = grind (arith, common_steps, AllGoOn-trans, went_on, left_read);
     }
 
 pub returns-in_err-advance-in-Less-clause-err : goal.returns-in_err-advance-in-Less-clause-err
@@ -90,8 +83,7 @@ loop-entry-preserved-in-Continue-branch-3 g c =
       right_place = read.read.text.within;
       left_entry = inv.left_entry;
       right_entry = same_version_entry _ _ _ _ read.version read.entry;
-      went = AllGoOn-trans _ _ _ _ _ _ (went_on g (goal.at.loop-entry-preserved-in-Continue-branch-3 g c).In_ok-write_entry)
-          (right_read _ _ _ _ _ _ _ _ read.read);
+      went = grind (arith, common_steps, AllGoOn-trans, went_on, right_read);
     }
 
 pub returns-in_err-advance-in-Greater-clause-err : goal.returns-in_err-advance-in-Greater-clause-err
@@ -161,24 +153,10 @@ loop-entry-preserved g c =
       right_place = also.read.text.within;
       left_entry = same_version_entry _ _ _ _ read.version read.entry;
       right_entry = same_version_entry _ _ _ _ also.version also.entry;
-      went = AllGoOn-trans _ _ _ _ _ _ (AllGoOn-trans _ _ _ _ _ _ (went_on g (goal.at.loop-entry-preserved g c).In_ok-write_entry)
-          (left_read _ _ _ _ _ _ _ _ read.read)) (right_read _ _ _ _ _ _ _ _ also.read);
+      went = grind (arith, common_steps, AllGoOn-trans, went_on, left_read, right_read);
     }
 
 pub returns-clause-ok : goal.returns-clause-ok
 returns-clause-ok g c start same is first =
     let none = rw c.in_default.is at c.next_entry.ensures.none in
     ends start _ _ _ _ _ _ _ _ none.0 none.1 (c.loop-entry.invariant.stands start same is first).1
-
-pub write_entry-requires-clause-entry : goal.write_entry-requires-clause-entry
-write_entry-requires-clause-entry g c =
-    (turn_written _ _ c.args.setup.now c.loop-entry.self.lefts.held c.loop-entry.self.rights.held c.in-Some.entry.now c.in-Some.others.now c.in-Some.order
-    c.in-Some.ensures.some c.loop-entry.invariant.left_entry c.loop-entry.invariant.right_entry).0
-
-pub write_entry-requires-clause-others : goal.write_entry-requires-clause-others
-write_entry-requires-clause-others g c =
-    (turn_written _ _ c.args.setup.now c.loop-entry.self.lefts.held c.loop-entry.self.rights.held c.in-Some.entry.now c.in-Some.others.now c.in-Some.order
-    c.in-Some.ensures.some c.loop-entry.invariant.left_entry c.loop-entry.invariant.right_entry).1
-
-pub returns-clause-went : goal.returns-clause-went
-returns-clause-went g c = AllGoOn-to _ _ _ _ _ c.loop-entry.invariant.went c.loop-entry.invariant.left_place c.loop-entry.invariant.right_place

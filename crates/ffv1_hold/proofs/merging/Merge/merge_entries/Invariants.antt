@@ -1,8 +1,4 @@
-use Rattle.std.proofs.Common.{◌≡◌, ◌≤◌, IfSome}
-use Rattle.ffv1_bits.specs.Limits.{file_limit}
-use Rattle.ffv1_hold.specs.FileEntries.{IsFileEntryOf}
-use Rattle.ffv1_hold.specs.Inner.Merging.{Start, AreVersions, Stands}
-use Rattle.ffv1_hold.specs.MergeLogs.{AllGoOn}
+use Rattle.ffv1_hold.proofs.Common.{◌≡◌, ◌≤◌, IfSome, file_limit, IsFileEntryOf, Start, AreVersions, Stands, AllGoOn}
 use Rattle.ffv1_hold.proofs.merging.Merge.merge_entries.Given as goal
 
 -- Both inputs are read as far as what was written.
