@@ -1,7 +1,10 @@
 //! Range-coded planes of slices, worked by a program of its own.
 use ffv1_bits::GREATEST_SIDE;
 use ffv1_plane::{DifferenceFault, LinesFault, PlaneSize, RangeLines, read_range_planes};
-use ffv1_range::{RangeFault, Recording, Setup, SliceStart, read_slice_head};
+use ffv1_range::{
+    RangeDecoder, RangeEnd, RangeFault, Recording, Setup, SliceStart, read_head_fields,
+    read_slice_head,
+};
 use std::alloc::Global;
 
 /// Why a slice gives no planes.
@@ -288,4 +291,37 @@ fn a_setup_is_a_recording_of_the_profile(rt: HostRuntime) {
     assert!(rt; recording.coder() == 0);
     assert!(rt; recording.depth() == 8);
     assert!(rt; (recording.width(), recording.height()) == (3, 2));
+}
+
+/// How the slice of three gray samples of this content ends.
+fn end_of(recording: &Recording, content: &[u8]) -> Result<RangeEnd, RangeFault> {
+    let mut decoder = RangeDecoder::slice(content, recording.transitions())?;
+    let mut key = 128;
+    decoder.bit(&mut key)?;
+    read_head_fields(&mut decoder)?;
+    let mut row = [128; 32];
+    decoder.signed(&mut row)?;
+    decoder.signed(&mut row)?;
+    decoder.signed(&mut row)?;
+    decoder.end()
+}
+
+#[test]
+fn ends_are_clean_where_nothing_was_cut_or_added(rt: HostRuntime) {
+    let recording = Recording::read(rt.alloc(), &GRAY, 3, 1).expect(&rt, "a record");
+    let end = end_of(&recording, &[0xFC, 0x16, 0x48, 0x2C, 0xE5, 0x9E, 0xC4]).expect(&rt, "an end");
+    assert!(rt; end.is_clean());
+    // The last byte is missing.
+    let end = end_of(&recording, &[0xFC, 0x16, 0x48, 0x2C, 0xE5, 0x9E]).expect(&rt, "an end");
+    assert!(rt; (end.spare, end.is_clean()) == (0, false));
+    // A byte follows.
+    let end = end_of(
+        &recording,
+        &[0xFC, 0x16, 0x48, 0x2C, 0xE5, 0x9E, 0xC4, 0x55],
+    )
+    .expect(&rt, "an end");
+    assert!(rt; (end.spare, end.is_clean()) == (1, false));
+    // The last byte is another.
+    let end = end_of(&recording, &[0xFC, 0x16, 0x48, 0x2C, 0xE5, 0x9E, 0xC5]).expect(&rt, "an end");
+    assert!(rt; (end.spare, end.is_clean()) == (0, false));
 }

@@ -1,8 +1,9 @@
 -- What a range decoder stands for: how it reads, how long its content is, and where it is, or the fault that it met.
-use Rattle.std.specs.Prelude.{◌≡◌, ℕ, ◌+◌, ◌≤◌, ◌<◌, Bool, List, length, Result, Ok, Err, Option, Some, None, slice_index}
+use Rattle.std.specs.Prelude.{◌≡◌, ℕ, ◌+◌, ◌≤◌, ◌<◌, Bool, List, length, Result, Ok, Err, Option, Some, None, slice_index, ◌==◌, ◌&&◌, not, nat_lt}
 use Rattle.ffv1_range.specs.Results.{◌>>>◌}
 use Rattle.ffv1_range.specs.Coding.{Coder, Mode, bit_at, start_of}
 use Rattle.ffv1_range.specs.Transitions.{state_following, IsBitState}
+use Rattle.ffv1_range.specs.declared.coding.RangeEnd.{RangeEnd}
 use Rattle.ffv1_range.specs.declared.coding.RangeFault.{RangeFault}
 
 pub record Reader : Type 0 where
@@ -47,6 +48,15 @@ Starts mode content (Err e) = start_of mode.closed content ≡ Err e
 abbrev pub EndsAt : Reader → Result ℕ RangeFault → Type 0
 EndsAt r (Ok place) = (x : Bool × Coder) × (reads_bit r 129 ≡ Ok x) × (place + 1 + length x.1.rest ≡ r.total)
 EndsAt r (Err e) = reads_bit r 129 ≡ Err e
+
+-- The end of a slice of coder_type 1 or 2: one bit at state 129, the offset after it, and the bytes that were not read.
+abbrev pub EndsSo : Reader → Result RangeEnd RangeFault → Type 0
+EndsSo r (Ok end) = (c : Coder) × (reads_bit r 129 ≡ Ok (end.bit, c)) × (end.low ≡ c.low) × (end.spare ≡ length c.rest)
+EndsSo r (Err e) = reads_bit r 129 ≡ Err e
+
+-- An end is clean where no byte is spare, the bit is 0, and the offset is below 256.
+abbrev pub is_clean : RangeEnd → Bool
+is_clean end = (end.spare == 0) && (not end.bit && nat_lt end.low 256)
 
 -- what a coder keeps: the range has 9 to 16 bits, and the offset lies in it
 pub record IsCoder (range low : ℕ) : Type 0 where

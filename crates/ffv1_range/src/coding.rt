@@ -5,7 +5,7 @@ ghost use Rattle.std.specs.Prelude.{◌≡◌, ◌++◌, ◌∷◌, [], replicat
 ghost use Rattle.ffv1_range.specs.Coding.{start_of, started, bit_at, refilled, slot_at, record_mode, header_mode, sentinel_mode};
 ghost use Rattle.ffv1_range.specs.Forms.{ReadsForm, same_fault, slot_form};
 ghost use Rattle.ffv1_range.specs.Inner.Forms.{Gives};
-ghost use Rattle.ffv1_range.specs.Decoder.{reader_at, ReadsBit, KeepsFault, IsCoder, Starts, EndsAt};
+ghost use Rattle.ffv1_range.specs.Decoder.{reader_at, ReadsBit, KeepsFault, IsCoder, Starts, EndsAt, EndsSo, is_clean};
 ghost use Rattle.ffv1_range.specs.Views.{coder_of};
 
 use crate::transitions::{Transitions, standard};
@@ -20,6 +20,27 @@ pub enum RangeFault {
     Short,
     /// The exponent of a symbol would pass 31.
     SymbolTooLong,
+}
+
+/// How the values of a slice of coder_type 1 or 2 end.
+#[derive(Clone, Copy, Debug, PartialEq, Eq)]
+pub struct RangeEnd {
+    /// The bit at state 129 after the last sample.
+    pub bit: bool,
+    /// The offset in the range after that bit.
+    pub low: u32,
+    /// How many bytes were not read, the zero byte after the content among them.
+    pub spare: usize,
+}
+
+impl RangeEnd {
+    /// Whether it is the end that an encoder makes (own): the zero byte after the content was the last to be read, the bit is 0, and the content
+    /// is as short as can be. So the offset is below 256.
+    pub fn is_clean(&self) -> bool
+        ensures { result ≡ is_clean self.now }
+    {
+        self.spare == 0 && !self.bit && self.low < 256
+    }
 }
 
 /// The range, the offset in it, and the bytes still to come: those of the content, and zero bytes after them. It has whole words alone,
@@ -164,6 +185,31 @@ impl<'a> RangeDecoder<'a> {
         decoder.bit(&mut state)?;
         let Interval { rest, zeros, .. } = decoder.interval;
         Ok(decoder.total - rest.len() - zeros - 1)
+    }
+
+    /// Reads the bit at state 129 after the last sample of a slice of coder_type 1 or 2 (RFC 9043, section 3.8.1.1.1), and returns how the slice ends. Only in sentinel
+    /// mode.
+    ///
+    /// Refused with `Short` where that bit wants a byte past the content, or with the fault that was met before.
+    pub fn end(self) -> Result<RangeEnd, RangeFault>
+        requires { self.mode.closed ≡ false }
+        ensures { EndsSo self.entry result }
+    {
+        let _closed = self.closed;
+        let mut decoder = self;
+        let mut state = 129;
+        let bit = decoder.bit(&mut state)?;
+        let Interval {
+            low,
+            rest,
+            zeros,
+            ..
+        } = decoder.interval;
+        Ok(RangeEnd {
+            bit,
+            low: low as u32,
+            spare: rest.len() + zeros,
+        })
     }
 
     /// Reads one bit at a state (RFC 9043, section 3.8.1.1). The state becomes the one that follows the bit.

@@ -15,7 +15,7 @@ mod symbols;
 mod tables;
 mod transitions;
 
-pub use coding::{RangeDecoder, RangeFault};
+pub use coding::{RangeDecoder, RangeEnd, RangeFault};
 pub use fault::SetupFault;
 pub use grid::{Grid, TileRect, each_place_in_one_tile, each_tile_in_frame};
 pub use head::{
