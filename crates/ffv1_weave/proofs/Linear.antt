@@ -1,5 +1,5 @@
 -- What is left of bytes is a sum: what a choice changes of it rests on the choice, on what stood in its place, and on the place alone.
-use Rattle.ffv1_weave.proofs.Common.{◌≡◌, ℕ, ◌+◌, ◌-◌, ◌/◌, ◌%◌, ◌<◌, ◌≤◌, List, [], ◌∷◌, ◌++◌, length, get_or, take, drop, map, Bor, refl, sym, ap, ◌∙◌, subst, arith, All, slice_range, bit_xor, xor_comm, xor_self, length-drop, length-map, get_or-map, take_more, length-take-le, split_between, length-between, All-map, All-weaker, xor_twice, AreSameChanges, all_kept, all_changed, changes_append, remainder_changes, right_leaves_none, element_changes, PassesBy, Part, ArePartsFrom, IsFit, chosen, written, remainder_in, change_of, changes_of, changed, Check, Slice, Element, Record, Flac, Split, values_of}
+use Rattle.ffv1_weave.proofs.Common.{◌≡◌, ℕ, ◌+◌, ◌/◌, ◌%◌, ◌<◌, ◌≤◌, List, [], ◌∷◌, ◌++◌, length, get_or, take, drop, map, Bor, refl, sym, ap, ◌∙◌, subst, arith, All, slice_range, bit_xor, xor_comm, xor_self, length-drop, length-map, get_or-map, take_more, length-take-le, split_between, length-between, All-map, All-weaker, xor_twice, AreSameChanges, all_kept, all_changed, changes_append, remainder_changes, right_leaves_none, element_changes, PassesBy, Part, ArePartsFrom, IsFit, chosen, written, remainder_in, change_of, changes_of, changed, Check, Slice, Element, Record, Flac, Split, values_of}
 use Rattle.ffv1_weave.proofs.SplitSteps.{part_some}
 use Rattle.ffv1_weave.proofs.References.{value_at, length-values_of}
 use Rattle.ffv1_weave.proofs.Choices.{length-written, written_after, same_range, choice_of, choice_size, digit_below, fit_as, fit_head, fit_tail, fits_in}

@@ -1,4 +1,4 @@
-use Rattle.ffv1_hold.proofs.Common.{◌-◌, inl, [], arith, err_from_is_err_and}
+use Rattle.ffv1_hold.proofs.Common.{inl, [], arith, err_from_is_err_and}
 use Rattle.ffv1_hold.proofs.TextReads.{TakesText-nil, memory_stops}
 use Rattle.ffv1_hold.proofs.blocks.read_block.Goals as goal
 

@@ -1,4 +1,4 @@
-use Rattle.ffv1_splice.proofs.Common.{ℕ, ◌-◌, ◌≤◌, List, length, get_or, take, arith, refl, Contains, values_of, next_value, all_values, value_there, each_value, nowhere}
+use Rattle.ffv1_splice.proofs.Common.{ℕ, ◌≤◌, List, length, get_or, take, arith, refl, Contains, values_of, next_value, all_values, value_there, each_value, nowhere}
 use Rattle.ffv1_splice.proofs.ShortestSteps.{none_of_one, first_done, first_kept, first_more}
 use Rattle.ffv1_splice.proofs.shortest.first_between.Goals as goal
 use Rattle.ffv1_splice.proofs.shortest.first_between.Goals.{in-Some, in_default}

@@ -1,4 +1,4 @@
-use Rattle.ffv1_weave.proofs.Common.{◌≡◌, ℕ, ◌+◌, ◌<◌, List, [], ◌∷◌, ◌++◌, Bor, length, get_or, arith, ap, sym, ◌∙◌, subst, map_push, AreChoices, values_of}
+use Rattle.ffv1_weave.proofs.Common.{◌≡◌, ℕ, ◌<◌, List, [], ◌∷◌, ◌++◌, Bor, length, get_or, arith, ap, sym, ◌∙◌, subst, map_push, AreChoices, values_of}
 use Rattle.ffv1_weave.proofs.References.{value_at, length-values_of, nowhere}
 use Rattle.ffv1_weave.proofs.MostSteps.{Have, most_fewer, most_more, most_too, most_all}
 use Rattle.ffv1_weave.proofs.most.most_between.Goals as goal

@@ -1,4 +1,4 @@
-use Rattle.ffv1_weave.proofs.Common.{◌-◌, rules, slice_eq-Decides, Decides-eqb}
+use Rattle.ffv1_weave.proofs.Common.{rules, slice_eq-Decides, Decides-eqb}
 use Rattle.ffv1_weave.proofs.Choices.{same_range, range_at}
 use Rattle.ffv1_weave.proofs.segments.begins_streak.Goals as goal
 

@@ -1,4 +1,4 @@
-use Rattle.ffv1_weave.proofs.Common.{◌-◌, rules, cases_lt, get_or_past, slice_eq-Decides, Decides-eqb}
+use Rattle.ffv1_weave.proofs.Common.{rules, cases_lt, get_or_past, slice_eq-Decides, Decides-eqb}
 use Rattle.ffv1_weave.proofs.Choices.{same_range, range_at}
 use Rattle.ffv1_weave.proofs.segments.ends_streak.Goals as goal
 
