@@ -105,7 +105,7 @@ after_header r content read = start_read r content read.end >>> after_start r re
 header_of : RecordingValue → List ℕ → Bool → Result HeaderRead HeadFault
 header_of r content first = header_read Version3 (slice_mode r) (field_count r.has_alpha) (slice_bytes r content) first
 
-slice_header_found : (r : RecordingValue) (content : List ℕ) (first : Bool) (header : SliceHeader) (start : SliceStart)
+pub slice_header_found : (r : RecordingValue) (content : List ℕ) (first : Bool) (header : SliceHeader) (start : SliceStart)
     → slice_header_read r content first ≡ Ok (header, start) → IsSliceHeaderOf r content first header start
 unfolding after_start after_header header_of start_by samples_from
 slice_header_found r content first header start h =
@@ -130,7 +130,7 @@ slice_header_found r content first header start h =
           (header_leaves (slice_mode r) (field_count r.has_alpha) (slice_bytes r content) read.0.key read.0.fields read.0.end refl found.0)) on.1);
     }
 
-slice_header_run : (r : RecordingValue) (content : List ℕ) (first : Bool) (header : SliceHeader) (start : SliceStart)
+pub slice_header_run : (r : RecordingValue) (content : List ℕ) (first : Bool) (header : SliceHeader) (start : SliceStart)
     → IsSliceHeaderOf r content first header start → slice_header_read r content first ≡ Ok (header, start)
 unfolding after_start after_header header_of
 slice_header_run r content first header start h =

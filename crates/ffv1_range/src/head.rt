@@ -270,8 +270,29 @@ fn read_key(
 pub fn read_head_fields(decoder: &mut RangeDecoder<'_>) -> Result<[u32; HEAD_FIELDS], RangeFault>
     ensures { ReadsForm same_fault fields_form decoder.old tt result decoder.new tt }
 {
-    let [a, b, c, d, e, f, g, h, i, _] = read_fields(decoder, HEAD_FIELDS)?;
-    Ok([a, b, c, d, e, f, g, h, i])
+    let [
+        slice_x,
+        slice_y,
+        less_width,
+        less_height,
+        table_y,
+        table_c,
+        picture_structure,
+        sar_num,
+        sar_den,
+        _,
+    ] = read_fields(decoder, HEAD_FIELDS)?;
+    Ok([
+        slice_x,
+        slice_y,
+        less_width,
+        less_height,
+        table_y,
+        table_c,
+        picture_structure,
+        sar_num,
+        sar_den,
+    ])
 }
 
 /// So many fields of a header, and 0 after them.
@@ -297,11 +318,22 @@ fn slice_header(recording: &Recording, header: &HeaderFields) -> Result<SliceHea
     ensures { result ≡ slice_header_judged recording.now header.now.key (take (field_count recording.now.has_alpha) header.now.fields) }
 {
     let has_alpha = recording.has_alpha();
-    let [x, y, less_width, less_height, first, second, a, b, c, d] = header.fields;
+    let [
+        x,
+        y,
+        less_width,
+        less_height,
+        first,
+        second,
+        seventh,
+        eighth,
+        ninth,
+        tenth,
+    ] = header.fields;
     let (third, picture_structure, sar_num, sar_den) = if has_alpha {
-        (a, b, c, d)
+        (seventh, eighth, ninth, tenth)
     } else {
-        (0, a, b, c)
+        (0, seventh, eighth, ninth)
     };
     let grid = recording.grid();
     if !is_within(x, less_width, grid.across()) || !is_within(y, less_height, grid.down()) {
