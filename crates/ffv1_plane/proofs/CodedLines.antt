@@ -163,18 +163,18 @@ unfoldable pub AreRowsInOrder : (ℕ → ℕ) → List Line → Type 0
 AreRowsInOrder known [] = Unit {0}
 AreRowsInOrder known (line ∷ lines) = (line.row ≡ known line.plane) × AreRowsInOrder (row_more known line.plane) lines
 
-known_append : (known : ℕ → ℕ) (before lines : List Line) → rows_known known (before ++ lines) ≡ rows_known (rows_known known before) lines
+pub known_append : (known : ℕ → ℕ) (before lines : List Line) → rows_known known (before ++ lines) ≡ rows_known (rows_known known before) lines
 unfolding rows_known
 known_append known [] lines = refl
 known_append known (line ∷ before) lines = known_append (row_more known line.plane) before lines
 
-order_append : (known : ℕ → ℕ) (before lines : List Line) → AreRowsInOrder known before → AreRowsInOrder (rows_known known before) lines
+pub order_append : (known : ℕ → ℕ) (before lines : List Line) → AreRowsInOrder known before → AreRowsInOrder (rows_known known before) lines
     → AreRowsInOrder known (before ++ lines)
 unfolding rows_known AreRowsInOrder
 order_append known [] lines h k = k
 order_append known (line ∷ before) lines h k = (h.0, order_append (row_more known line.plane) before lines h.1 k)
 
-known_row : (known : ℕ → ℕ) (plane count n : ℕ) → rows_known known (lines_of_plane plane (suc count)) n ≡ cond (eqb n plane)
+pub known_row : (known : ℕ → ℕ) (plane count n : ℕ) → rows_known known (lines_of_plane plane (suc count)) n ≡ cond (eqb n plane)
     (suc (rows_known known (lines_of_plane plane count) n)) (rows_known known (lines_of_plane plane count) n)
 unfolding lines_of_plane rows_known row_more
 known_row known plane count n = ap (λ f. f n) (known_append known (lines_of_plane plane count) (line_at plane count ∷ []))

@@ -8,6 +8,7 @@ pub mod Fronts
 pub mod Halting
 pub mod OneLines
 pub mod OnePlane
+pub mod OneRange
 pub mod OneStuck
 pub mod Medians
 pub mod Pictures

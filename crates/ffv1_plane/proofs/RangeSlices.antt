@@ -176,7 +176,7 @@ new_count r sets sizes planes new = ap length new.lines ∙ length-map sizes (ne
 
 -- ---- whole orders
 
-orders_below : (is_rgb : Bool) (sizes : List PlaneSize) → AreBelow (length sizes) (lines_of is_rgb sizes)
+pub orders_below : (is_rgb : Bool) (sizes : List PlaneSize) → AreBelow (length sizes) (lines_of is_rgb sizes)
 orders_below true sizes = all_rows_below (length sizes) (height_at sizes 0)
 orders_below false sizes = planes_below (height_at sizes) (length sizes) (length sizes) (omega arith)
 
@@ -185,11 +185,11 @@ order_counts : (is_rgb : Bool) (sizes : List PlaneSize) (p : ℕ) → p < length
 order_counts true sizes p less same = count_all_rows (length sizes) (height_at sizes 0) p less ∙ sym (same refl)
 order_counts false sizes p less same = count_planes_in (height_at sizes) (length sizes) p less
 
-below_front : (n : ℕ) (xs ys : List Line) → AreBelow n (xs ++ ys) → AreBelow n xs
+pub below_front : (n : ℕ) (xs ys : List Line) → AreBelow n (xs ++ ys) → AreBelow n xs
 below_front n [] ys h = none
 below_front n (line ∷ xs) ys (followed less h) = followed less (below_front n xs ys h)
 
-below_middle : (n : ℕ) (xs ys : List Line) (line : Line) → AreBelow n (xs ++ (line ∷ ys)) → line.plane < n
+pub below_middle : (n : ℕ) (xs ys : List Line) (line : Line) → AreBelow n (xs ++ (line ∷ ys)) → line.plane < n
 below_middle n [] ys line (followed less h) = less
 below_middle n (x ∷ xs) ys line (followed less h) = below_middle n xs ys line h
 
@@ -257,6 +257,26 @@ part_of c rows plane p part samples there pushed = elim (cases_eq p plane) [
       ∙ sym (get_or-set_other (map (λ (row : RowsRead). row.samples) rows) plane p samples [] apart)
 ]
 
+-- samples of planes, one of them in part, have the bits of the depth
+part_small : (r : RecordingValue) (sets : List ℕ) (sizes : List PlaneSize) (planes : SlicePlanes) (rows : List RowsRead) (count : ℕ → ℕ) (plane : ℕ) (samples : List ℕ)
+    → AreNewPlanes r sets sizes planes → length rows ≡ length sizes → ((p : ℕ) → IsGrown (count p) (rows_at planes.lines.items p) (rows_at rows p))
+    → plane < length sizes → ((s : ℕ) → get_or samples s 0 < 2 ^ coded_depth_of r)
+    → (p : ℕ) → p < length sizes → (s : ℕ) → get_or (slice_index_or (with_part rows plane samples) p []) s 0 < 2 ^ coded_depth_of r
+part_small r sets sizes planes rows count plane samples new long grown inside small p less s = elim (cases_eq p plane) [
+  | inl same ↦
+      let there : plane < length (map (λ (row : RowsRead). row.samples) rows) = omega (arith, inside, long, length-map rows (λ (row : RowsRead). row.samples)) in
+      subst (λ l. get_or l s 0 < 2 ^ coded_depth_of r)
+      (sym (ap (λ q. slice_index_or (with_part rows plane samples) q []) same ∙ get_or-set_same (map (λ (row : RowsRead). row.samples) rows) plane samples [] there)) (small s)
+  | inr apart ↦
+      let old = new_row_at r sets sizes planes p new less in
+      let fresh : AreSmall (rows_at planes.lines.items p) = subst AreSmall (sym old) (λ s. pow_pos (coded_depth_of r)) in
+      let depth : (rows_at rows p).depth ≡ coded_depth_of r = (grown p).depth ∙ ap (λ z. z.depth) old in
+      let here : slice_index_or (with_part rows plane samples) p [] ≡ (rows_at rows p).samples =
+      get_or-set_other (map (λ (row : RowsRead). row.samples) rows) plane p samples [] apart
+      ∙ get_or-map (λ (row : RowsRead). row.samples) rows p no_rows [] (omega (arith, less, long)) in
+      subst (λ l. get_or l s 0 < 2 ^ coded_depth_of r) (sym here) (subst (λ d. get_or (rows_at rows p).samples s 0 < 2 ^ d) depth ((grown p).small fresh s))
+]
+
 same_coder : (at : Result Coder RangeFault) (a b : Coder) → at ≡ Ok a → at ≡ Ok b → b ≡ a
 same_coder at a b h k = same_ok b a (sym k ∙ h)
 
@@ -314,6 +334,9 @@ slice_is_cut r sets sizes planes reader fault plane row x new k =
       k.read.from,
       record {
         planes = others;
+        small =
+            part_small r sets sizes planes k.planes (λ p. count_in p k.done) plane q.samples new count k.read.grown inside
+            (λ s. subst (λ d. get_or q.samples s 0 < 2 ^ d) row_depth (q.small s));
         done = k.done;
         later = k.later;
         order = k.order;

@@ -11,4 +11,5 @@ pub mod RangeRows
 pub mod RangeLines
 pub mod RangeSlices
 pub mod RangeReading
+pub mod RangeLaws
 pub mod Inner

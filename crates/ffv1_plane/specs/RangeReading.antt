@@ -48,3 +48,11 @@ abbrev pub IsSliceFaultOf : SliceShape → RangeLines → LinesFault → Type 0
 IsSliceFaultOf shape reader (lines_faults.Sample fault plane y x) =
     (start : Coder) × (reader.decoder.at ≡ Ok start) × AreLinesStuck reader.decoder.mode shape start (group_states reader) fault plane y x
 IsSliceFaultOf shape reader lines_faults.Memory = Unit {0}
+
+-- These planes are coded where a reader is.
+pub record AreCodedAt (shape : SliceShape) (reader : RangeLines) (planes : List (List ℕ)) : Type 0 where
+  pub start : Coder
+  pub from : reader.decoder.at ≡ Ok start
+  pub end : Coder
+  pub after : ℕ → List (List ℕ)
+  pub coded : ArePlanesCoded reader.decoder.mode shape start (group_states reader) planes end after

@@ -1,5 +1,5 @@
 -- The coded planes of a slice of coder_type 1 or 2, and where they are coded (RFC 9043, sections 3.8.1 and 4.7).
-use Rattle.std.specs.Prelude.{◌≡◌, ℕ, ◌+◌, ◌*◌, ◌<◌, ◌==◌, ◌&&◌, not, nat_lt, Bool, List, [], length, get_or, slice_index, slice_index_or, nat_abs, ◌∷◌, ◌++◌, Err, if◌then◌else◌}
+use Rattle.std.specs.Prelude.{◌≡◌, ℕ, ◌+◌, ◌*◌, ◌^◌, ◌<◌, ◌==◌, ◌&&◌, not, nat_lt, Bool, List, [], length, get_or, slice_index, slice_index_or, nat_abs, ◌∷◌, ◌++◌, Err, if◌then◌else◌}
 use Rattle.ffv1_range.specs.Coding.{Mode, Coder, PlaceOf}
 use Rattle.ffv1_range.specs.Rows.{Rows, IsRowsRun}
 use Rattle.ffv1_range.specs.Setup.{RecordingValue, set_entry}
@@ -107,10 +107,11 @@ pub record ArePlanesCoded (mode : Mode) (shape : SliceShape) (start : Coder) (be
 
 -- ---- where the planes can't be read on
 
--- The content is stuck at a sample: for some samples of the planes, the lines before its line are coded up to a place, the samples before it in the line from
+-- The content is stuck at a sample: for some samples of the planes, which have the bits of the depth, the lines before its line are coded up to a place, the samples before it in the line from
 -- there up to another, and its difference is refused there, for this fault.
 pub record AreLinesStuck (mode : Mode) (shape : SliceShape) (start : Coder) (before : ℕ → List (List ℕ)) (fault : DifferenceFault) (plane row x : ℕ) : Type 0 where
   pub planes : List (List ℕ)
+  pub small : (p : ℕ) → p < length shape.sizes → (s : ℕ) → get_or (slice_index_or planes p []) s 0 < 2 ^ coded_depth_of shape.recording
   pub done : List Line
   pub later : List Line
   pub order : coded_lines shape ≡ done ++ line_at plane row ∷ later

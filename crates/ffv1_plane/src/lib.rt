@@ -11,7 +11,9 @@ mod tables;
 mod tile;
 
 pub use neighbours::Neighbours;
-pub use planes::{LinesFault, PlaneSize, RangeLines, read_range_planes};
+pub use planes::{
+    LinesFault, PlaneSize, RangeLines, one_range_fault, one_range_reading, read_range_planes,
+};
 pub use range_rows::DifferenceFault;
 pub use tables::Tables;
 pub use tile::{

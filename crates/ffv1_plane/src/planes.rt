@@ -1,12 +1,14 @@
 //! The planes of a slice that are read together, line by line in coded order (RFC 9043, section 4.7).
-ghost use Rattle.std.specs.Prelude.{◌≡◌, ◌<◌, ◌≤◌, ◌+◌, ◌*◌, ◌∷◌, [], ℕ, IsOk, IfOk, IfErr, IsTrue, OnOk, List, length, map, replicate, slice_index, nat_lt, if◌then◌else◌};
+ghost use Rattle.std.specs.Prelude.{◌≡◌, ◌<◌, ◌≤◌, ◌+◌, ◌*◌, ◌∷◌, [], ℕ, IsOk, IfOk, IfErr, IsTrue, MatchResult, OnOk, List, length, map, replicate, slice_index, nat_lt, if◌then◌else◌};
 ghost use Rattle.std.specs.List.{All};
 ghost use Rattle.ffv1_range.specs.Setup.{set_contexts};
 ghost use Rattle.ffv1_plane.specs.Lines.{line_at, lines_of_plane, plane_after_plane, lines_of_row, row_after_row};
 ghost use Rattle.ffv1_plane.specs.Inner.RangeLines.{rows_at, AreLinesRead};
 ghost use Rattle.ffv1_plane.specs.RangeSlices.{slice_shape, slice_group, are_signed, height_at, lines_of};
 ghost use Rattle.ffv1_plane.specs.Inner.Planes.{group_number, coding_of_planes, lines_reader, HaveStates, IsFresh, AreNewPlanes, HaveRead, lines_fault, IsLinesFaultOf};
-ghost use Rattle.ffv1_plane.specs.RangeReading.{IsPlaneSize, group_states, start_states, HaveSliceStates, IsSliceRead, IsSliceFaultOf};
+ghost use Rattle.ffv1_plane.specs.RangeLaws.{OneRangeReading, StuckRangeCodesNothing, StuckRangeIsOne};
+ghost use Rattle.ffv1_plane.specs.RangeReading.{IsPlaneSize, group_states, start_states, HaveSliceStates, IsSliceRead, IsSliceFaultOf, AreCodedAt};
+ghost use Rattle.ffv1_plane.specs.declared.planes.LinesFault.TheVariants as LinesFault;
 
 use crate::lines::Lines;
 use crate::range_rows::{DifferenceFault, RowFault, read_range_row};
@@ -414,7 +416,12 @@ pub fn read_range_planes<'a>(
     requires states { HaveSliceStates (slice_shape recording.now sets.now sizes.now) reader }
     ensures read { IfOk result (λ read. IsSliceRead (slice_shape recording.now sets.now sizes.now) reader.entry read.0 (map (λ plane. plane.items) read.1.items)) }
     ensures err { IfErr result (IsSliceFaultOf (slice_shape recording.now sets.now sizes.now) reader.entry) }
+
+    // Wherever the content codes planes, these are returned, or Memory.
+    ensures found { (planes : List (List ℕ)) → AreCodedAt (slice_shape recording.now sets.now sizes.now) reader.entry planes
+        → MatchResult result (λ read. map (λ plane. plane.items) read.1.items ≡ planes) (λ fault. fault ≡ LinesFault.Memory) }
 {
+    recording.keeps_version_3();
     let Ok(mut planes) = SlicePlanes::new(alloc, recording, sets, sizes) else {
         return Err(LinesFault::Memory);
     };
@@ -424,3 +431,14 @@ pub fn read_range_planes<'a>(
     };
     Ok((reader, samples))
 }
+
+/// No content codes two lists of planes of a slice.
+pub fn one_range_reading()
+    ensures { OneRangeReading }
+{}
+
+/// A content that is stuck codes no planes, and is stuck with one fault at one sample.
+pub fn one_range_fault()
+    ensures nothing { StuckRangeCodesNothing }
+    ensures one { StuckRangeIsOne }
+{}

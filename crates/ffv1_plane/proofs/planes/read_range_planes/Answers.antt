@@ -4,6 +4,7 @@ use Rattle.ffv1_plane.specs.RangeSlices.{slice_shape, lines_of}
 use Rattle.ffv1_plane.specs.Inner.Planes.{coding_of_planes, lines_reader, HaveRead, IsLinesFaultOf}
 use Rattle.ffv1_plane.specs.RangeReading.{IsSliceRead}
 use Rattle.ffv1_plane.proofs.RangeSlices.{have_states, are_fresh, new_count, slice_is_read, slice_fault_of}
+use Rattle.ffv1_plane.proofs.OneRange.{found_is_read, found_not_refused}
 use Rattle.ffv1_plane.proofs.planes.read_range_planes.Goals as goal
 
 pub read_all-requires-clause-states : goal.read_all-requires-clause-states
@@ -34,3 +35,17 @@ returns-clause-read c =
     c.requires.states (λ p less is. c.requires.same is p less)
     (subst (λ b. HaveRead c.in-Ok.planes c.args.reader (lines_of b c.args.sizes.now) c.read_all.new.self c.in_ok-reader.reader) c.is_rgb.ensures
     c.in_ok-reader.ensures.read))
+
+pub returns-in_err-reader-clause-found : goal.returns-in_err-reader-clause-found
+returns-in_err-reader-clause-found c = λ planes coded.
+    let p = err_from_is_err_and c.from_residual.result c.from_residual.ensures.1 in
+    rw (p.1, p.2)
+    (found_not_refused c.args.recording.now c.args.sets.now c.args.sizes.now c.args.reader planes _ c.keeps_version_3.ensures c.requires.sizes
+    (slice_fault_of c.args.recording.now c.args.sets.now c.args.sizes.now c.in-Ok.planes c.args.reader _ c.in-Ok.ensures
+    (subst (λ b. IsLinesFaultOf (coding_of_planes c.in-Ok.planes) (lines_of b c.args.sizes.now) c.in-Ok.planes.lines.items (lines_reader c.args.reader) c.in_err-reader.field-0.0)
+    c.is_rgb.ensures c.in_err-reader.ensures.err)) coded)
+
+pub returns-clause-found : goal.returns-clause-found
+returns-clause-found c = λ planes coded.
+    found_is_read c.args.recording.now c.args.sets.now c.args.sizes.now c.args.reader c.in_ok-reader.reader planes _ c.keeps_version_3.ensures c.requires.sizes
+    (λ is p less. c.requires.same is p less) (returns-clause-read c) coded
