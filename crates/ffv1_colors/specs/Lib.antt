@@ -1,3 +1,4 @@
 pub mod Colors
 pub mod Views
+pub mod Planes
 pub mod Inner

@@ -34,7 +34,7 @@ pub struct OutsideDepth {
 pub struct ColorCoding {
     depth: u32,
     /// 2^depth.
-    offset: u32,
+    pub(crate) offset: u32,
     is_swapped: bool,
 }
 

@@ -2,5 +2,7 @@
 #![tactic(auto)]
 
 mod coding;
+mod planes;
 
 pub use coding::{CodedColor, Color, ColorCoding, OutsideDepth, coded_colors_fit, colors_are_back};
+pub use planes::{CodedPlanes, ColorPlanes, ColorsFault};

@@ -1,5 +1,5 @@
 //! The colours of RGB: rows by the standard's formulas, and coded samples that no colour has.
-use ffv1_colors::{CodedColor, Color, ColorCoding, OutsideDepth};
+use ffv1_colors::{CodedColor, CodedPlanes, Color, ColorCoding, ColorsFault, OutsideDepth};
 
 /// Green, blue and red, the bits of a sample, whether there is alpha, and the three coded samples.
 const CODED: [((u32, u32, u32), u32, bool, (u32, u32, u32)); 9] = [
@@ -73,4 +73,30 @@ fn colors_are_coded(rt: HostRuntime) {
         coded_color((17, 65546, 65556)),
     );
     assert_eq!(rt; coded, wanted);
+}
+
+#[test]
+fn planes_have_the_colors_of_their_places(rt: HostRuntime) {
+    let coded = CodedPlanes {
+        luma: &[17, 127],
+        blue_difference: &[266, 1],
+        red_difference: &[276, 1],
+    };
+    let planes = coding_of(8, false)
+        .planes_of(rt.alloc(), &coded)
+        .expect(&rt, "planes");
+    assert!(rt; planes.green.as_slice() == [10, 255].as_slice());
+    assert!(rt; planes.blue.as_slice() == [20, 0].as_slice());
+    assert!(rt; planes.red.as_slice() == [30, 0].as_slice());
+}
+
+#[test]
+fn first_place_without_a_color_is_reported(rt: HostRuntime) {
+    let coded = CodedPlanes {
+        luma: &[17, 255, 10],
+        blue_difference: &[266, 257, 506],
+        red_difference: &[276, 256, 256],
+    };
+    let refused = coding_of(8, false).planes_of(rt.alloc(), &coded);
+    assert!(rt; refused.err() == Some(ColorsFault::Outside { place: 1, plane: 1 }));
 }
