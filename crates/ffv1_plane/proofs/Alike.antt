@@ -38,7 +38,7 @@ kept true n g h same = ap (λ x. x ∷ []) same
 kept false n g h same = refl
 
 -- lists of samples on which two tests and two values agree
-values_alike : (n : ℕ) (p q : ℕ → Bool) (g h : ℕ → ℤ) → ((j : ℕ) → j < n → p j ≡ q j) → ((j : ℕ) → j < n → g j ≡ h j)
+pub values_alike : (n : ℕ) (p q : ℕ → Bool) (g h : ℕ → ℤ) → ((j : ℕ) → j < n → p j ≡ q j) → ((j : ℕ) → j < n → g j ≡ h j)
     → map g (filter p (columns_before n)) ≡ map h (filter q (columns_before n))
 unfolding columns_before
 values_alike zero p q g h tests values = refl

@@ -30,11 +30,11 @@ count_in-append p (line ∷ xs) ys =
 
 -- ---- planes that have grown
 
-grown_none : (rows : RowsRead) → IsGrown 0 rows rows
+pub grown_none : (rows : RowsRead) → IsGrown 0 rows rows
 grown_none rows =
     record { depth = refl; width = refl; ended = λ h. h; small = λ h. h; samples = []; pushed = sym (append-nil rows.samples); longer = (let none : 0 ≡ 0 * rows.width = omega arith in none) }
 
-grown_both : (m n : ℕ) (a b c : RowsRead) → IsGrown m a b → IsGrown n b c → IsGrown (m + n) a c
+pub grown_both : (m n : ℕ) (a b c : RowsRead) → IsGrown m a b → IsGrown n b c → IsGrown (m + n) a c
 grown_both m n a b c h k =
     record {
       depth = k.depth ∙ h.depth;
@@ -49,7 +49,7 @@ grown_both m n a b c h k =
     }
 
 -- a plane with what it has grown by, and more
-plane_same : (c : PlanesCoding) (p n : ℕ) (old new : RowsRead) (more : List ℕ) (h : IsGrown n old new)
+pub plane_same : (c : PlanesCoding) (p n : ℕ) (old new : RowsRead) (more : List ℕ) (h : IsGrown n old new)
     → plane_with c p old (h.samples ++ more) ≡ plane_with c p new more
 plane_same c p n old new more h =
     let lists : old.samples ++ (h.samples ++ more) ≡ new.samples ++ more =
@@ -150,11 +150,11 @@ cut_before c xs ys old r fault plane row x k =
 
 -- ---- one line
 
-count_here : (p row : ℕ) → count_in p (line_at p row ∷ []) ≡ 1
+pub count_here : (p row : ℕ) → count_in p (line_at p row ∷ []) ≡ 1
 unfolding count_in
 count_here p row = ap (λ b. (if b then 1 else 0) + 0) (eq-eqb p p refl)
 
-count_other : (p q row : ℕ) → p ≢ q → count_in q (line_at p row ∷ []) ≡ 0
+pub count_other : (p q row : ℕ) → p ≢ q → count_in q (line_at p row ∷ []) ≡ 0
 unfolding count_in
 count_other p q row apart = ap (λ b. (if b then 1 else 0) + 0) (ne_eqb p q apart)
 

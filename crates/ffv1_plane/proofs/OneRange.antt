@@ -185,11 +185,11 @@ order_all_rows count (suc height) =
     order_append none_known (row_after_row count height) (lines_of_row height count) (order_all_rows count height)
     (rows_order (rows_known none_known (row_after_row count height)) height count (λ p less. known_all_rows count height p less))
 
-lines_order : (is_rgb : Bool) (sizes : List PlaneSize) → AreRowsInOrder none_known (lines_of is_rgb sizes)
+pub lines_order : (is_rgb : Bool) (sizes : List PlaneSize) → AreRowsInOrder none_known (lines_of is_rgb sizes)
 lines_order true sizes = order_all_rows (length sizes) (height_at sizes 0)
 lines_order false sizes = order_planes (height_at sizes) (length sizes)
 
-lines_known : (is_rgb : Bool) (sizes : List PlaneSize) (p : ℕ) → p < length sizes → (is_rgb ≡ true → height_at sizes p ≡ height_at sizes 0)
+pub lines_known : (is_rgb : Bool) (sizes : List PlaneSize) (p : ℕ) → p < length sizes → (is_rgb ≡ true → height_at sizes p ≡ height_at sizes 0)
     → rows_known none_known (lines_of is_rgb sizes) p ≡ height_at sizes p
 lines_known true sizes p less same = known_all_rows (length sizes) (height_at sizes 0) p less ∙ sym (same refl)
 lines_known false sizes p less same = known_planes (height_at sizes) (length sizes) p less
@@ -251,17 +251,17 @@ module _ (r : RecordingValue) (sets : List ℕ) (sizes : List PlaneSize) (mode :
 -- ---- whole slices
 
 -- rows of states with these of each group
-rows_with : (ℕ → List (List ℕ)) → Rows
+pub rows_with : (ℕ → List (List ℕ)) → Rows
 rows_with states k = get_or (states (k % 3)) (k / 3) []
 
-has_rows : (states : ℕ → List (List ℕ)) → HasGroups (rows_with states) states
+pub has_rows : (states : ℕ → List (List ℕ)) → HasGroups (rows_with states) states
 unfolding rows_with
 has_rows states group small k inside =
     let rest : state_row group k % 3 ≡ group = omega arith in
     let quotient : state_row group k / 3 ≡ k = omega arith in
     ap (λ g. get_or (states g) (state_row group k / 3) []) rest ∙ ap (λ n. get_or (states group) n []) quotient
 
-coded_depth_deep : (r : RecordingValue) → IsInVersion3 r → IsCodedDepth (coded_depth_of r)
+pub coded_depth_deep : (r : RecordingValue) → IsInVersion3 r → IsCodedDepth (coded_depth_of r)
 coded_depth_deep r version = either r.is_rgb
   where
     either : (b : Bool) → IsCodedDepth (r.depth + (if b then 1 else 0))

@@ -96,7 +96,7 @@ group_small has_chroma p = three (eqb p 0) (has_chroma && nat_lt p 3)
     three false true = lit< tt
     three false false = lit< tt
 
-tables_of_group : (r : RecordingValue) (sets : List ℕ) (sizes : List PlaneSize) (planes : SlicePlanes) (group : ℕ) → group < 3 → AreNewPlanes r sets sizes planes
+pub tables_of_group : (r : RecordingValue) (sets : List ℕ) (sizes : List PlaneSize) (planes : SlicePlanes) (group : ℕ) → group < 3 → AreNewPlanes r sets sizes planes
     → group_tables planes group ≡ record { setup = r.setup; set = slice_index sets group }
 tables_of_group r sets sizes planes zero h new = new.luma
 tables_of_group r sets sizes planes (suc zero) h new = new.chroma
@@ -105,7 +105,7 @@ tables_of_group r sets sizes planes (suc (suc (suc group))) h new = absurd (omeg
 
 -- ---- planes
 
-new_row_at : (r : RecordingValue) (sets : List ℕ) (sizes : List PlaneSize) (planes : SlicePlanes) (p : ℕ) → AreNewPlanes r sets sizes planes → p < length sizes
+pub new_row_at : (r : RecordingValue) (sets : List ℕ) (sizes : List PlaneSize) (planes : SlicePlanes) (p : ℕ) → AreNewPlanes r sets sizes planes → p < length sizes
     → rows_at planes.lines.items p ≡ new_rows (coded_depth_of r) (size_at sizes p)
 new_row_at r sets sizes planes p new h =
     ap (λ l. get_or l p no_rows) new.lines ∙ get_or-map (new_rows (coded_depth_of r)) sizes p no_size no_rows h
@@ -129,7 +129,7 @@ module _ (r : RecordingValue) (sets : List ℕ) (sizes : List PlaneSize) (planes
       }
 
 -- a plane of a slice that is partly read
-part_is_read : (r : RecordingValue) (sets : List ℕ) (sizes : List PlaneSize) (planes : SlicePlanes) (rows : List RowsRead) (n p : ℕ) (more : List ℕ)
+pub part_is_read : (r : RecordingValue) (sets : List ℕ) (sizes : List PlaneSize) (planes : SlicePlanes) (rows : List RowsRead) (n p : ℕ) (more : List ℕ)
     (others : List (List ℕ)) → AreNewPlanes r sets sizes planes → p < length sizes → IsGrown n (rows_at planes.lines.items p) (rows_at rows p)
     → (rows_at rows p).samples ++ more ≡ slice_index_or others p []
     → plane_with (coding_of_planes planes) p (rows_at rows p) more ≡ slice_plane (slice_shape r sets sizes) others p
@@ -180,7 +180,7 @@ pub orders_below : (is_rgb : Bool) (sizes : List PlaneSize) → AreBelow (length
 orders_below true sizes = all_rows_below (length sizes) (height_at sizes 0)
 orders_below false sizes = planes_below (height_at sizes) (length sizes) (length sizes) (omega arith)
 
-order_counts : (is_rgb : Bool) (sizes : List PlaneSize) (p : ℕ) → p < length sizes
+pub order_counts : (is_rgb : Bool) (sizes : List PlaneSize) (p : ℕ) → p < length sizes
     → (is_rgb ≡ true → height_at sizes p ≡ height_at sizes 0) → count_in p (lines_of is_rgb sizes) ≡ height_at sizes p
 order_counts true sizes p less same = count_all_rows (length sizes) (height_at sizes 0) p less ∙ sym (same refl)
 order_counts false sizes p less same = count_planes_in (height_at sizes) (length sizes) p less
@@ -236,13 +236,13 @@ slice_is_read r sets sizes planes now reader after new states same h =
 -- ---- a slice that is cut
 
 -- the samples of planes with those of one that is partly read
-abbrev with_part : List RowsRead → ℕ → List ℕ → List (List ℕ)
+abbrev pub with_part : List RowsRead → ℕ → List ℕ → List (List ℕ)
 with_part rows plane part = set (map (λ (row : RowsRead). row.samples) rows) plane part
 
-part_more : ℕ → List ℕ → ℕ → List ℕ
+pub part_more : ℕ → List ℕ → ℕ → List ℕ
 part_more plane part p = if eqb p plane then part else []
 
-part_of : (c : PlanesCoding) (rows : List RowsRead) (plane p : ℕ) (part samples : List ℕ) → p < length rows → samples ≡ (rows_at rows plane).samples ++ part
+pub part_of : (c : PlanesCoding) (rows : List RowsRead) (plane p : ℕ) (part samples : List ℕ) → p < length rows → samples ≡ (rows_at rows plane).samples ++ part
     → (rows_at rows p).samples ++ part_more plane part p ≡ slice_index_or (with_part rows plane samples) p []
 unfolding part_more
 part_of c rows plane p part samples there pushed = elim (cases_eq p plane) [
@@ -258,7 +258,7 @@ part_of c rows plane p part samples there pushed = elim (cases_eq p plane) [
 ]
 
 -- samples of planes, one of them in part, have the bits of the depth
-part_small : (r : RecordingValue) (sets : List ℕ) (sizes : List PlaneSize) (planes : SlicePlanes) (rows : List RowsRead) (count : ℕ → ℕ) (plane : ℕ) (samples : List ℕ)
+pub part_small : (r : RecordingValue) (sets : List ℕ) (sizes : List PlaneSize) (planes : SlicePlanes) (rows : List RowsRead) (count : ℕ → ℕ) (plane : ℕ) (samples : List ℕ)
     → AreNewPlanes r sets sizes planes → length rows ≡ length sizes → ((p : ℕ) → IsGrown (count p) (rows_at planes.lines.items p) (rows_at rows p))
     → plane < length sizes → ((s : ℕ) → get_or samples s 0 < 2 ^ coded_depth_of r)
     → (p : ℕ) → p < length sizes → (s : ℕ) → get_or (slice_index_or (with_part rows plane samples) p []) s 0 < 2 ^ coded_depth_of r

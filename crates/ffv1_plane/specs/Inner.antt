@@ -4,6 +4,8 @@ pub mod Halts
 pub mod PlaneRows
 pub mod RangeRows
 pub mod RangeLines
+pub mod RiceRows
+pub mod RiceLines
 pub mod Planes
 pub mod Readers
 pub mod Rows

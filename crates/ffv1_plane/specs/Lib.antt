@@ -12,4 +12,8 @@ pub mod RangeLines
 pub mod RangeSlices
 pub mod RangeReading
 pub mod RangeLaws
+pub mod RiceSlices
+pub mod RiceReading
+pub mod RiceLaws
+pub mod FirstRows
 pub mod Inner

@@ -31,11 +31,11 @@ pub(crate) enum PlaneFault {
 /// A plane that is read: its lines, the tables and the states of its contexts, the run index, and the bits that are left.
 #[derive(Drop)]
 pub(crate) struct PlaneReader<'t, 's, 'b> {
-    lines: Lines,
-    tables: &'t Tables<'s>,
-    states: Vec<VlcState>,
-    index: RunIndex,
-    bits: Bits<'b>,
+    pub(crate) lines: Lines,
+    pub(crate) tables: &'t Tables<'s>,
+    pub(crate) states: Vec<VlcState>,
+    pub(crate) index: RunIndex,
+    pub(crate) bits: Bits<'b>,
 }
 
 impl PlaneReader<'_, '_, '_> {
@@ -160,6 +160,28 @@ impl PlaneReader<'_, '_, '_> {
             left = self.read_next(left, depth)?;
         }
         Ok(())
+    }
+
+    /// Reads a row as `read_row` does, by a body of its own for samples of 8 bits, and for those of 9 bits, of RGB.
+    pub(crate) fn read_row_at(&mut self) -> Result<(), PlaneFault>
+        requires states { HasStates self.old }
+        requires start { self.old.lines.x ≡ 0 }
+        ensures same { IsSamePlane self.old self.new }
+        ensures read { OnOk result ((start : RowStart) (whole : List Bool) → HasRead start whole self.old → HasRead start whole self.new) }
+        ensures continued { OnOk result (IsContinued self.old.lines.samples self.new.lines.samples) }
+        ensures full { OnOk result (self.new.lines.x ≡ self.new.lines.width) }
+        ensures count { OnOk result (length self.new.lines.samples ≡ length self.old.lines.samples + self.old.lines.width) }
+        ensures small { OnOk result ((s : ℕ) → slice_index self.new.lines.samples s < 2 ^ self.old.lines.depth) }
+        ensures err { IfErr result (IsHaltedAt self.old) }
+    {
+        let depth = self.lines.depth();
+        if depth == BYTE_DEPTH {
+            return self.read_row(BYTE_DEPTH);
+        }
+        if depth == 9 {
+            return self.read_row(9);
+        }
+        self.read_row(depth)
     }
 }
 

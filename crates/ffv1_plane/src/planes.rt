@@ -18,7 +18,7 @@ use std::alloc::{AllocError, Global};
 
 /// The planes that share adaptive states (RFC 9043, section 3.8.1.3).
 #[derive(Clone, Copy)]
-enum Group {
+pub(crate) enum Group {
     /// The first plane: Y, or the first of RGB.
     Luma,
     /// The two planes after it, where there are three.
@@ -127,7 +127,7 @@ pub enum LinesFault {
 }
 
 /// The group of a plane.
-fn group_of(has_chroma: bool, plane: usize) -> Group
+pub(crate) fn group_of(has_chroma: bool, plane: usize) -> Group
     ensures { group_number result ≡ slice_group has_chroma plane }
 {
     if plane == 0 {
@@ -356,7 +356,7 @@ impl SlicePlanes<'_> {
     }
 
     /// The samples of planes whose rows are ended.
-    fn into_samples(self, alloc: Global) -> Result<Vec<Vec<u32>>, AllocError>
+    pub(crate) fn into_samples(self, alloc: Global) -> Result<Vec<Vec<u32>>, AllocError>
         requires { (p : ℕ) → p < length self.lines.items → (rows_at self.lines.items p).x ≡ 0 }
         ensures { IfOk result (λ planes. map (λ plane. plane.items) planes.items ≡ map (λ rows. rows.samples) self.entry.lines.items) }
     {
