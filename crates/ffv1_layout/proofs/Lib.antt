@@ -1,0 +1,6 @@
+pub mod Cutting
+pub mod Placing
+pub mod Marking
+pub mod Layouts
+pub mod OneLayout
+pub mod Shorts
