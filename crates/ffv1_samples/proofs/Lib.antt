@@ -1,0 +1,13 @@
+pub mod Shrinks
+pub mod Groups
+pub mod Headers
+pub mod PlaneSizes
+pub mod JudgedColors
+pub mod Endings
+pub mod RgbRows
+pub mod CodedPlanes
+pub mod OnePicture
+pub mod Codes
+pub mod Rests
+pub mod Decoding
+pub mod Refusals

@@ -1,0 +1,9 @@
+pub mod States
+pub mod Sizes
+pub mod Pictures
+pub mod Coded
+pub mod Slices
+pub mod Faults
+pub mod CodedFaults
+pub mod Laws
+pub mod Inner
