@@ -181,7 +181,7 @@ module _ (g : GridValue) (tile n : ℕ) (picture old mid : Planes) (samples : Li
 
 -- ---- where a tile lies in a plane
 
-ceil_fits : (k a b n : ℕ) → 0 < k → a + b ≤ n → a / k + div_ceil b k ≤ div_ceil n k
+pub ceil_fits : (k a b n : ℕ) → 0 < k → a + b ≤ n → a / k + div_ceil b k ≤ div_ceil n k
 ceil_fits k a b n some fits =
     let up = div_ceil_times n k some in
     let over = div_ceil_times b k some in

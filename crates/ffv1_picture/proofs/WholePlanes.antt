@@ -14,10 +14,10 @@ use Rattle.ffv1_picture.specs.declared.frame.Frame.{Frame}
 
 -- ---- rows, one after the other
 
-abbrev rows_from : (ℕ → ℕ → ℕ) → ℕ → ℕ → ℕ → List ℕ
+abbrev pub rows_from : (ℕ → ℕ → ℕ) → ℕ → ℕ → ℕ → List ℕ
 rows_from f width first count = flat_map (λ y. map (λ x. f y x) (range_with_len 0 width)) (range_with_len first count)
 
-length-rows : (f : ℕ → ℕ → ℕ) (width first count : ℕ) → length (rows_from f width first count) ≡ count * width
+pub length-rows : (f : ℕ → ℕ → ℕ) (width first count : ℕ) → length (rows_from f width first count) ≡ count * width
 length-rows f width first zero = omega arith
 length-rows f width first (suc count) =
     omega (
@@ -28,7 +28,7 @@ length-rows f width first (suc count) =
       length-rows f width (first + 1) count,
     )
 
-get_or-rows : (f : ℕ → ℕ → ℕ) (width first count y x : ℕ) → y < count → x < width → get_or (rows_from f width first count) (y * width + x) 0 ≡ f (first + y) x
+pub get_or-rows : (f : ℕ → ℕ → ℕ) (width first count y x : ℕ) → y < count → x < width → get_or (rows_from f width first count) (y * width + x) 0 ≡ f (first + y) x
 get_or-rows f width first zero y x within inside = absurd (omega arith)
 get_or-rows f width first (suc count) zero x within inside =
     let row = map (λ x. f first x) (range_with_len 0 width) in
@@ -48,7 +48,7 @@ some_column zero height k lt = absurd (omega arith)
 some_column (suc width) height k lt = omega arith
 
 -- samples that are those of the function at each place are its rows
-rows_ext : (f : ℕ → ℕ → ℕ) (width height : ℕ) (samples : List ℕ) → length samples ≡ width * height
+pub rows_ext : (f : ℕ → ℕ → ℕ) (width height : ℕ) (samples : List ℕ) → length samples ≡ width * height
     → ((x y : ℕ) → x < width → y < height → get_or samples (y * width + x) 0 ≡ f y x) → samples ≡ rows_from f width 0 height
 rows_ext f width height samples long each =
     ext_get_or 0 samples (rows_from f width 0 height) (omega (arith, length-rows f width 0 height, long)) (λ k lt.
@@ -85,7 +85,7 @@ module _ (g : GridValue) (pictures : List (Option Planes)) (plane : ℕ) where
 
 -- ---- one tile more
 
-or_else_assoc : (a b c : Option ℕ) → or_else (or_else a b) c ≡ or_else a (or_else b c)
+pub or_else_assoc : (a b c : Option ℕ) → or_else (or_else a b) c ≡ or_else a (or_else b c)
 or_else_assoc (Some x) b c = refl
 or_else_assoc None b c = refl
 

@@ -1,0 +1,7 @@
+pub mod Patches
+pub mod Frames
+pub mod Faults
+pub mod Fitting
+pub mod Players
+pub mod Written
+pub mod Inner

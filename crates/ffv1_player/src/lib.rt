@@ -1,0 +1,15 @@
+//! Frames of any recording of version 3, decoded one after the other (RFC 9043, sections 3.8.1.3, 3.8.2.4 and 4.4 to 4.9).
+#![tactic(auto)]
+
+mod before;
+mod draw;
+mod drawn;
+mod fault;
+mod player;
+mod samples;
+mod write;
+
+pub use fault::{ContentFault, SamplesFault};
+pub use player::Player;
+pub use samples::{Samples, SliceEnd};
+pub use write::write_samples;

@@ -1,0 +1,11 @@
+//! Tests of frames of any recording, on rows that a program of its own worked.
+#![tactic(auto)]
+
+#[cfg(test)]
+mod layout;
+#[cfg(test)]
+mod player;
+#[cfg(test)]
+mod slice;
+#[cfg(test)]
+mod writing;
