@@ -7,10 +7,11 @@ import readings
 from copy_damage import damaged_copies
 from damage import damaged_frame, damaged_holding, damaged_record
 from list_damage import make_mended, odd_size, stretches_in
-from stored import OFTEN_BELOW, TESTS
+from stored import OFTEN_BELOW, TESTS, other_records
 from wanted import WANTED, Wanted
 
-COMMANDS = ["chain", "show", "take", "join", "merge", "report", "restore", "picture", "decode", "splice", "scan", "mend"]
+COMMANDS = ["chain", "show", "setup", "take", "join", "merge", "report", "restore", "picture", "decode", "splice", "scan", "mend"]
+OTHER_RECORDS = other_records()
 
 
 class Input:
@@ -29,6 +30,7 @@ class Input:
         words = {
             "chain": ["frame-0"],
             "show": recording,
+            "setup": recording,
             "take": [*recording, "out", *copies],
             "join": ["out", *files],
             "merge": ["out", files[0], files[-1]] if files else [],
@@ -103,10 +105,12 @@ def input_of(seed, number, known, others, files):
         frames = [next(iter(recording.frames.values())), *others]
         make_mended(numbers, one, numbers.choice(list(files.values())) if numbers.random() < 0.3 else stretches_in(numbers, frames))
     kind = numbers.random()
-    if one.command == "show" or kind < 0.1:
-        one.record = damaged_record(numbers, recording, recording.record)
+    if one.command == "setup" and numbers.random() < 0.7:
+        one.record, one.size = numbers.choice(OTHER_RECORDS)
+    if one.command in ("show", "setup") or kind < 0.1:
+        one.record = damaged_record(numbers, recording, one.record)
     if kind > 0.9:
-        one.size = odd_size(numbers, recording.size)
+        one.size = odd_size(numbers, one.size)
     one.refused = numbers.random() < 0.01
     one.scarce = numbers.choice([0, 64, 256, 1024]) if numbers.random() < 0.1 else None
     return one
@@ -185,7 +189,7 @@ def every_input(recording):
             yield Input(command, recording, [], [damaged_text])
         yield Input("merge", recording, [], [damaged_text, text])
     for record in cut_and_zeroed(recording.record):
-        for command in ("show", "take", "decode"):
+        for command in ("show", "setup", "take", "decode"):
             one = Input(command, recording, [payload], [])
             one.record = record
             yield one

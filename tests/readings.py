@@ -267,17 +267,50 @@ def samples_of(setup, size):
 
 
 # man page: show
-def setup_text(setup):
-    """What `show` prints."""
+def show_text(setup):
+    """What `show` prints, and `setup` first."""
     lines = [
         f"version 3.{setup.micro}",
-        "coder 0 colorspace 0 depth 8",
-        f"planes {3 if setup.chroma else 1} shift {setup.shifts[0]} {setup.shifts[1]}",
+        f"coder {setup.coder} colorspace {int(setup.is_rgb)} depth {setup.depth}",
+        f"planes {(3 if setup.chroma else 1) + setup.has_alpha} shift {setup.shifts[0]} {setup.shifts[1]}",
         f"grid {setup.grid[0]}x{setup.grid[1]} tiles {tiles_of(setup)}",
         f"tables {len(setup.contexts)} contexts {' '.join(map(str, setup.contexts))}",
-        f"ec 1 intra {setup.intra}",
+        f"ec {setup.ec} intra {setup.intra}",
     ]
     return "".join(line + "\n" for line in lines).encode()
+
+
+# The pixel formats of FFmpeg 5.1: ffmpeg -h encoder=ffv1. Those that are packed have the planes of the one that stands before them.
+ENCODED = """
+gray gray9le gray10le gray12le gray16le yuv410p yuv411p yuv420p yuv420p9le yuv420p10le yuv420p12le yuv420p14le yuv420p16le yuv422p yuv422p9le
+yuv422p10le yuv422p12le yuv422p14le yuv422p16le yuv440p yuv440p10le yuv440p12le yuv444p yuv444p9le yuv444p10le yuv444p12le yuv444p14le
+yuv444p16le yuva420p yuva420p9le yuva420p10le yuva420p16le yuva422p yuva422p9le yuva422p10le yuva422p16le yuva444p yuva444p9le yuva444p10le
+yuva444p16le gbrp9le gbrp10le gbrp12le gbrp14le gbrp16le rgb48le gbrap10le gbrap12le gbrap16le rgba64le bgr0 bgra ya8
+""".split()
+PACKED = {"gbrp": "bgr0", "gbrap": "bgra"}
+SUBSAMPLED = {(1, 1): "420", (1, 0): "422", (0, 0): "444", (0, 1): "440", (2, 0): "411", (2, 2): "410"}
+
+
+# man page: setup
+def format_name(recording):
+    """The planar format of a recording, or `-` where FFmpeg has none."""
+    alpha = "a" * bool(recording.has_alpha)
+    if recording.is_rgb:
+        name = f"gbr{alpha}p"
+    elif recording.chroma:
+        name = f"yuv{alpha}{SUBSAMPLED.get(tuple(recording.shifts))}p"
+    else:
+        name = f"gray{alpha}"
+    if recording.depth > 8:
+        name += f"{recording.depth}le"
+    return name if PACKED.get(name, name) in ENCODED else "-"
+
+
+# man page: setup
+def setup_text(recording):
+    """What `setup` prints."""
+    states = " ".join("0" if states is None else "1" for states in recording.initial)
+    return show_text(recording) + f"states {states}\nformat {format_name(recording)}\n".encode()
 
 
 # FORMAT: Slice headers

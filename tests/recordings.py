@@ -78,7 +78,8 @@ class Recording:
         refused = {"record": (makings.inverted(record, 3), "setup fault 2")}
         decoded = "decoded {} x {} planes {}\n".format(*self.size, planes).encode()
         self.commands += [
-            Command(["show", "record", *sizes], readings.setup_text(self.setup), refused=refused),
+            Command(["show", "record", *sizes], readings.show_text(self.setup), refused=refused),
+            Command(["setup", "record", *sizes], readings.setup_text(self.setup), refused=refused),
             Command(["take", "record", *sizes, "OUT", "copy-a", "copy-b"], self.lines("copy", held), whole, refused=refused),
             Command(["decode", "record", *sizes, "frame", "OUT"], decoded, samples,
                     refused={**refused, "frame": (makings.inverted(frame, 1), "frame fault 2 at 0")}),

@@ -35,10 +35,17 @@ def recordings():
 
 
 def other_frames():
-    """The frames of recordings that are not in the profile, and a frame of two short slices."""
+    """The frames of recordings that are not in the profile and have parities, and a frame of two short slices."""
     folders = [folder for folder in sorted((TESTS / "real").iterdir()) if not any(folder.glob("planes*"))]
     frames = [path for folder in folders for path in sorted(folder.glob("frame-*"))]
-    return [*(path.read_bytes() for path in frames), casebook.shared_contents()["two-slices"]]
+    payloads = (path.read_bytes() for path in frames)
+    return [*(payload for payload in payloads if readings.links(payload)[1] is None), casebook.shared_contents()["two-slices"]]
+
+
+def other_records():
+    """The records of those recordings, with their sizes."""
+    folders = [folder for folder in sorted((TESTS / "real").iterdir()) if (folder / "record").exists() and not any(folder.glob("planes*"))]
+    return [((folder / "record").read_bytes(), tuple(map(int, folder.name.split("-")[1].split("x")))) for folder in folders]
 
 
 def reels():

@@ -38,7 +38,17 @@ def with_setup(wanted):
 
 
 def wanted_show(_, setup):
-    return Wanted(0, readings.setup_text(setup))
+    return Wanted(0, readings.show_text(setup))
+
+
+def wanted_setup(one):
+    """What is wanted of any recording, whose initial states are read here where they are few."""
+    try:
+        return Wanted(0, readings.setup_text(readings.recording_of(one.record, one.size, most=1000)))
+    except readings.TooManyStates:
+        return Wanted()
+    except readings.Fault as fault:
+        return fault_wanted(fault, "setup")
 
 
 def wanted_take(one, setup):
@@ -172,6 +182,7 @@ def with_files(wanted):
 WANTED = {
     "chain": wanted_chain,
     "show": with_setup(wanted_show),
+    "setup": wanted_setup,
     "take": with_setup(wanted_take),
     "join": with_files(wanted_join),
     "merge": wanted_merge,

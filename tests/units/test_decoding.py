@@ -6,17 +6,15 @@ import tempfile
 import unittest
 import unittest.mock
 
-import readings
-from mend_reel.containers.own_checks import AFTER_ONE, coder_of
 from mend_reel.judging.decoding import FfmpegDecoder, decoded
 from mend_reel.judging.reasons import Why
 from mend_reel.judging.results import FrameState
 from mend_reel.model import Content, Frame, Outcome, State, Track
 from .test_verdict import element, missing, plain, recording, repaired, settled, verdict, voted, whys
 
-REAL = pathlib.Path(__file__).resolve().parent.parent / "real"
 SLICES = (settled("11", 100), repaired("00", 0, 100))
-RECORDS = {name: (REAL / name / "record").read_bytes() for name in ("gray-48x32-4-slices", "bgra-32x28-4-slices", "yuv420p10-48x40-6-slices")}
+RECORD = b"record"
+RANGE_CODED = "echo version 3.4; echo coder 2 colorspace 0 depth 8"
 
 
 class DecodedTest(unittest.TestCase):
@@ -51,27 +49,33 @@ class DecodedTest(unittest.TestCase):
 class DecoderTest(unittest.TestCase):
     FRAME = Frame(1, 3.0, 100, 7)
 
-    def ask(self, probe="exit 1", frame=FRAME, record=RECORDS["bgra-32x28-4-slices"]):
-        """Whether a frame at place 100 is decoded, where ffprobe is this script."""
+    def ask(self, probe="exit 1", frame=FRAME, setup=RANGE_CODED):
+        """Whether a frame at place 100 is decoded, where ffprobe and ffv1restore are these scripts."""
         with tempfile.TemporaryDirectory() as name:
-            program = pathlib.Path(name, "ffprobe")
-            program.write_text(f"#!/bin/sh\n{probe}\n")
-            program.chmod(program.stat().st_mode | stat.S_IXUSR)
+            for program, script in ("ffprobe", probe), ("ffv1restore", setup):
+                path = pathlib.Path(name, program)
+                path.write_text(f"#!/bin/sh\n{script}\n")
+                path.chmod(path.stat().st_mode | stat.S_IXUSR)
             with unittest.mock.patch.dict(os.environ, {"PATH": f"{name}:/usr/bin:/bin"}):
-                return FfmpegDecoder("out")(Track(1, Content.VIDEO, "ffv1", True, 96, 80, record), frame)
+                decoder = FfmpegDecoder("out", str(pathlib.Path(name, "ffv1restore")), pathlib.Path(name))
+                return decoder(Track(1, Content.VIDEO, "ffv1", True, 96, 80, RECORD), frame)
 
     def test_a_range_coder(self):
         right = 'case "$*" in *"-read_intervals 1.000%3.500 "*" file:out") echo 9,7; echo 96,7;; esac'
         self.assertTrue(self.ask(right))
-        self.assertTrue(self.ask(right, record=RECORDS["yuv420p10-48x40-6-slices"]))
+        self.assertTrue(self.ask(right, setup=RANGE_CODED.replace("coder 2", "coder 1")))
         self.assertFalse(self.ask(right + "; echo 'bytestream end mismatching by 3' >&2"))
         self.assertFalse(self.ask(right + "; exit 1"))
         self.assertFalse(self.ask(right, Frame(1, 4.0, 100, 7)))
 
     def test_golomb_rice_and_no_record_are_not_decoded(self):
         self.assertTrue(self.ask("echo 96,7"))
-        for record in RECORDS["gray-48x32-4-slices"], b"", b"\xff" * 40, bytes(40):
-            self.assertFalse(self.ask("echo 96,7", record=record))
+        for setup in RANGE_CODED.replace("coder 2", "coder 0"), "echo 'ffv1restore: setup fault 2' >&2; exit 1", "echo coder":
+            self.assertFalse(self.ask("echo 96,7", setup=setup))
+
+    def test_the_setup_is_asked_for_with_the_record_and_the_size(self):
+        asked = f'[ "$1 $3 $4" = "setup 96 80" ] && [ "$(cat "$2")" = "{RECORD.decode()}" ] && {RANGE_CODED}'
+        self.assertTrue(self.ask("echo 96,7", setup=asked))
 
     def test_other_frames_are_not_this_one(self):
         for line in "9,7", "101,7", "96,8", "N/A,7", "96", "":
@@ -79,18 +83,8 @@ class DecoderTest(unittest.TestCase):
 
     def test_without_ffprobe(self):
         with unittest.mock.patch.dict(os.environ, {"PATH": ""}):
-            self.assertFalse(FfmpegDecoder("out")(Track(1, Content.VIDEO, "ffv1", True, 96, 80, RECORDS["bgra-32x28-4-slices"]), self.FRAME))
-
-
-class CoderTest(unittest.TestCase):
-    def test_the_third_number_of_a_record(self):
-        self.assertEqual([coder_of(record) for record in RECORDS.values()], [0, 2, 1])
-
-    def test_the_states_are_those_of_the_second_reading(self):
-        self.assertEqual(list(AFTER_ONE), readings.AFTER_ONE)
-
-    def test_no_record(self):
-        self.assertEqual([coder_of(record) for record in (b"", b"\xff" * 40, bytes(40), bytes(5))], [None] * 4)
+            decoder = FfmpegDecoder("out", "ffv1restore", pathlib.Path("work"))
+            self.assertFalse(decoder(Track(1, Content.VIDEO, "ffv1", True, 96, 80, RECORD), self.FRAME))
 
 
 class VouchedTest(unittest.TestCase):

@@ -3,7 +3,7 @@ use crate::commands::taken;
 use crate::suite::merged;
 use ffv1_commands::{
     CliFault, CommandPath, run_chain, run_decode, run_join, run_merge, run_picture, run_report,
-    run_restore, run_show, run_splice, run_take,
+    run_restore, run_setup, run_show, run_splice, run_take,
 };
 use ffv1_hold::HoldFileFault;
 use ffv1_test_frames::{FRAME, LEFT_DAMAGED, Narrow, TWO_TILES};
@@ -125,6 +125,7 @@ impl Write for Output {
 enum Command {
     Chain,
     Show,
+    Setup,
     Take,
     Join,
     Merge,
@@ -135,9 +136,10 @@ enum Command {
     Decode,
 }
 
-static COMMANDS: [Command; 10] = [
+static COMMANDS: [Command; 11] = [
     Command::Chain,
     Command::Show,
+    Command::Setup,
     Command::Take,
     Command::Join,
     Command::Merge,
@@ -153,7 +155,7 @@ impl Command {
     fn paths(self) -> (CommandPath, Option<CommandPath>) {
         match self {
             Command::Chain => (CommandPath::Frame, None),
-            Command::Show => (CommandPath::Record, None),
+            Command::Show | Command::Setup => (CommandPath::Record, None),
             Command::Take => (CommandPath::Record, Some(CommandPath::Copy(0))),
             Command::Splice => (CommandPath::Copy(0), Some(CommandPath::Copy(1))),
             Command::Decode => (CommandPath::Record, Some(CommandPath::Frame)),
@@ -167,7 +169,7 @@ impl Command {
     fn inputs<'a>(self, files: &'a Files) -> (&'a [u8], &'a [u8]) {
         match self {
             Command::Chain => (&FRAME, &[]),
-            Command::Show => (&TWO_TILES, &[]),
+            Command::Show | Command::Setup => (&TWO_TILES, &[]),
             Command::Take | Command::Decode => (&TWO_TILES, &FRAME),
             Command::Splice => (&FRAME, &FRAME),
             Command::Join | Command::Merge => (&files.part, &files.whole),
@@ -197,6 +199,7 @@ fn run<'a>(
     match command {
         Command::Chain => run_chain(alloc, &mut first, printed),
         Command::Show => run_show(alloc, &mut first, 2, 1, printed),
+        Command::Setup => run_setup(alloc, &mut first, 2, 1, printed),
         Command::Take => run_take(alloc, &mut first, 2, 1, &mut [second], out, printed),
         Command::Join => run_join(alloc, &mut first, &mut [second], out, printed),
         Command::Merge => run_merge(alloc, &mut first, &mut second, out),
@@ -456,7 +459,10 @@ fn interruptions_are_reported(
     let passed = interrupted(alloc, command, files, device, 64);
     let reported = interrupted(alloc, command, files, device, 65);
     let (first, second) = command.paths();
-    let makes = !matches!(command, Command::Chain | Command::Show | Command::Report);
+    let makes = !matches!(
+        command,
+        Command::Chain | Command::Show | Command::Setup | Command::Report
+    );
     passed.is_ok()
         && match device {
             0 => is_unread(&reported, Some(first)),

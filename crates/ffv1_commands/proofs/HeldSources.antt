@@ -1,16 +1,14 @@
 -- Sources that the caller keeps, of holding files that are read in turn: what their logs show of a file shows it of a source that began
 -- without a failure too.
-use Rattle.std.proofs.Common.{◌≡◌, ◌+◌, ◌<◌, ℕ, suc, List, length, get_or, set, drop, map, Bool, true, false, Result, Ok, Err, add-one, inl, inr, refl, sym, subst, arith}
+use Rattle.std.proofs.Common.{◌≡◌, ◌+◌, ◌<◌, ℕ, List, length, get_or, set, drop, map, Bool, true, false, add-one, inl, inr, refl, sym, subst, arith}
 use Rattle.ffv1_devices.specs.Logs.{Tries, ReadLog}
 use Rattle.ffv1_devices.specs.Streams.{no_failures}
 use Rattle.ffv1_holding.specs.Contents.{Contents}
-use Rattle.ffv1_hold.specs.FileFaults.{ReadsHolding, ReadsFile}
+use Rattle.ffv1_hold.specs.FileFaults.{ReadsHolding}
 use Rattle.ffv1_hold.specs.Reading.{WentBefore, is_read}
-use Rattle.ffv1_hold.specs.declared.file_fault.HoldFileFault.{HoldFileFault}
 use Rattle.ffv1_hold.specs.declared.file_fault.HoldFileFault.TheVariants as files
-use Rattle.ffv1_commands.specs.Fault.{of_hold_file}
 use Rattle.ffv1_commands.specs.Holdings.{HoldingStops, IsUnheld}
-use Rattle.ffv1_commands.specs.InTurn.{log_of, ReadsAlone, WentAt}
+use Rattle.ffv1_commands.specs.InTurn.{ReadsAlone}
 use Rattle.ffv1_commands.specs.JoinText.{IsReadAsFile, FileBreaks, JoinBreaks, IfLaterUnread}
 use Rattle.ffv1_commands.specs.Inner.JoinText.{JoinsOne}
 use Rattle.ffv1_commands.specs.declared.fault.CliFault.{CliFault}

@@ -1,4 +1,4 @@
-pub mod Shows
+pub mod RecordTexts
 pub mod InputLaws
 pub mod ReadLists
 pub mod Reporting

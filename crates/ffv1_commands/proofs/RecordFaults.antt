@@ -1,28 +1,34 @@
 -- What a record that was read gives, and what its fault says, of any fact about faults.
 use Rattle.std.proofs.Common.{◌≡◌, ℕ, List, inl, inr, refl, sym, subst}
 use Rattle.std.specs.Prelude.{◌⊎◌}
-use Rattle.ffv1_range.specs.Setup.{SetupValue, IsSetupOf}
-use Rattle.ffv1_range.specs.SetupFaults.{FirstSetupFault}
+use Rattle.ffv1_range.specs.Setup.{SetupValue, IsSetupOf, RecordingValue, IsRecordingOf}
+use Rattle.ffv1_range.specs.SetupFaults.{FirstSetupFault, FirstRecordingFault}
 use Rattle.ffv1_range.specs.declared.fault.SetupFault.{SetupFault}
 use Rattle.ffv1_range.specs.declared.fault.SetupFault.TheVariants as setup
 use Rattle.ffv1_devices.specs.Logs.{ReadLog}
 use Rattle.ffv1_commands.specs.Devices.{TakesWhole, FileStops, UnlessWriting, IfOfRecord}
 use Rattle.ffv1_commands.specs.Fault.{of_setup}
-use Rattle.ffv1_commands.specs.RecordInputs.{TakesSetup, RecordStops}
+use Rattle.ffv1_commands.specs.RecordInputs.{TakesSetup, TakesRecording, StopsAtRecord, RecordStops, RecordingStops}
 use Rattle.ffv1_commands.specs.declared.fault.CliFault.{CliFault}
 use Rattle.ffv1_commands.specs.declared.fault.CliFault.TheVariants as faults
 use Rattle.ffv1_commands.specs.declared.path.CommandPath.TheVariants as paths
 use Rattle.ffv1_commands.proofs.InputFaults.{IsUnwritten, untouched_both}
 use Rattle.ffv1_commands.proofs.UnreadFiles.{file_says}
 
--- what any fault of the record says, if that of each form says so
+-- what any fault of a record says, if that of each form says so
+StopsAtRecord-says : (P : CliFault → Type 0) (First : List ℕ → SetupFault → Type 0) (a b : ReadLog) (fault : CliFault) → P (faults.Read paths.Record)
+    → P faults.Memory → ((setup : SetupFault) (config : List ℕ) → TakesWhole a b config → First config setup → P (faults.Setup setup))
+    → StopsAtRecord First a b fault → P fault
+StopsAtRecord-says P First a b (faults.Read named) read memory first (same, unread) = subst (λ n. P (faults.Read n)) (sym same) read
+StopsAtRecord-says P First a b faults.Memory read memory first within = memory
+StopsAtRecord-says P First a b (faults.Setup setup) read memory first (config, took, is) = first setup config took is
+StopsAtRecord-says P First a b fault read memory first stops = absurd stops
+
 pub RecordStops-says : (P : CliFault → Type 0) (width height : ℕ) (a b : ReadLog) (fault : CliFault) → P (faults.Read paths.Record) → P faults.Memory
     → ((setup : SetupFault) (config : List ℕ) → TakesWhole a b config → FirstSetupFault config width height setup → P (faults.Setup setup))
     → RecordStops width height a b fault → P fault
-RecordStops-says P width height a b (faults.Read named) read memory first (same, unread) = subst (λ n. P (faults.Read n)) (sym same) read
-RecordStops-says P width height a b faults.Memory read memory first within = memory
-RecordStops-says P width height a b (faults.Setup setup) read memory first (config, took, is) = first setup config took is
-RecordStops-says P width height a b fault read memory first stops = absurd stops
+RecordStops-says P width height a b fault read memory first stops =
+    StopsAtRecord-says P (λ config setup. FirstSetupFault config width height setup) a b fault read memory first stops
 
 -- a setup's fault is Memory, or reported as `Setup`
 setups : (P : CliFault → Type 0) (fault : SetupFault) → P faults.Memory → P (faults.Setup fault) → P (of_setup fault)
@@ -34,6 +40,13 @@ setups_first : (P : CliFault → Type 0) (First : Type 0) (fault : SetupFault) �
     → (fault ≡ setup.Memory) ⊎ First → P (of_setup fault)
 setups_first P First fault memory other (inl is) = subst (λ f. P (of_setup f)) (sym is) memory
 setups_first P First fault memory other (inr first) = setups P fault memory (other first)
+
+-- a record that was read gives nothing, for the fault that it has first
+refused_by : (First : List ℕ → SetupFault → Type 0) (a b : ReadLog) (config bytes : List ℕ) → bytes ≡ config → TakesWhole a b config
+    → (fault : SetupFault) → (fault ≡ setup.Memory) ⊎ First bytes fault → StopsAtRecord First a b (of_setup fault)
+refused_by First a b config bytes same took fault first =
+    setups_first (StopsAtRecord First a b) (First config fault) fault (config, took.read, took.few)
+    (λ met. (config, took, met)) (subst (λ (read : List ℕ). (fault ≡ setup.Memory) ⊎ First read fault) same first)
 
 module _ (width height : ℕ) (a b : ReadLog) where
   -- the record was not read
@@ -50,8 +63,18 @@ module _ (width height : ℕ) (a b : ReadLog) where
   pub record_refused : (config bytes : List ℕ) → bytes ≡ config → TakesWhole a b config → (fault : SetupFault)
       → (fault ≡ setup.Memory) ⊎ FirstSetupFault bytes width height fault → RecordStops width height a b (of_setup fault)
   record_refused config bytes same took fault first =
-      setups_first (RecordStops width height a b) (FirstSetupFault config width height fault) fault (config, took.read, took.few)
-      (λ met. (config, took, met)) (subst (λ (read : List ℕ). (fault ≡ setup.Memory) ⊎ FirstSetupFault read width height fault) same first)
+      refused_by (λ read met. FirstSetupFault read width height met) a b config bytes same took fault first
+
+  -- the same of a recording
+  pub recording_taken : (config bytes : List ℕ) → bytes ≡ config → TakesWhole a b config → (value : RecordingValue)
+      → IsRecordingOf bytes width height value → TakesRecording width height a b value
+  recording_taken config bytes same took value is =
+      record { config = config; read = took; is_recording = subst (λ (read : List ℕ). IsRecordingOf read width height value) same is }
+
+  pub recording_refused : (config bytes : List ℕ) → bytes ≡ config → TakesWhole a b config → (fault : SetupFault)
+      → (fault ≡ setup.Memory) ⊎ FirstRecordingFault bytes width height fault → RecordingStops width height a b (of_setup fault)
+  recording_refused config bytes same took fault first =
+      refused_by (λ read met. FirstRecordingFault read width height met) a b config bytes same took fault first
 
   -- it comes before anything is written
   record_unwritten : (fault : CliFault) → RecordStops width height a b fault → IsUnwritten fault

@@ -1,7 +1,6 @@
 -- Sources that the caller keeps, of copies that are read in turn: what their logs show of a copy shows it of a source that began without a
 -- failure too.
-use Rattle.std.proofs.Common.{◌≡◌, ◌≤◌, ◌<◌, ℕ, zero, suc, List, [], ◌∷◌, length, get_or, set, drop, map, inl, inr, refl, sym, subst, arith}
-use Rattle.ffv1_bits.specs.Limits.{payload_limit}
+use Rattle.std.proofs.Common.{◌≡◌, ◌<◌, ℕ, zero, suc, List, [], ◌∷◌, length, get_or, set, drop, map, inl, inr, refl, sym, subst, arith}
 use Rattle.ffv1_devices.specs.Logs.{ReadLog, Reads, BreaksOff}
 use Rattle.ffv1_devices.specs.Streams.{no_failures}
 use Rattle.ffv1_commands.specs.Devices.{TakesWhole, IsUnread, GivesUpWithin, FileStops, CopyStops}

@@ -8,11 +8,11 @@ use Rattle.ffv1_devices.specs.Exact.{StopsReading}
 use Rattle.ffv1_devices.specs.Logs.{ReadLog}
 use Rattle.ffv1_stretches.specs.Listed.{AreStretches}
 use Rattle.ffv1_stretches.specs.Passes.{AreReadBut}
-use Rattle.ffv1_stretches.specs.Stretches.{StretchValue, AreInOrder, ends_of}
+use Rattle.ffv1_stretches.specs.Stretches.{AreInOrder, ends_of}
 use Rattle.ffv1_stretches.specs.declared.pass.MendFault.TheVariants as stops
 use Rattle.ffv1_stretches.proofs.FileLemmas.{AreBelow, LiesWithin, each_within}
 use Rattle.ffv1_stretches.proofs.OrderLemmas.{listed_in_order}
-use Rattle.ffv1_commands.specs.Devices.{InputBegins, IsGivenUp, IsUnread}
+use Rattle.ffv1_commands.specs.Devices.{InputBegins, IsGivenUp}
 use Rattle.ffv1_commands.specs.InTurn.{WentAt}
 use Rattle.ffv1_commands.specs.Lists.{IsList}
 use Rattle.ffv1_commands.specs.UnreadLaws.{UnreadIsGivenUp, LongCopyIsGivenUp}

@@ -4,7 +4,11 @@ pub mod Devices
 pub mod InTurn
 pub mod Lists
 pub mod ChainText
+pub mod SetupLines
+pub mod Formats
+pub mod RecordText
 pub mod ShowText
+pub mod SetupText
 pub mod Holdings
 pub mod RecordInputs
 pub mod TakeText

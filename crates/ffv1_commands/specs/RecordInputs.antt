@@ -1,7 +1,8 @@
 -- Configuration records as a command reads them.
 use Rattle.std.specs.Prelude.{ℕ, List, Option}
-use Rattle.ffv1_range.specs.Setup.{SetupValue, IsSetupOf}
-use Rattle.ffv1_range.specs.SetupFaults.{FirstSetupFault}
+use Rattle.ffv1_range.specs.Setup.{SetupValue, IsSetupOf, RecordingValue, IsRecordingOf}
+use Rattle.ffv1_range.specs.SetupFaults.{FirstSetupFault, FirstRecordingFault}
+use Rattle.ffv1_range.specs.declared.fault.SetupFault.{SetupFault}
 use Rattle.ffv1_holding.specs.Reels.{Reel}
 use Rattle.ffv1_devices.specs.Logs.{ReadLog}
 use Rattle.ffv1_commands.specs.Devices.{IsWholeInput, TakesWhole, FileStops}
@@ -28,12 +29,26 @@ pub record TakesSetup (width height : ℕ) (old new : ReadLog) (setup : SetupVal
   pub read : TakesWhole old new config
   pub is_setup : IsSetupOf config width height setup
 
+-- The same for any recording of version 3.
+pub record TakesRecording (width height : ℕ) (old new : ReadLog) (recording : RecordingValue) : Type 0 where
+  pub config : List ℕ
+  pub read : TakesWhole old new config
+  pub is_recording : IsRecordingOf config width height recording
+
 -- The same for a reel, which keeps the record beside its setup.
 pub record TakesReel (width height : ℕ) (old new : ReadLog) (reel : Reel) : Type 0 where
   pub read : TakesWhole old new reel.config
   pub is_setup : IsSetupOf reel.config width height reel.setup
 
--- why the record gave no setup: it was not read, reading it meets this fault first, or memory ran out
+-- why a record gave nothing: it was not read, its bytes have this fault first, or memory ran out
+abbrev pub StopsAtRecord : (First : List ℕ → SetupFault → Type 0) → (old new : ReadLog) → CliFault → Type 0
+StopsAtRecord First old new (faults.Setup fault) = (config : List ℕ) × TakesWhole old new config × First config fault
+StopsAtRecord First old new fault = FileStops paths.Record fault old new
+
+-- why it gave no setup: the fault is the first that reading it meets
 abbrev pub RecordStops : (width height : ℕ) → (old new : ReadLog) → CliFault → Type 0
-RecordStops width height old new (faults.Setup fault) = (config : List ℕ) × TakesWhole old new config × FirstSetupFault config width height fault
-RecordStops width height old new fault = FileStops paths.Record fault old new
+RecordStops width height old new fault = StopsAtRecord (λ config first. FirstSetupFault config width height first) old new fault
+
+-- why it gave no recording of version 3
+abbrev pub RecordingStops : (width height : ℕ) → (old new : ReadLog) → CliFault → Type 0
+RecordingStops width height old new fault = StopsAtRecord (λ config first. FirstRecordingFault config width height first) old new fault

@@ -22,7 +22,7 @@ pub enum CliFault {
     /// The file could not be made or written; or it is the one that `merge` or `mend` makes, and an input by the same word.
     #[error("{0:?} was not written")]
     Write(CommandPath),
-    /// The configuration record, with its width and height, gives no setup of the profile.
+    /// The configuration record, with its width and height, gives no setup of the profile; that of `setup` none of version 3.
     #[error("setup fault")]
     Setup(SetupFault),
     /// A copy of `take` is too long, or a holding file is of another record or size than the first. `Memory` is never this

@@ -12,6 +12,8 @@ Commands
       judges many frames of one file in one pass
   ffv1restore show RECORD WIDTH HEIGHT
       shows a recording's setup, or why the tool can't take it
+  ffv1restore setup RECORD WIDTH HEIGHT
+      shows the setup of any recording of version 3, and its format's name
   ffv1restore take RECORD WIDTH HEIGHT OUT COPY...
       makes a holding of all undamaged slices of the copies
   ffv1restore join OUT HOLD...
@@ -76,6 +78,9 @@ Faults
   words refused
       The words are not a command with exactly its words.
   setup fault N
+      setup takes more: coder_type 1 and 2, colorspace_type 1 (RGB, with its
+      planes), up to 16 bits, an extra plane, chroma subsampled by up to 16, and
+      ec 0. Its faults 6 to 8, 10 and 16 are of other values than these.
        1  the record has fewer than 6 bytes
        2  its parity fails: the record is damaged
        3  a number in it can't be read
@@ -124,5 +129,5 @@ The manual page has more: man ffv1restore.
 /// What `version` prints: the program's version, and the kit whose prover proved it.
 pub(crate) const VERSION: &str = "\
 ffv1restore 0.2.0
-proved with rattle-kit-13b
+proved with rattle-kit-13f
 ";

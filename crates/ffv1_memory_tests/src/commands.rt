@@ -5,7 +5,7 @@ use crate::buffer::Buffer;
 use crate::stock::{SIZE, Stock, TORN_LIST, damaged_copies, first_copy, second_copy};
 use ffv1_commands::{
     CliFault, run_chain, run_decode, run_join, run_mend, run_merge, run_picture, run_report,
-    run_restore, run_scan, run_show, run_splice, run_take,
+    run_restore, run_scan, run_setup, run_show, run_splice, run_take,
 };
 use ffv1_test_frames::{RECORDED, RECORDED_RECORD};
 use std::alloc::Global;
@@ -51,6 +51,8 @@ pub enum Command {
     Chain,
     /// `run_show` of the record.
     Show,
+    /// `run_setup` of the record.
+    Setup,
     /// `run_take` of both copies.
     Take,
     /// `run_join` of the files of the first copy and of both.
@@ -100,6 +102,7 @@ impl<'a> Run<'a> {
         match self.command {
             Command::Chain => run_chain(alloc, &mut RECORDED.as_slice(), printed),
             Command::Show => show_record(alloc, printed),
+            Command::Setup => setup_record(alloc, printed),
             Command::Take => take_both(alloc, made, printed),
             Command::Join => run_join(alloc, &mut first, &mut [both], made, printed),
             Command::Merge => run_merge(alloc, &mut first, &mut both, made),
@@ -126,6 +129,12 @@ fn unit(returned: Result<bool, CliFault>) -> Result<(), CliFault> {
 fn show_record(alloc: Global, printed: &mut Buffer) -> Result<(), CliFault> {
     let mut record = RECORDED_RECORD.as_slice();
     run_show(alloc, &mut record, SIZE.0, SIZE.1, printed)
+}
+
+/// `run_setup` of the record.
+fn setup_record(alloc: Global, printed: &mut Buffer) -> Result<(), CliFault> {
+    let mut record = RECORDED_RECORD.as_slice();
+    run_setup(alloc, &mut record, SIZE.0, SIZE.1, printed)
 }
 
 /// `run_take` of both copies.

@@ -87,9 +87,10 @@ fn report_stretches(rt: &HostRuntime) -> io::Result<()> {
 }
 
 /// The functions of the commands, by their names.
-static COMMANDS: [(&str, Command); 12] = [
+static COMMANDS: [(&str, Command); 13] = [
     ("run_chain", Command::Chain),
     ("run_show", Command::Show),
+    ("run_setup", Command::Setup),
     ("run_take", Command::Take),
     ("run_join", Command::Join),
     ("run_merge", Command::Merge),

@@ -8,6 +8,7 @@ use Rattle.ffv1_commands.specs.Devices.{GivesUpWithin, IsUnread}
 use Rattle.ffv1_commands.specs.Holdings.{HoldingStops, IsUnheld}
 use Rattle.ffv1_commands.specs.ChainText.{ReportsChain}
 use Rattle.ffv1_commands.specs.ShowText.{ReportsShow}
+use Rattle.ffv1_commands.specs.SetupText.{ReportsSetup}
 use Rattle.ffv1_commands.specs.ScanText.{ScansDevices}
 use Rattle.ffv1_commands.specs.DecodeText.{ReportsDecode}
 use Rattle.ffv1_commands.specs.ReportedText.{ReportsReport}
@@ -45,6 +46,11 @@ module _ {T : Type 0} (a b : ReadLog) (x y : WriteLog) where
   show_unread width height (Ok value) reported = tt
   show_unread width height (Err (faults.Read path)) ((same, unread), kept) = unread
   show_unread width height (Err fault) reported = tt
+
+  pub setup_unread : (width height : ℕ) (r : Result T CliFault) → ReportsSetup r width height a b x y → IfErr r (IfUnread (λ _. IsUnread a b))
+  setup_unread width height (Ok value) reported = tt
+  setup_unread width height (Err (faults.Read path)) ((same, unread), kept) = unread
+  setup_unread width height (Err fault) reported = tt
 
 -- ---- holding files
 

@@ -12,7 +12,11 @@ pub use Rattle.ffv1_commands.specs.Devices
 pub use Rattle.ffv1_commands.specs.Lists
 pub use Rattle.ffv1_commands.specs.ChainText
 pub use Rattle.ffv1_commands.specs.ScanText
+pub use Rattle.ffv1_commands.specs.SetupLines
+pub use Rattle.ffv1_commands.specs.Formats
+pub use Rattle.ffv1_commands.specs.RecordText
 pub use Rattle.ffv1_commands.specs.ShowText
+pub use Rattle.ffv1_commands.specs.SetupText
 pub use Rattle.ffv1_commands.specs.TakeText
 pub use Rattle.ffv1_commands.specs.JoinText
 pub use Rattle.ffv1_commands.specs.MergeText

@@ -11,6 +11,7 @@ use Rattle.ffv1_commands.specs.Lists.{IfOfList}
 use Rattle.ffv1_commands.specs.ChainText.{PrintsChain, ChainStops}
 use Rattle.ffv1_commands.specs.ScanText.{ScansFile, ScanStops}
 use Rattle.ffv1_commands.specs.ShowText.{PrintsSetup, ShowStops}
+use Rattle.ffv1_commands.specs.SetupText.{PrintsRecording, SetupStops}
 use Rattle.ffv1_commands.specs.TakeText.{TakesCopies, TakeStops}
 use Rattle.ffv1_commands.specs.JoinText.{JoinsFiles, JoinStops}
 use Rattle.ffv1_commands.specs.MergeText.{MergesFiles}
@@ -26,7 +27,7 @@ use Rattle.ffv1_commands.specs.declared.path.CommandPath.{CommandPath}
 use Rattle.ffv1_commands.specs.declared.path.CommandPath.TheVariants as paths
 use Rattle.ffv1_words.specs.WordPaths.{IsPathOf}
 use Rattle.ffv1_words.specs.declared.words.Words.{Words}
-use Rattle.ffv1_words.specs.declared.words.Words.TheVariants.{Chain, Scan, Show, Take, Join, Merge, Report, Restore, Picture, Splice, Mend}
+use Rattle.ffv1_words.specs.declared.words.Words.TheVariants.{Chain, Scan, Show, Setup, Take, Join, Merge, Report, Restore, Picture, Splice, Mend}
 use Rattle.ffv1_words.specs.declared.words.Words.TheVariants.{Decode, Help, Version}
 use Rattle.ffv1_program.specs.Merging.{IsEither, IfNotBegun, StopsMerging}
 use Rattle.ffv1_program.specs.Splicing.{IsInput, StopsSplicing, StopsMendingFiles}
@@ -46,6 +47,7 @@ out_word (Decode recording frame out) = out.now
 out_word (Chain frame) = []
 out_word (Scan ranges file) = []
 out_word (Show recording) = []
+out_word (Setup recording) = []
 out_word (Report file) = []
 out_word Help = []
 out_word Version = []
@@ -148,6 +150,16 @@ promise_of files made printed (Show recording) =
       Does = λ returned. (returned ≡ true) × IfSome (files.bytes_at recording.record.now)
           (λ config. PrintsSetup config recording.width recording.height printed.before printed.after);
       Stops = ShowStops recording.width recording.height (files.bytes_at recording.record.now) printed.before printed.after;
+      Keeps = λ fault. UnlessWriting fault printed.IsKept;
+      Unread = IfUnread (λ _. files.SourceWent IsUnread recording.record.now);
+      Refuses = λ _. Unit {0};
+      Leaves = λ Made Printed. Made;
+    }
+promise_of files made printed (Setup recording) =
+    record {
+      Does = λ returned. (returned ≡ true) × IfSome (files.bytes_at recording.record.now)
+          (λ config. PrintsRecording config recording.width recording.height printed.before printed.after);
+      Stops = SetupStops recording.width recording.height (files.bytes_at recording.record.now) printed.before printed.after;
       Keeps = λ fault. UnlessWriting fault printed.IsKept;
       Unread = IfUnread (λ _. files.SourceWent IsUnread recording.record.now);
       Refuses = λ _. Unit {0};

@@ -4,7 +4,7 @@ ghost use Rattle.ffv1_program.specs.Running.{RunsCommand, files_of, made_by, pri
 ghost use Rattle.ffv1_program.specs.Inner.Calls.{all_done};
 
 use crate::files::{FileSystem, MakeFile};
-use crate::frames::{chain_file, scan_files, show_record, splice_files};
+use crate::frames::{chain_file, scan_files, setup_record, show_record, splice_files};
 use crate::holdings::{join_files, merge_files, report_file, restore_file, take_files};
 use crate::pictures::{decode_files, picture_file};
 use crate::stretches::mend_files;
@@ -74,6 +74,7 @@ pub fn run<'a, F: FileSystem<'a>, O: MakeFile, W: Write>(
         Words::Chain { frame } => all_done(chain_file(alloc, files, frame, output)),
         Words::Scan { ranges, file } => scan_files(alloc, files, ranges, file, output),
         Words::Show { recording } => all_done(show_record(alloc, files, recording, output)),
+        Words::Setup { recording } => all_done(setup_record(alloc, files, recording, output)),
         Words::Take {
             recording,
             copies,

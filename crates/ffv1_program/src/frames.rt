@@ -1,14 +1,14 @@
-//! The commands over frames and their records (own): `chain`, `scan`, `show` and `splice`. Each keeps its promise, whatever the word is of
-//! the file that it makes.
+//! The commands over frames and their records (own): `chain`, `scan`, `show`, `setup` and `splice`. Each keeps its promise, whatever the
+//! word is of the file that it makes.
 ghost use Rattle.std.specs.Prelude.{ℕ, List};
 ghost use Rattle.std.specs.Borrow.{Bor};
-ghost use Rattle.ffv1_words.specs.declared.words.Words.TheVariants.{Chain, Scan, Show, Splice};
+ghost use Rattle.ffv1_words.specs.declared.words.Words.TheVariants.{Chain, Scan, Show, Setup, Splice};
 ghost use Rattle.ffv1_program.specs.Running.{KeepsPromise, files_of, made_by, printed_by};
 ghost use Rattle.ffv1_program.specs.Inner.Calls.{all_done, nothing_written};
 
 use crate::files::{FileSystem, MakeFile, make_after};
 use crate::inputs::sources_of;
-use ffv1_commands::{CliFault, chain_of, scan_of, show_of, splice_of};
+use ffv1_commands::{CliFault, chain_of, scan_of, setup_of, show_of, splice_of};
 use ffv1_devices::ThroughWrite;
 use ffv1_words::Recording;
 use std::alloc::Global;
@@ -80,6 +80,35 @@ pub(crate) fn show_record<'a, F: FileSystem<'a>, W: Write>(
         &mut files.device(recording.record),
         recording.width,
         recording.height,
+        &mut ThroughWrite::new(output),
+    )
+}
+
+/// Prints what this record says of any recording of version 3.
+///
+/// It stops where `setup_of` does. After a fault that is not `Write` nothing was printed.
+pub(crate) fn setup_record<'a, F: FileSystem<'a>, W: Write>(
+    alloc: Global,
+    files: &F,
+    recording: &Recording<'a>,
+    output: &mut W,
+) -> Result<(), CliFault>
+    ensures { KeepsPromise
+        (files_of (F.bytes_at files.now) (F.cannot_open_at files.now) (F.is_opened_at files.now) (F.is_device_at files.now) F.Device.log
+        (F.is_buffered_at files.now) F.Buffered.log)
+        nothing_written (printed_by W.contents output.old output.new)
+        (Setup recording.now) (all_done result) }
+{
+    let Recording {
+        record,
+        width,
+        height,
+    } = recording;
+    setup_of(
+        alloc,
+        &mut files.device(record),
+        *width,
+        *height,
         &mut ThroughWrite::new(output),
     )
 }

@@ -7,7 +7,7 @@ use Rattle.ffv1_commands.specs.declared.fault.CliFault.TheVariants as faults
 use Rattle.ffv1_words.specs.Grammar.{program_app}
 use Rattle.ffv1_words.specs.declared.words.Recording.{Recording}
 use Rattle.ffv1_words.specs.declared.words.Words.{Words}
-use Rattle.ffv1_words.specs.declared.words.Words.TheVariants.{Chain, Scan, Show, Take, Join, Merge, Report, Restore, Picture, Splice, Mend, Decode, Help, Version}
+use Rattle.ffv1_words.specs.declared.words.Words.TheVariants.{Chain, Scan, Show, Setup, Take, Join, Merge, Report, Restore, Picture, Splice, Mend, Decode, Help, Version}
 
 -- The first value of this name.
 abbrev pub IsWord : List Row → List ℕ → List ℕ → Type 0
@@ -36,6 +36,7 @@ abbrev pub AreArguments : List Row → Words → Type 0
 AreArguments rows (Chain frame) = IsWord rows (codes "FRAME") frame.now
 AreArguments rows (Scan ranges file) = IsWord rows (codes "RANGES") ranges.now × IsWord rows (codes "FILE") file.now
 AreArguments rows (Show recording) = IsRecording rows recording
+AreArguments rows (Setup recording) = IsRecording rows recording
 AreArguments rows (Take recording out copies) =
     IsRecording rows recording × IsWord rows (codes "OUT") out.now × AreValues rows (codes "COPY") (map (λ copy. copy.now) copies.items)
 AreArguments rows (Join out first others) =
@@ -58,6 +59,7 @@ abbrev pub command_name : Words → List ℕ
 command_name (Chain frame) = codes "chain"
 command_name (Scan ranges file) = codes "scan"
 command_name (Show recording) = codes "show"
+command_name (Setup recording) = codes "setup"
 command_name (Take recording out copies) = codes "take"
 command_name (Join out first others) = codes "join"
 command_name (Merge out left right) = codes "merge"

@@ -42,6 +42,7 @@ all_commands =
     (codes "chain", codes "FRAME" ∷ [], None)
     ∷ (codes "scan", codes "RANGES" ∷ codes "FILE" ∷ [], None)
     ∷ (codes "show", codes "RECORD" ∷ codes "WIDTH" ∷ codes "HEIGHT" ∷ [], None)
+    ∷ (codes "setup", codes "RECORD" ∷ codes "WIDTH" ∷ codes "HEIGHT" ∷ [], None)
     ∷ (codes "take", codes "RECORD" ∷ codes "WIDTH" ∷ codes "HEIGHT" ∷ codes "OUT" ∷ [], Some (codes "COPY"))
     ∷ (codes "join", codes "OUT" ∷ [], Some (codes "HOLD"))
     ∷ (codes "merge", codes "OUT" ∷ codes "A" ∷ codes "B" ∷ [], None)

@@ -6,13 +6,14 @@ use Rattle.ffv1_commands.specs.declared.path.CommandPath.{CommandPath}
 use Rattle.ffv1_commands.specs.declared.path.CommandPath.TheVariants.{Record, Frame, Copy, Hold, Ranges, File, Inputs, Out}
 use Rattle.ffv1_commands.specs.declared.path.CommandPath.TheVariants as paths
 use Rattle.ffv1_words.specs.declared.words.Words.{Words}
-use Rattle.ffv1_words.specs.declared.words.Words.TheVariants.{Chain, Scan, Show, Take, Join, Merge, Report, Restore, Picture, Splice, Mend, Decode, Help, Version}
+use Rattle.ffv1_words.specs.declared.words.Words.TheVariants.{Chain, Scan, Show, Setup, Take, Join, Merge, Report, Restore, Picture, Splice, Mend, Decode, Help, Version}
 
 -- The command of the words has this path.
 abbrev pub IsPathOf : Words → CommandPath → Type 0
 IsPathOf (Chain frame) path = IsChainPath path
 IsPathOf (Scan ranges file) path = IsScanPath path
 IsPathOf (Show recording) path = IsShowPath path
+IsPathOf (Setup recording) path = IsShowPath path
 IsPathOf (Take recording out copies) path = IsTakePath (vec_len copies) path
 IsPathOf (Join out first others) path = IsJoinPath (vec_len others + 1) path
 IsPathOf (Merge out left right) path = IsMergePath path
@@ -35,6 +36,7 @@ path_word (Chain frame) Frame = frame.now
 path_word (Scan ranges file) Ranges = ranges.now
 path_word (Scan ranges file) File = file.now
 path_word (Show recording) Record = recording.record.now
+path_word (Setup recording) Record = recording.record.now
 path_word (Take recording out copies) Record = recording.record.now
 path_word (Take recording out copies) (Copy place) = word_at copies.items place
 path_word (Take recording out copies) Out = out.now

@@ -14,10 +14,11 @@ use ffv1_commands::CliFault;
 use std::alloc::{AllocError, Global};
 
 /// The commands: the name of each, its words, and after them the word of which there has to be one at least.
-static COMMANDS: [(&str, &[&str], Option<&str>); 14] = [
+static COMMANDS: [(&str, &[&str], Option<&str>); 15] = [
     ("chain", &["FRAME"], None),
     ("scan", &["RANGES", "FILE"], None),
     ("show", &["RECORD", "WIDTH", "HEIGHT"], None),
+    ("setup", &["RECORD", "WIDTH", "HEIGHT"], None),
     ("take", &["RECORD", "WIDTH", "HEIGHT", "OUT"], Some("COPY")),
     ("join", &["OUT"], Some("HOLD")),
     ("merge", &["OUT", "A", "B"], None),
@@ -199,6 +200,9 @@ fn words_of<'a>(alloc: Global, name: &str, matches: &ArgMatches<'a>) -> Result<W
             file: word(matches, "FILE")?,
         }),
         "show" => Ok(Words::Show {
+            recording: recording_words(matches)?,
+        }),
+        "setup" => Ok(Words::Setup {
             recording: recording_words(matches)?,
         }),
         "take" => Ok(Words::Take {

@@ -35,6 +35,11 @@ pub enum Words<'a> {
         /// The record and the size.
         recording: Recording<'a>,
     },
+    /// Prints what a configuration record says of any recording of version 3, for frames of its size.
+    Setup {
+        /// The record and the size.
+        recording: Recording<'a>,
+    },
     /// Makes the holding file of copies.
     Take {
         /// The record and size of the copies.
@@ -126,6 +131,7 @@ impl<'a> Words<'a> {
             (Words::Scan { file, .. }, CommandPath::File) => *file,
             (
                 Words::Show { recording }
+                | Words::Setup { recording }
                 | Words::Take { recording, .. }
                 | Words::Decode { recording, .. },
                 CommandPath::Record,

@@ -3,7 +3,11 @@ pub use Rattle.ffv1_commands.specs.Paths
 pub use Rattle.ffv1_commands.specs.Fault
 pub use Rattle.ffv1_commands.specs.Devices
 pub use Rattle.ffv1_commands.specs.ChainText
+pub use Rattle.ffv1_commands.specs.SetupLines
+pub use Rattle.ffv1_commands.specs.Formats
+pub use Rattle.ffv1_commands.specs.RecordText
 pub use Rattle.ffv1_commands.specs.ShowText
+pub use Rattle.ffv1_commands.specs.SetupText
 pub use Rattle.ffv1_commands.specs.Holdings
 pub use Rattle.ffv1_commands.specs.RecordInputs
 pub use Rattle.ffv1_commands.specs.TakeText

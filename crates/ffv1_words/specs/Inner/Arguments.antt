@@ -24,6 +24,7 @@ pub record IsOfHoldings (name : List ℕ) : Type 0 where
   pub not_chain : name ≢ codes "chain"
   pub not_scan : name ≢ codes "scan"
   pub not_show : name ≢ codes "show"
+  pub not_setup : name ≢ codes "setup"
   pub not_take : name ≢ codes "take"
   pub not_splice : name ≢ codes "splice"
   pub not_mend : name ≢ codes "mend"

@@ -1,5 +1,5 @@
 use Rattle.std.proofs.Common.{rules}
-use Rattle.ffv1_commands.proofs.Shows.{show_of_bytes}
+use Rattle.ffv1_commands.proofs.RecordTexts.{show_of_bytes}
 use Rattle.ffv1_commands.proofs.Wrapped.{one_through}
 use Rattle.ffv1_program.proofs.Runs.{all_ok, all_err}
 use Rattle.ffv1_program.proofs.Unread.{unread_as, show_unread}

@@ -8,6 +8,11 @@ returns-in_err-recording_words-in-show c =
     hands_on (rows_matched c.args.matches.now) c.args.name.now c.from_residual-in_err-recording_words-in-show.result _ c.from_residual-in_err-recording_words-in-show.ensures.1
     (refused _ (rows_matched c.args.matches.now) _ (codes "show") c.in-show.is _ (λ need. need) c.in_err-recording_words-in-show.ensures)
 
+pub returns-in_err-recording_words-in-setup : goal.returns-in_err-recording_words-in-setup
+returns-in_err-recording_words-in-setup c =
+    hands_on (rows_matched c.args.matches.now) c.args.name.now c.from_residual-in_err-recording_words-in-setup.result _ c.from_residual-in_err-recording_words-in-setup.ensures.1
+    (refused _ (rows_matched c.args.matches.now) _ (codes "setup") c.in-setup.is _ (λ need. need) c.in_err-recording_words-in-setup.ensures)
+
 pub returns-in_err-recording_words-in-take : goal.returns-in_err-recording_words-in-take
 returns-in_err-recording_words-in-take c =
     hands_on (rows_matched c.args.matches.now) c.args.name.now c.from_residual-in_err-recording_words-in-take.result _ c.from_residual-in_err-recording_words-in-take.ensures.1
