@@ -211,7 +211,7 @@ class Session:
         self.progress.watch([out])
         try:
             self.progress.begin("reading OUT again")
-            decoded = decoding.decoded(layout, *mended, decoding.FfmpegDecoder(os.path.abspath(part)))
+            decoded = decoding.decoded(layout, *mended, decoding.FfmpegDecoder(os.path.abspath(part), self.program, self.work))
             read = describe([out], self.judge)
             return Made(*mended, read, flaws_of(out, inputs.form(), read), part, decoded)
         finally:
