@@ -16,7 +16,7 @@ plane_bytes-parts : (depth : ℕ) (all done rest : List ℕ) (n : ℕ) → all �
     → plane_bytes depth done ++ (plane_bytes depth (take n rest) ++ plane_bytes depth (drop n rest)) ≡ plane_bytes depth all
 plane_bytes-parts depth all done rest n e =
     ap (λ l. plane_bytes depth done ++ l)
-        (sym (flat_map-append (sample_bytes depth) (take n rest) (drop n rest)) ∙ ap (λ l. plane_bytes depth l) (take-append-drop n rest))
+    (sym (flat_map-append (sample_bytes depth) (take n rest) (drop n rest)) ∙ ap (λ l. plane_bytes depth l) (take-append-drop n rest))
     ∙ sym (flat_map-append (sample_bytes depth) done rest) ∙ ap (λ l. plane_bytes depth l) (sym e)
 
 pub returns-in_err-write_field : goal.returns-in_err-write_field
@@ -34,7 +34,9 @@ loop-rest-preserved g c =
     let (done, split, written) = c.loop-rest.invariant in
     let rest = c.loop-rest.rest.now in
     let n = c.min-taken.result in
-    let sent = subst (Writes _ _) c.put_samples-count.ensures.bytes c.in_ok-write_field.ensures in
-    (done ++ take n rest, moves_front _ done rest n split,
-    subst (Writes _ _) (sym (flat_map-append (sample_bytes c.args.depth) done (take n rest)))
-    (Writes-trans _ _ _ (plane_bytes c.args.depth done) (plane_bytes c.args.depth (take n rest)) written sent))
+    let sent = subst (Writes _ _) c.put_samples-count.ensures.bytes c.in_ok-write_field.ensures in (
+      done ++ take n rest,
+      moves_front _ done rest n split,
+      subst (Writes _ _) (sym (flat_map-append (sample_bytes c.args.depth) done (take n rest)))
+          (Writes-trans _ _ _ (plane_bytes c.args.depth done) (plane_bytes c.args.depth (take n rest)) written sent),
+    )

@@ -20,8 +20,8 @@ flat_map-parts : {X : Type 0} (f : X → List ℕ) (xs : List X) (i : ℕ) (d : 
 flat_map-parts f xs i d lt =
     let x = get_or xs i d in
     ap (λ l. l ++ flat_map f (drop (i + 1) xs))
-        (ap (λ l. flat_map f (take i xs) ++ l) (sym (append-nil (f x))) ∙ sym (flat_map-append f (take i xs) (x ∷ []))
-        ∙ ap (flat_map f) (sym (take_more xs i d lt)))
+    (ap (λ l. flat_map f (take i xs) ++ l) (sym (append-nil (f x))) ∙ sym (flat_map-append f (take i xs) (x ∷ []))
+    ∙ ap (flat_map f) (sym (take_more xs i d lt)))
     ∙ sym (flat_map-append f (take (i + 1) xs) (drop (i + 1) xs)) ∙ ap (flat_map f) (take-append-drop (i + 1) xs)
 
 pub returns-in_err-write_plane : goal.returns-in_err-write_plane
