@@ -23,6 +23,7 @@ test:
 	rm -f $(PROGRAM) $(CALLS)
 	tests/manual
 	tests/recorded
+	tests/layout
 	$(MAKE) units
 	rt ci
 	tests/run $(PROGRAM)
