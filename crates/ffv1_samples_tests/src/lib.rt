@@ -4,7 +4,11 @@
 #[cfg(test)]
 mod layout;
 #[cfg(test)]
+mod making;
+#[cfg(test)]
 mod player;
+#[cfg(test)]
+mod playing;
 #[cfg(test)]
 mod slice;
 #[cfg(test)]

@@ -1,0 +1,6 @@
+pub mod Asked
+pub mod Makers
+-- what the clauses cite of the crates below
+pub use Rattle.ffv1_range.specs.Setup
+pub use Rattle.ffv1_player.specs.Frames
+pub use Rattle.ffv1_player.specs.Players

@@ -1,0 +1,21 @@
+//! Any recording of version 3, made to measure: its record, and its frames one after the other, each read back before it is returned.
+#![tactic(auto)]
+
+mod asked;
+mod coded;
+mod encoder;
+mod maker;
+mod parity;
+mod plane;
+mod range;
+mod record;
+mod rice;
+mod slice;
+mod spec;
+mod states;
+mod successors;
+mod writer;
+
+pub use maker::Maker;
+pub use record::make_recording_record;
+pub use spec::{PictureSpec, RecordingSpec, SetSpec, SliceSpec};

@@ -1,0 +1,3 @@
+pub mod Turns
+pub mod PlaySteps
+pub mod LineSteps
