@@ -2,11 +2,11 @@
 _ffv1restore() {
     local word=${COMP_WORDS[COMP_CWORD]}
     if [ "$COMP_CWORD" -eq 1 ]; then
-        mapfile -t COMPREPLY < <(compgen -W "chain show setup take join merge report restore picture splice mend decode scan help version" -- "$word")
+        mapfile -t COMPREPLY < <(compgen -W "chain show setup take join merge report restore picture splice mend decode samples scan help version" -- "$word")
         return
     fi
     case "${COMP_WORDS[1]}:$COMP_CWORD" in
-        show:[34] | setup:[34] | take:[34] | decode:[34] | help:* | version:*) COMPREPLY=() ;;
+        show:[34] | setup:[34] | take:[34] | decode:[34] | samples:[34] | help:* | version:*) COMPREPLY=() ;;
         *) mapfile -t COMPREPLY < <(compgen -f -- "$word") ;;
     esac
 }

@@ -7,11 +7,11 @@ import readings
 from copy_damage import damaged_copies
 from damage import damaged_frame, damaged_holding, damaged_record
 from list_damage import make_mended, odd_size, stretches_in
-from stored import OFTEN_BELOW, TESTS, other_records
+from stored import OFTEN_BELOW, TESTS, other_recordings
 from wanted import WANTED, Wanted
 
-COMMANDS = ["chain", "show", "setup", "take", "join", "merge", "report", "restore", "picture", "decode", "splice", "scan", "mend"]
-OTHER_RECORDS = other_records()
+COMMANDS = ["chain", "show", "setup", "take", "join", "merge", "report", "restore", "picture", "decode", "splice", "scan", "mend", "samples"]
+OTHERS = other_recordings()
 
 
 class Input:
@@ -38,12 +38,13 @@ class Input:
             "restore": ["file-0", "out"],
             "picture": ["file-0", "out"],
             "decode": [*recording, "frame-0", "out"],
+            "samples": [*recording, "out", *copies],
             "splice": ["out", *(f"frame-{n}" for n in self.order)],
             "scan": ["list", "reel"],
             "mend": ["list", "out", *(f"frame-{n}" for n in self.order)],
         }[self.command]
         if self.refused:
-            words = words[1:] if self.command not in ("take", "join", "splice", "mend") else []
+            words = words[1:] if self.command not in ("take", "join", "splice", "mend", "samples") else []
         return [self.command, *words]
 
     def wanted(self):
@@ -82,6 +83,18 @@ def reel_with_ranges(numbers, payloads):
     return text.encode(), content
 
 
+def make_played(numbers, one):
+    """Gives an input frames of any recording in their order, some of them damaged; here and there one is left out, or not there."""
+    one.recording = numbers.choice(OTHERS)
+    one.record, one.size = one.recording.record, one.recording.size
+    frames = list(one.recording.frames.values())[: numbers.randint(1, 4)]
+    if len(frames) > 1 and numbers.random() < 0.1:
+        del frames[numbers.randrange(len(frames))]
+    one.payloads = [frame if numbers.random() < 0.5 else damaged_frame(numbers, one.recording, frame) for frame in frames]
+    if numbers.random() < 0.05:
+        one.payloads[numbers.randrange(len(frames))] = None
+
+
 def input_of(seed, number, known, others, files):
     """The input with this number."""
     numbers = random.Random(f"{seed} {number}")
@@ -104,9 +117,12 @@ def input_of(seed, number, known, others, files):
     if one.command == "mend":
         frames = [next(iter(recording.frames.values())), *others]
         make_mended(numbers, one, numbers.choice(list(files.values())) if numbers.random() < 0.3 else stretches_in(numbers, frames))
+    if one.command == "samples" and numbers.random() < 0.7:
+        make_played(numbers, one)
     kind = numbers.random()
     if one.command == "setup" and numbers.random() < 0.7:
-        one.record, one.size = numbers.choice(OTHER_RECORDS)
+        other = numbers.choice(OTHERS)
+        one.record, one.size = other.record, other.size
     if one.command in ("show", "setup") or kind < 0.1:
         one.record = damaged_record(numbers, recording, one.record)
     if kind > 0.9:
@@ -175,11 +191,26 @@ def scanned_input(recording, payloads):
     return one
 
 
+def played_inputs(recording):
+    """The frames of any recording up to the second, of which the last is cut everywhere, and has eight bytes of a slice zeroed everywhere, with a
+    parity that fits."""
+    *before, last = list(recording.frames.values())[:2]
+    for end in range(len(last)):
+        yield Input("samples", recording, [*before, last[:end]], [])
+    for place, piece in readings.links(last)[0]:
+        for start in range(len(piece) - 15):
+            zeroed = readings.sliced(makings.written(piece[:-8], start, bytes(8)))
+            yield Input("samples", recording, [*before, makings.written(last, place, zeroed)], [])
+
+
 def every_input(recording):
     """The first frame of a recording, its record and its last holding file, cut and zeroed everywhere, through each command."""
+    if recording in OTHERS:
+        yield from played_inputs(recording)
+        return
     payload, text = next(iter(recording.frames.values())), recording.holdings[0]
     for damaged_payload in cut_and_zeroed(payload):
-        for command in ("chain", "take", "decode"):
+        for command in ("chain", "take", "decode", "samples"):
             yield Input(command, recording, [damaged_payload], [])
         yield scanned_input(recording, [payload, damaged_payload, payload])
     yield from spliced_inputs(recording, payload)
@@ -189,7 +220,7 @@ def every_input(recording):
             yield Input(command, recording, [], [damaged_text])
         yield Input("merge", recording, [], [damaged_text, text])
     for record in cut_and_zeroed(recording.record):
-        for command in ("show", "setup", "take", "decode"):
+        for command in ("show", "setup", "take", "decode", "samples"):
             one = Input(command, recording, [payload], [])
             one.record = record
             yield one

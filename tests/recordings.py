@@ -11,17 +11,27 @@ TESTS = pathlib.Path(__file__).resolve().parent
 
 @dataclasses.dataclass
 class Command:
-    """A command with its words, of which some are names of files; what it prints and makes of them; and contents of its inputs that are
-    refused, each with what is reported then."""
+    """A command with its words, of which some are names of files; what it prints and makes of them; contents of its inputs that are
+    refused, each with what is reported then; how many bytes OUT and standard output have after each part, where it writes parts one after
+    the other; and of inputs that are read after some parts, how many these are."""
     words: list
     printed: bytes = b""
     made: bytes = None
     status: int = 0
     refused: dict = dataclasses.field(default_factory=dict)
+    steps: list = None
+    later: dict = dataclasses.field(default_factory=dict)
 
     @property
     def name(self):
         return self.words[0]
+
+    def before(self, name):
+        """What was printed and made before an input is read: no file where nothing was."""
+        if name not in self.later:
+            return b"", None
+        made, printed = self.steps[self.later[name]]
+        return self.printed[:printed], self.made[:made]
 
 
 def picture_of_tiles(samples, size, grid, tiles):
@@ -71,6 +81,7 @@ class Recording:
         self.add_splice(halves)
         self.add_scan()
         self.add_mend()
+        self.add_samples(name, samples)
 
     def add_commands_of_records(self, samples, held, whole):
         record, frame = self.inputs["record"], self.frame
@@ -151,7 +162,21 @@ class Recording:
         made, printed, status, _ = self.mended()
         assert made == b"head" + self.frame + element + b"tail"
         refused = {"list": (b"plain\n", "list fault 1")}
-        self.commands.append(Command(["mend", "list", "OUT", "file-a", "file-b"], printed, made, status, refused))
+        self.commands.append(Command(["mend", "list", "OUT", "file-a", "file-b"], printed, made, status, refused, self.steps_of_mend()))
+
+    def add_samples(self, name, samples):
+        """Two frames, of which the second is the first again where the folder has no other one."""
+        folder = TESTS / "real" / name
+        has_other = (folder / "frame-1").exists()
+        self.inputs["next"] = (folder / "frame-1").read_bytes() if has_other else self.frame
+        made, frames = samples + ((folder / "planes-1").read_bytes() if has_other else samples), [("frame", self.frame), ("next", self.inputs["next"])]
+        lines = [f"frame {number} key 1 slices {self.tiles}\n" for number in (1, 2)]
+        steps = [(0, 0), (len(samples), len(lines[0])), (len(made), len("".join(lines)))]
+        damaged = (makings.inverted(payload, 1) for _, payload in frames)
+        refused = {name: (content, f"samples fault 2 in frame {number} at 0") for number, ((name, _), content) in enumerate(zip(frames, damaged), 1)}
+        refused["record"] = makings.inverted(self.inputs["record"], 3), "setup fault 2"
+        words = ["samples", "record", *map(str, self.size), "OUT", "frame", "next"]
+        self.commands.append(Command(words, "".join(lines).encode(), made, 0, refused, steps, {"next": 1}))
 
     def mended(self, **others):
         """What `mend` makes, where some inputs are others."""
@@ -160,12 +185,11 @@ class Recording:
 
     def steps_of_mend(self):
         """How many bytes OUT and standard output have after each stretch."""
-        ends, lines, count = [0], [0], len(readings.stretches_of(self.inputs["list"], 2))
+        steps, count = [(0, 0)], len(readings.stretches_of(self.inputs["list"], 2))
         for number in range(1, count + 1):
             made, printed, _, _ = self.mended(list=b"".join(self.list_of(number)))
-            ends.append(len(made))
-            lines.append(len(printed))
-        return ends, lines
+            steps.append((len(made), len(printed)))
+        return steps
 
     def list_of(self, count):
         """The lines of the first stretches of the list."""

@@ -10,7 +10,7 @@ import readings
 from wanted import heads
 
 # Those whose exit status can be 3.
-THREE = ["picture", "splice", "scan", "mend"]
+THREE = ["picture", "splice", "scan", "mend", "samples"]
 
 MEMORY, FILE_SIZE, PATIENCE = 256 << 20, 4 << 20, 20
 
@@ -28,8 +28,10 @@ def run(program, words, folder, kilobytes=None):
 
 
 def is_front(one, made, printed):
-    """Whether what `mend` made and printed beside a fault are fronts of what is wanted: no file is made before its first byte."""
+    """Whether what `mend` or `samples` made and printed beside a fault are fronts of what is wanted: no file is made before its first byte."""
     wanted = one.wanted()
+    if wanted.printed is None:
+        return True
     begun = not printed if made is None else wanted.made is not None and wanted.made.startswith(made) and bool(made) == bool(wanted.made)
     return begun and wanted.printed.startswith(printed)
 
@@ -59,7 +61,7 @@ def breach(one, ran, made):
         return "reported a fault" if reported else None
     if reported.count(b"\n") != 1 or not reported.startswith(b"ffv1restore: ") or not reported.endswith(b"\n"):
         return "did not report its fault in one line"
-    if one.command == "mend" and status == 1:
+    if one.command in ("mend", "samples") and status == 1:
         return None if is_front(one, made, printed) else "what was made or printed beside a fault is no front"
     if printed and one.command != "scan":
         return "printed beside a fault"

@@ -481,3 +481,40 @@ def frames_of(recording, payloads):
         except FrameFault as fault:
             before = None
             yield fault
+
+
+# man page: samples
+FAULTS = {name: number for number, name in enumerate(("Chain", "Slice", "Overlap", "Uncovered", "Previous", "Content"), 1)}
+
+
+# man page: samples
+def fault_text(number, fault):
+    """The line of a frame's fault."""
+    name, *where = fault.args
+    return f"samples fault {FAULTS[name]} in frame {number}" + "".join(f" at {place}" for place in where[:1])
+
+
+# man page: samples
+def frame_text(number, slices):
+    """The lines of a frame that was written."""
+    lines = [f"frame {number} key {int(slices[0].header.key)} slices {len(slices)}\n"]
+    lines += (f"slice {place} unclean spare {each.spare}\n" for place, each in enumerate(slices) if not each.is_clean)
+    return "".join(lines).encode()
+
+
+# man page: samples
+def sampled(recording, frames):
+    """What `samples` makes of frames, each with its name and its payload, or None where it can't be read: OUT, or None where nothing was
+    written; what is printed; the exit status; and the fault."""
+    before, made, printed, clean = None, None, b"", True
+    for number, (name, payload) in enumerate(frames, 1):
+        if payload is None:
+            return made, printed, 1, f"cannot read {name}"
+        try:
+            before = frame_of(recording, payload, before)
+        except FrameFault as fault:
+            return made, printed, 1, fault_text(number, fault)
+        made = (made or b"") + samples_text(recording, before)
+        printed += frame_text(number, before)
+        clean = clean and all(each.is_clean for each in before)
+    return made, printed, 0 if clean else 3, None

@@ -42,10 +42,20 @@ def other_frames():
     return [*(payload for payload in payloads if readings.links(payload)[1] is None), casebook.shared_contents()["two-slices"]]
 
 
-def other_records():
-    """The records of those recordings, with their sizes."""
+class OtherRecording:
+    """A folder of a recording that is not in the profile: its record, its size, and its frames in their order."""
+
+    def __init__(self, folder):
+        self.name = folder.name
+        self.record = (folder / "record").read_bytes()
+        self.size = tuple(int(side) for side in folder.name.split("-")[1].split("x"))
+        self.frames = {path.name: path.read_bytes() for path in sorted(folder.glob("frame-*"))}
+
+
+def other_recordings():
+    """The recordings that are not in the profile."""
     folders = [folder for folder in sorted((TESTS / "real").iterdir()) if (folder / "record").exists() and not any(folder.glob("planes*"))]
-    return [((folder / "record").read_bytes(), tuple(map(int, folder.name.split("-")[1].split("x")))) for folder in folders]
+    return [OtherRecording(folder) for folder in folders]
 
 
 def reels():

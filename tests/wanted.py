@@ -1,5 +1,11 @@
 """What each command has to report, print and make of its files, by tests/readings.py."""
+import math
+
 import readings
+import sample_reading
+
+# Of greater frames no samples are read here.
+MOST_SAMPLES = 1 << 16
 
 
 class Wanted:
@@ -41,14 +47,30 @@ def wanted_show(_, setup):
     return Wanted(0, readings.show_text(setup))
 
 
-def wanted_setup(one):
-    """What is wanted of any recording, whose initial states are read here where they are few."""
-    try:
-        return Wanted(0, readings.setup_text(readings.recording_of(one.record, one.size, most=1000)))
-    except readings.TooManyStates:
+def with_recording(wanted):
+    """What is wanted of a command of any recording, whose initial states are read here where they are few."""
+
+    def judged(one):
+        try:
+            recording = readings.recording_of(one.record, one.size, most=10000)
+        except readings.TooManyStates:
+            return Wanted()
+        except readings.Fault as fault:
+            return fault_wanted(fault, "setup")
+        return wanted(one, recording)
+
+    return judged
+
+
+def wanted_setup(_, recording):
+    return Wanted(0, readings.setup_text(recording))
+
+
+def wanted_samples(one, recording):
+    if math.prod(recording.size) > MOST_SAMPLES:
         return Wanted()
-    except readings.Fault as fault:
-        return fault_wanted(fault, "setup")
+    made, printed, status, reported = sample_reading.sampled(recording, [(f"frame-{number}", payload) for number, payload in enumerate(one.payloads)])
+    return Wanted(status, printed, made, reported)
 
 
 def wanted_take(one, setup):
@@ -182,7 +204,8 @@ def with_files(wanted):
 WANTED = {
     "chain": wanted_chain,
     "show": with_setup(wanted_show),
-    "setup": wanted_setup,
+    "setup": with_recording(wanted_setup),
+    "samples": with_recording(wanted_samples),
     "take": with_setup(wanted_take),
     "join": with_files(wanted_join),
     "merge": wanted_merge,

@@ -3,7 +3,7 @@ use crate::commands::taken;
 use crate::suite::merged;
 use ffv1_commands::{
     CliFault, CommandPath, run_chain, run_decode, run_join, run_merge, run_picture, run_report,
-    run_restore, run_setup, run_show, run_splice, run_take,
+    run_restore, run_samples, run_setup, run_show, run_splice, run_take,
 };
 use ffv1_hold::HoldFileFault;
 use ffv1_test_frames::{FRAME, LEFT_DAMAGED, Narrow, TWO_TILES};
@@ -134,9 +134,10 @@ enum Command {
     Picture,
     Splice,
     Decode,
+    Samples,
 }
 
-static COMMANDS: [Command; 11] = [
+static COMMANDS: [Command; 12] = [
     Command::Chain,
     Command::Show,
     Command::Setup,
@@ -148,6 +149,7 @@ static COMMANDS: [Command; 11] = [
     Command::Picture,
     Command::Splice,
     Command::Decode,
+    Command::Samples,
 ];
 
 impl Command {
@@ -156,7 +158,7 @@ impl Command {
         match self {
             Command::Chain => (CommandPath::Frame, None),
             Command::Show | Command::Setup => (CommandPath::Record, None),
-            Command::Take => (CommandPath::Record, Some(CommandPath::Copy(0))),
+            Command::Take | Command::Samples => (CommandPath::Record, Some(CommandPath::Copy(0))),
             Command::Splice => (CommandPath::Copy(0), Some(CommandPath::Copy(1))),
             Command::Decode => (CommandPath::Record, Some(CommandPath::Frame)),
             Command::Join => (CommandPath::Hold(0), Some(CommandPath::Hold(1))),
@@ -170,7 +172,7 @@ impl Command {
         match self {
             Command::Chain => (&FRAME, &[]),
             Command::Show | Command::Setup => (&TWO_TILES, &[]),
-            Command::Take | Command::Decode => (&TWO_TILES, &FRAME),
+            Command::Take | Command::Decode | Command::Samples => (&TWO_TILES, &FRAME),
             Command::Splice => (&FRAME, &FRAME),
             Command::Join | Command::Merge => (&files.part, &files.whole),
             Command::Report | Command::Restore => (&files.whole, &[]),
@@ -185,6 +187,21 @@ struct Files {
     part: Vec<u8>,
     whole: Vec<u8>,
     union: Vec<u8>,
+}
+
+/// Runs `samples` of one frame.
+fn play_one<'a>(
+    alloc: Global,
+    record: &mut Input<'a>,
+    frame: Input<'a>,
+    out: &mut Output,
+    printed: &mut Output,
+) -> Result<(), CliFault> {
+    let frames = Vec::from_array(alloc, [frame])?;
+    match run_samples(alloc, record, 2, 1, frames, out, printed) {
+        Ok(_) => Ok(()),
+        Err(fault) => Err(fault),
+    }
 }
 
 /// Runs a command; the second input is left alone where it has one alone.
@@ -214,6 +231,7 @@ fn run<'a>(
             Err(fault) => Err(fault),
         },
         Command::Decode => run_decode(alloc, &mut first, 2, 1, &mut second, out, printed),
+        Command::Samples => play_one(alloc, &mut first, second, out, printed),
     }
 }
 

@@ -34,3 +34,4 @@ pub mod ScanCommandSteps
 pub mod MendCommandSteps
 pub mod MendCommandLaws
 pub mod UnreadLaws
+pub mod PlaySteps

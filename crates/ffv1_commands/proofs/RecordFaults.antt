@@ -30,6 +30,12 @@ pub RecordStops-says : (P : CliFault → Type 0) (width height : ℕ) (a b : Rea
 RecordStops-says P width height a b fault read memory first stops =
     StopsAtRecord-says P (λ config setup. FirstSetupFault config width height setup) a b fault read memory first stops
 
+pub RecordingStops-says : (P : CliFault → Type 0) (width height : ℕ) (a b : ReadLog) (fault : CliFault) → P (faults.Read paths.Record) → P faults.Memory
+    → ((setup : SetupFault) (config : List ℕ) → TakesWhole a b config → FirstRecordingFault config width height setup → P (faults.Setup setup))
+    → RecordingStops width height a b fault → P fault
+RecordingStops-says P width height a b fault read memory first stops =
+    StopsAtRecord-says P (λ config setup. FirstRecordingFault config width height setup) a b fault read memory first stops
+
 -- a setup's fault is Memory, or reported as `Setup`
 setups : (P : CliFault → Type 0) (fault : SetupFault) → P faults.Memory → P (faults.Setup fault) → P (of_setup fault)
 setups P setup.Memory memory other = memory
@@ -71,6 +77,10 @@ module _ (width height : ℕ) (a b : ReadLog) where
   recording_taken config bytes same took value is =
       record { config = config; read = took; is_recording = subst (λ (read : List ℕ). IsRecordingOf read width height value) same is }
 
+  -- it was not read as one
+  pub recording_unread : (fault : CliFault) → FileStops paths.Record fault a b → RecordingStops width height a b fault
+  recording_unread = file_says (RecordingStops width height a b) paths.Record a b (λ unread. (refl, unread)) (λ within. within)
+
   pub recording_refused : (config bytes : List ℕ) → bytes ≡ config → TakesWhole a b config → (fault : SetupFault)
       → (fault ≡ setup.Memory) ⊎ FirstRecordingFault bytes width height fault → RecordingStops width height a b (of_setup fault)
   recording_refused config bytes same took fault first =
@@ -88,3 +98,7 @@ module _ (width height : ℕ) (a b : ReadLog) where
   pub record_in_turn : (P : Type 0) → P → (fault : CliFault) → RecordStops width height a b fault → IfOfRecord fault P
   record_in_turn P here fault stops =
       RecordStops-says (λ f. IfOfRecord f P) width height a b fault (λ is. here) tt (λ setup config took first. here) stops
+
+  pub recording_in_turn : (P : Type 0) → P → (fault : CliFault) → RecordingStops width height a b fault → IfOfRecord fault P
+  recording_in_turn P here fault stops =
+      RecordingStops-says (λ f. IfOfRecord f P) width height a b fault (λ is. here) tt (λ setup config took first. here) stops

@@ -1,36 +1,19 @@
 -- What a command takes from a file and leaves in one.
 use Rattle.std.specs.Prelude.{ℕ, ◌≡◌, ◌+◌, ◌<◌, ◌≤◌, List, [], ◌∷◌, ◌++◌, length, Option, IfSome, ◌⊎◌}
-use Rattle.std.specs.Io.KnownBytes.{Appends, IsAtEnd, Keeps}
+use Rattle.std.specs.Io.KnownBytes.{Appends, Keeps}
 use Rattle.ffv1_bits.specs.Limits.{payload_limit}
-use Rattle.ffv1_devices.specs.Logs.{ReadLog, WriteLog, GivesUp, Reads, BreaksOff, Writes, StopsWriting}
+use Rattle.ffv1_devices.specs.Logs.{ReadLog, WriteLog, GivesUp, Reads, Writes, StopsWriting}
 pub use Rattle.ffv1_devices.specs.Writing.{WritesFront}
+pub use Rattle.ffv1_play.specs.Payloads.{TakesWhole, StopsWithin, GivesUpWithin, IsUnread}
 use Rattle.ffv1_holding.specs.declared.fault.HoldFault.TheVariants as holds
 use Rattle.ffv1_commands.specs.declared.fault.CliFault.{CliFault}
 use Rattle.ffv1_commands.specs.declared.fault.CliFault.TheVariants as faults
 use Rattle.ffv1_commands.specs.declared.path.CommandPath.{CommandPath}
 use Rattle.ffv1_commands.specs.declared.path.CommandPath.TheVariants as paths
 
--- These bytes were read to the end of their source, and are not too many.
-pub record TakesWhole (old new : ReadLog) (bytes : List ℕ) : Type 0 where
-  pub read : Reads old new bytes
-  pub end : IsAtEnd new.remaining
-  pub few : length bytes ≤ payload_limit
-
--- Reading stopped within the limit.
-abbrev pub StopsWithin : ReadLog → ReadLog → Type 0
-StopsWithin old new = (bytes : List ℕ) × Reads old new bytes × (length bytes ≤ payload_limit)
-
 -- The source was given up.
 abbrev pub IsGivenUp : ReadLog → ReadLog → Type 0
 IsGivenUp old new = GivesUp old.tries new.tries
-
--- It was, within the limit.
-abbrev pub GivesUpWithin : ReadLog → ReadLog → Type 0
-GivesUpWithin old new = (bytes : List ℕ) × BreaksOff old new bytes × (length bytes ≤ payload_limit)
-
--- The source was given up within the limit, or passed it by one byte.
-abbrev pub IsUnread : ReadLog → ReadLog → Type 0
-IsUnread old new = GivesUpWithin old new ⊎ ((bytes : List ℕ) × Reads old new bytes × (length bytes ≡ payload_limit + 1))
 
 -- how the file that is this path of the command was not read
 abbrev pub FileStops : CommandPath → CliFault → ReadLog → ReadLog → Type 0

@@ -13,6 +13,10 @@ use Rattle.ffv1_picture.specs.declared.fault.FrameFault.{FrameFault}
 use Rattle.ffv1_picture.specs.declared.fault.FrameFault.TheVariants as frame
 use Rattle.ffv1_stretches.specs.declared.pass.MendFault.{MendFault}
 use Rattle.ffv1_stretches.specs.declared.pass.MendFault.TheVariants as mend
+use Rattle.ffv1_player.specs.declared.fault.SamplesFault.{SamplesFault}
+use Rattle.ffv1_player.specs.declared.fault.SamplesFault.TheVariants as samples
+use Rattle.ffv1_play.specs.declared.play.PlayFault.{PlayFault}
+use Rattle.ffv1_play.specs.declared.play.PlayFault.TheVariants as play
 use Rattle.ffv1_commands.specs.declared.fault.CliFault.{CliFault}
 use Rattle.ffv1_commands.specs.declared.fault.CliFault.TheVariants as faults
 use Rattle.ffv1_commands.specs.declared.path.CommandPath.{CommandPath}
@@ -85,6 +89,21 @@ frame_fault_line (frame.Order place) = codes "frame fault 3 at " ++ decimal plac
 frame_fault_line (frame.Tile tile cause) = codes "frame fault 4 at " ++ decimal tile
 frame_fault_line frame.Memory = codes "frame fault 5"
 
+-- the number of a frame, and a place in it
+abbrev pub place_in_frame : (number place : ℕ) → List ℕ
+place_in_frame number place = decimal number ++ (codes " at " ++ decimal place)
+
+-- the line that reports why the frame of this number gives no samples, with the place of the slice, in slices from the payload's front, or
+-- the tile
+abbrev pub samples_fault_line : ℕ → SamplesFault → List ℕ
+samples_fault_line number samples.Chain = codes "samples fault 1 in frame " ++ decimal number
+samples_fault_line number (samples.Slice place cause) = codes "samples fault 2 in frame " ++ place_in_frame number place
+samples_fault_line number (samples.Overlap place) = codes "samples fault 3 in frame " ++ place_in_frame number place
+samples_fault_line number (samples.Uncovered tile) = codes "samples fault 4 in frame " ++ place_in_frame number tile
+samples_fault_line number (samples.Previous place) = codes "samples fault 5 in frame " ++ place_in_frame number place
+samples_fault_line number (samples.Content place cause) = codes "samples fault 6 in frame " ++ place_in_frame number place
+samples_fault_line number samples.Memory = codes "samples fault 7 in frame " ++ decimal number
+
 -- the line that reports a fault, where this is the text of the path that it names
 abbrev pub fault_line : List ℕ → CliFault → List ℕ
 fault_line text (faults.Read path) = codes "cannot read " ++ text
@@ -93,6 +112,7 @@ fault_line text (faults.Setup fault) = codes "setup fault " ++ decimal (setup_fa
 fault_line text (faults.Hold fault) = codes "hold fault " ++ decimal (hold_fault_number fault)
 fault_line text (faults.HoldFile fault) = codes "holding file fault " ++ decimal (hold_file_fault_number fault)
 fault_line text (faults.Frame fault) = frame_fault_line fault
+fault_line text (faults.Samples number fault) = samples_fault_line number fault
 fault_line text (faults.Missing tile) = codes "missing tile " ++ decimal tile
 fault_line text (faults.Disputed tile) = codes "disputed tile " ++ decimal tile
 fault_line text (faults.Splice path) = codes "cannot splice " ++ text
@@ -131,6 +151,14 @@ of_mend (mend.Read copy) = faults.Read (paths.Copy copy)
 of_mend mend.Out = faults.Write paths.Out
 of_mend mend.Output = faults.Write paths.StandardOutput
 of_mend mend.Memory = faults.Memory
+
+-- why frames were not all played, as a fault of a command
+abbrev pub of_play : PlayFault → CliFault
+of_play (play.Read place) = faults.Read (paths.Copy place)
+of_play (play.Samples number fault) = faults.Samples number fault
+of_play play.Out = faults.Write paths.Out
+of_play play.Output = faults.Write paths.StandardOutput
+of_play play.Memory = faults.Memory
 
 -- a frame's fault as one of a command
 abbrev pub of_frame : FrameFault → CliFault

@@ -13,7 +13,7 @@ IsShowPath Record = Unit {0}
 IsShowPath StandardOutput = Unit {0}
 IsShowPath _ = ⊥
 
--- `take` of so many copies
+-- `take` of so many copies, and `samples` of so many frames
 abbrev pub IsTakePath : ℕ → CommandPath → Type 0
 IsTakePath copies Record = Unit {0}
 IsTakePath copies (Copy place) = place < copies

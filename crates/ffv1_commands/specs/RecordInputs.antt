@@ -16,6 +16,12 @@ pub record IsSetupInput (input : Option (List ℕ)) (width height : ℕ) (setup 
   pub read : IsWholeInput input config
   pub is_setup : IsSetupOf config width height setup
 
+-- The same for any recording of version 3.
+pub record IsRecordingInput (input : Option (List ℕ)) (width height : ℕ) (recording : RecordingValue) : Type 0 where
+  pub config : List ℕ
+  pub read : IsWholeInput input config
+  pub is_recording : IsRecordingOf config width height recording
+
 -- The same for a reel, which keeps the record beside its setup.
 pub record IsReelInput (input : Option (List ℕ)) (width height : ℕ) (reel : Reel) : Type 0 where
   pub read : IsWholeInput input reel.config

@@ -1,11 +1,13 @@
 //! Why a command stopped, and how that is reported.
 ghost use Rattle.std.specs.Prelude.{◌≡◌, IfOk, string_bytes};
-ghost use Rattle.ffv1_commands.specs.Fault.{named_path, fault_line, setup_fault_number, hold_fault_number, hold_file_fault_number, frame_fault_line, of_setup, of_hold, of_frame, of_restore, of_mend, of_hold_file, of_merge, exit_status_of};
+ghost use Rattle.ffv1_commands.specs.Fault.{named_path, fault_line, setup_fault_number, hold_fault_number, hold_file_fault_number, frame_fault_line, samples_fault_line, of_setup, of_hold, of_frame, of_restore, of_mend, of_play, of_hold_file, of_merge, exit_status_of};
 ghost use Rattle.ffv1_commands.specs.declared.fault.CliFault.TheVariants.{Memory};
 
 use crate::path::CommandPath;
 use ffv1_hold::{HoldFault, HoldFileFault, RestoreFault};
 use ffv1_picture::FrameFault;
+use ffv1_play::PlayFault;
+use ffv1_player::SamplesFault;
 use ffv1_range::SetupFault;
 use ffv1_stretches::MendFault;
 use std::alloc::{AllocError, AllocFailed, Global};
@@ -14,15 +16,15 @@ use thiserror::Error;
 /// A fault of a command. That of a device says which path of the command it is.
 #[derive(Debug, Drop, Error)]
 pub enum CliFault {
-    /// The file could not be opened or read; or it is a record, the payload of `chain` or `decode`, a copy of `splice`, the
-    /// list of ranges of `scan` or the list of `mend`, and longer than 2^30 bytes; or it is the file of `scan`, and ends before a
-    /// range does, or a copy of `mend`, and ends within a stretch.
+    /// The file could not be opened or read; or it is a record, the payload of `chain` or `decode`, a copy of `splice`, a frame of
+    /// `samples`, the list of ranges of `scan` or the list of `mend`, and longer than 2^30 bytes; or it is the file of `scan`, and ends
+    /// before a range does, or a copy of `mend`, and ends within a stretch.
     #[error("{0:?} was not read")]
     Read(CommandPath),
-    /// The file could not be made or written; or it is the one that `merge` or `mend` makes, and an input by the same word.
+    /// The file could not be made or written; or it is the one that `merge`, `mend` or `samples` makes, and an input by the same word.
     #[error("{0:?} was not written")]
     Write(CommandPath),
-    /// The configuration record, with its width and height, gives no setup of the profile; that of `setup` none of version 3.
+    /// The configuration record, with its width and height, gives no setup of the profile; that of `setup` or `samples` none of version 3.
     #[error("setup fault")]
     Setup(SetupFault),
     /// A copy of `take` is too long, or a holding file is of another record or size than the first. `Memory` is never this
@@ -36,6 +38,9 @@ pub enum CliFault {
     /// A payload is no frame. `Memory` is never this fault's cause.
     #[error("frame fault")]
     Frame(FrameFault),
+    /// The payload of the frame of this number, counted from 1, gives no samples. `Memory` is never this fault's cause.
+    #[error("samples fault in frame {number}")]
+    Samples { number: usize, fault: SamplesFault },
     /// No slice of this tile is held, and every earlier tile is settled.
     #[error("missing tile {0}")]
     Missing(usize),
@@ -93,6 +98,7 @@ impl CliFault {
                 format!(in alloc; "holding file fault {number}")
             }
             CliFault::Frame(fault) => frame_fault_line(alloc, *fault),
+            CliFault::Samples { number, fault } => samples_fault_line(alloc, *number, *fault),
             CliFault::Missing(tile) => format!(in alloc; "missing tile {tile}"),
             CliFault::Disputed(tile) => format!(in alloc; "disputed tile {tile}"),
             CliFault::Splice(_) => format!(in alloc; "cannot splice {path}"),
@@ -173,6 +179,21 @@ impl From<MendFault> for CliFault {
             MendFault::Out => CliFault::Write(CommandPath::Out),
             MendFault::Output => CliFault::Write(CommandPath::StandardOutput),
             MendFault::Memory => CliFault::Memory,
+        }
+    }
+}
+
+impl From<PlayFault> for CliFault {
+    ghost from_gives = { λ fault result. result ≡ of_play fault };
+
+    /// A device is reported by its path, and memory as `Memory`.
+    fn from(fault: PlayFault) -> CliFault {
+        match fault {
+            PlayFault::Read(place) => CliFault::Read(CommandPath::Copy(place)),
+            PlayFault::Samples { number, fault } => CliFault::Samples { number, fault },
+            PlayFault::Out => CliFault::Write(CommandPath::Out),
+            PlayFault::Output => CliFault::Write(CommandPath::StandardOutput),
+            PlayFault::Memory => CliFault::Memory,
         }
     }
 }
@@ -286,5 +307,35 @@ fn frame_fault_line(alloc: Global, fault: FrameFault) -> Result<String, AllocErr
         FrameFault::Order { place } => format!(in alloc; "frame fault 3 at {place}"),
         FrameFault::Tile { tile, .. } => format!(in alloc; "frame fault 4 at {tile}"),
         FrameFault::Memory => String::from_str(alloc, "frame fault 5"),
+    }
+}
+
+/// The line that reports why a frame gives no samples: the fault's number, the frame's, from 1, and the place of the slice, in slices from
+/// the payload's front, or the tile.
+fn samples_fault_line(
+    alloc: Global,
+    number: usize,
+    fault: SamplesFault,
+) -> Result<String, AllocError>
+    ensures { IfOk result (λ line. string_bytes line ≡ samples_fault_line number fault) }
+{
+    match fault {
+        SamplesFault::Chain => format!(in alloc; "samples fault 1 in frame {number}"),
+        SamplesFault::Slice { place, .. } => {
+            format!(in alloc; "samples fault 2 in frame {number} at {place}")
+        }
+        SamplesFault::Overlap { place } => {
+            format!(in alloc; "samples fault 3 in frame {number} at {place}")
+        }
+        SamplesFault::Uncovered { tile } => {
+            format!(in alloc; "samples fault 4 in frame {number} at {tile}")
+        }
+        SamplesFault::Previous { place } => {
+            format!(in alloc; "samples fault 5 in frame {number} at {place}")
+        }
+        SamplesFault::Content { place, .. } => {
+            format!(in alloc; "samples fault 6 in frame {number} at {place}")
+        }
+        SamplesFault::Memory => format!(in alloc; "samples fault 7 in frame {number}"),
     }
 }

@@ -87,9 +87,9 @@ pub fn mend_gives_the_original()
     ensures { MendGivesTheOriginal }
 {}
 
-/// An input of at most 2^30 bytes that is read whole, as a record, a list or a copy for `splice`, is reported as unread only if its source was
-/// given up. So is a copy that `mend` reads by a list, if it is as long as the list asks: a shorter one ends within a stretch, and no
-/// device is at fault.
+/// An input of at most 2^30 bytes that is read whole, as a record, a list, a copy for `splice` or a frame of `samples`, is reported as unread
+/// only if its source was given up. So is a copy that `mend` reads by a list, if it is as long as the list asks: a shorter one ends within a
+/// stretch, and no device is at fault.
 pub fn unread_files_were_given_up()
     ensures within_limit { UnreadIsGivenUp }
     ensures long_enough { LongCopyIsGivenUp }

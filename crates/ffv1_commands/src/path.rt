@@ -7,7 +7,7 @@ pub enum CommandPath {
     Record,
     /// The payload of a frame.
     Frame,
-    /// The copy of a payload, or of the file of `mend`, before which stand so many others.
+    /// The copy of a payload or of the file of `mend`, or the frame of `samples`, before which stand so many others.
     Copy(usize),
     /// The holding file before which stand so many others.
     Hold(usize),

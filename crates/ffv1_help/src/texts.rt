@@ -32,6 +32,8 @@ Commands
       puts a whole file together from its copies, by a list of what lies where
   ffv1restore decode RECORD WIDTH HEIGHT FRAME OUT
       writes the samples of a frame
+  ffv1restore samples RECORD WIDTH HEIGHT OUT FRAME...
+      writes those of frames of any recording of version 3
   ffv1restore help
       prints these lines, the exit statuses, and what each fault means
   ffv1restore version
@@ -44,8 +46,9 @@ Exit statuses
   2  The words were refused.
   3  picture wrote OUT, and some tile has no samples; or splice wrote OUT, and
      some place is neither settled nor woven, or the end is broken; or mend
-     wrote OUT, and some stretch is missing, disputed, open or alone; or scan
-     found a range that is not whole, has no slice, or has one that fails.
+     wrote OUT, and some stretch is missing, disputed, open or alone; or samples
+     wrote all frames, and some slice is unclean; or scan found a range that is
+     not whole, has no slice, or has one that fails.
 
 Faults
   cannot read PATH
@@ -56,8 +59,8 @@ Faults
       from merge, if it opened A and B, and reading one of them fails.
   cannot write PATH
       The file, or standard output, can't be made or written; or OUT of merge is
-      A or B; or OUT of mend is LIST or a copy by the same word. Then nothing is
-      read.
+      A or B, or OUT of mend is LIST or a copy, or OUT of samples is RECORD or a
+      FRAME, by the same word. Then nothing is read.
   cannot splice PATH
       The copy does not have the length of the first one.
   ranges fault N
@@ -78,9 +81,10 @@ Faults
   words refused
       The words are not a command with exactly its words.
   setup fault N
-      setup takes more: coder_type 1 and 2, colorspace_type 1 (RGB, with its
-      planes), up to 16 bits, an extra plane, chroma subsampled by up to 16, and
-      ec 0. Its faults 6 to 8, 10 and 16 are of other values than these.
+      setup and samples take more: coder_type 1 and 2, colorspace_type 1 (RGB,
+      with its planes), up to 16 bits, an extra plane, chroma subsampled by up
+      to 16, and ec 0. Their faults 6 to 8, 10 and 16 are of other values than
+      these.
        1  the record has fewer than 6 bytes
        2  its parity fails: the record is damaged
        3  a number in it can't be read
@@ -122,6 +126,19 @@ Faults
        3  a slice is of another tile
        4  a tile has a code that can't be read (also if width or height is
           wrong)
+  samples fault N
+      After the words in frame comes the number of the FRAME, counted from 1.
+      Faults 2 to 6 name, after the word at, the number of the slice, but fault
+      4 that of the tile. Both count from 0 from the frame's front.
+       1  the chain is broken, has no slice, or more than there are tiles (also
+          if a whole container is given instead of a frame)
+       2  a slice is damaged, or is no slice of the recording
+       3  a slice has a tile of one before it
+       4  a tile is in no slice
+       5  the frame is no keyframe, and a slice of it does not go on from the
+          FRAME before (also if there is none)
+       6  the samples of a slice can't be read (also if width or height is
+          wrong, or a frame before it is left out)
 
 The manual page has more: man ffv1restore.
 ";

@@ -5,7 +5,7 @@ use crate::buffer::Buffer;
 use crate::stock::{SIZE, Stock, TORN_LIST, damaged_copies, first_copy, second_copy};
 use ffv1_commands::{
     CliFault, run_chain, run_decode, run_join, run_mend, run_merge, run_picture, run_report,
-    run_restore, run_scan, run_setup, run_show, run_splice, run_take,
+    run_restore, run_samples, run_scan, run_setup, run_show, run_splice, run_take,
 };
 use ffv1_test_frames::{RECORDED, RECORDED_RECORD};
 use std::alloc::Global;
@@ -73,6 +73,8 @@ pub enum Command {
     Mend,
     /// `run_decode` of the frame.
     Decode,
+    /// `run_samples` of the frame.
+    Samples,
 }
 
 /// A command's function, with what it has made and printed.
@@ -113,6 +115,7 @@ impl<'a> Run<'a> {
             Command::Scan => scan_frame(alloc, printed),
             Command::Mend => mend_damaged(alloc, made, printed),
             Command::Decode => decode_payload(alloc, made, printed),
+            Command::Samples => play_payload(alloc, made, printed),
         }
     }
 }
@@ -186,6 +189,13 @@ fn decode_payload(alloc: Global, made: &mut Buffer, printed: &mut Buffer) -> Res
         made,
         printed,
     )
+}
+
+/// `run_samples` of the frame.
+fn play_payload(alloc: Global, made: &mut Buffer, printed: &mut Buffer) -> Result<(), CliFault> {
+    let mut record = RECORDED_RECORD.as_slice();
+    let frames = Vec::from_array(alloc, [RECORDED.as_slice()])?;
+    unit(run_samples(alloc, &mut record, SIZE.0, SIZE.1, frames, made, printed))
 }
 
 impl Attempt for Run<'_> {

@@ -11,6 +11,7 @@ mod buffer;
 mod calls;
 mod commands;
 mod mending;
+mod playing;
 mod stock;
 
 use attempt::{Attempt, Tried};
@@ -20,6 +21,7 @@ use calls::{
 };
 use commands::{Command, Run};
 use mending::{Mend, MendStretches, ReadList};
+use playing::{DecodeSlice, MakePlayer, PlayFrame, ReadLayout};
 use std::io;
 use std::process::ExitCode;
 use stock::Stock;
@@ -71,6 +73,14 @@ fn report_pictures(rt: &HostRuntime, stock: &Stock) -> io::Result<()> {
     report(rt, "report", Report { held })
 }
 
+/// The calls that decode the frames of any recording.
+fn report_players(rt: &HostRuntime) -> io::Result<()> {
+    report(rt, "read_layout", ReadLayout::new(rt.alloc())?)?;
+    report(rt, "decode_slice", DecodeSlice::new(rt.alloc())?)?;
+    report(rt, "Player::new", MakePlayer)?;
+    report(rt, "Player::decode", PlayFrame::new(rt.alloc())?)
+}
+
 /// The calls that splice copies without a setup.
 fn report_splices(rt: &HostRuntime) -> io::Result<()> {
     report(rt, "weave", Weave)?;
@@ -87,7 +97,7 @@ fn report_stretches(rt: &HostRuntime) -> io::Result<()> {
 }
 
 /// The functions of the commands, by their names.
-static COMMANDS: [(&str, Command); 13] = [
+static COMMANDS: [(&str, Command); 14] = [
     ("run_chain", Command::Chain),
     ("run_show", Command::Show),
     ("run_setup", Command::Setup),
@@ -101,6 +111,7 @@ static COMMANDS: [(&str, Command); 13] = [
     ("run_scan", Command::Scan),
     ("run_mend", Command::Mend),
     ("run_decode", Command::Decode),
+    ("run_samples", Command::Samples),
 ];
 
 /// The functions of the commands.
@@ -116,6 +127,7 @@ fn report_calls(rt: &HostRuntime, stock: &Stock) -> io::Result<()> {
     report_holdings(rt, stock)?;
     report_files(rt, stock)?;
     report_pictures(rt, stock)?;
+    report_players(rt)?;
     report_splices(rt)?;
     report_stretches(rt)?;
     report_commands(rt, stock)

@@ -6,3 +6,4 @@ pub mod Lists
 pub mod Runs
 pub mod Makes
 pub mod Unread
+mod Outputs

@@ -49,3 +49,18 @@ made_touched contents done (Err fault) old then new (inl (is, kept)) touched =
     subst (λ made. IsWrittenIfTouched paths.Out (made ≡ old) (contents old) (contents made) fault) (sym kept)
     (subst (λ done. IfErr done (IsWrittenIfTouched paths.Out (then ≡ old) (contents old) (contents then))) is touched)
 made_touched contents done (Err fault) old then new (inr (is, all)) touched = inl is
+
+-- a fault that comes before: the words are refused, or there is none to begin with
+pub later_err : (result : Result Bool CliFault) (Refused Before Stops Unmade : CliFault → Type 0) → IfErr result (λ fault. Refused fault ⊎ Stops fault ⊎ Unmade fault)
+    → IfErr result (λ fault. Refused fault ⊎ Before fault ⊎ Stops fault ⊎ Unmade fault)
+later_err (Ok value) Refused Before Stops Unmade stops = tt
+later_err (Err fault) Refused Before Stops Unmade (inl refused) = inl refused
+later_err (Err fault) Refused Before Stops Unmade (inr stops) = inr (inr stops)
+
+-- nothing was written, unless something was begun
+pub made_begun : {O : Type 0} (done result : Result Bool CliFault) (old then new : O) (P Q : Type 0) → IsAfter done result (new ≡ then)
+    → IfErr done (λ _. ((then ≡ old) × P) ⊎ Q) → IfErr result (λ fault. (fault ≡ faults.Write paths.Out) ⊎ ((new ≡ old) × P) ⊎ Q)
+made_begun done (Ok value) old then new P Q after begun = tt
+made_begun done (Err fault) old then new P Q (inl (is, kept)) begun =
+    inr (subst (λ made. ((made ≡ old) × P) ⊎ Q) (sym kept) (subst (λ done. IfErr done (λ _. ((then ≡ old) × P) ⊎ Q)) is begun))
+made_begun done (Err fault) old then new P Q (inr (is, all)) begun = inl is

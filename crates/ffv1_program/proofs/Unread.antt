@@ -20,15 +20,18 @@ use Rattle.ffv1_commands.specs.TakeText.{ReportsTake}
 use Rattle.ffv1_commands.specs.JoinText.{ReportsJoin, IfLaterUnread}
 use Rattle.ffv1_commands.specs.MergeText.{ReportsMerge}
 use Rattle.ffv1_commands.specs.MendText.{ReportsMend}
+use Rattle.ffv1_commands.specs.PlayText.{ReportsSamples}
+use Rattle.ffv1_commands.proofs.PlaySteps.{went_up_to}
 use Rattle.ffv1_stretches.specs.Passes.{AreReadBut}
 use Rattle.ffv1_stretches.specs.declared.pass.MendFault.TheVariants as stops
+use Rattle.ffv1_play.specs.declared.play.PlayFault.TheVariants as plays
 use Rattle.ffv1_commands.specs.declared.fault.CliFault.{CliFault}
 use Rattle.ffv1_commands.specs.declared.fault.CliFault.TheVariants as faults
 use Rattle.ffv1_commands.specs.declared.path.CommandPath.{CommandPath}
 use Rattle.ffv1_commands.specs.declared.path.CommandPath.TheVariants as paths
 use Rattle.ffv1_program.specs.Inner.Calls.{IsLogAt}
 use Rattle.ffv1_program.specs.Running.{words_of}
-use Rattle.ffv1_program.specs.Unread.{IfUnread, SomeSource, GivesShort, HoldsAt, IsUnscanned, IsUndecoded, IsUntaken, IsUnjoined, IsUnmerged, IsSpliceUnread, IsUnmended}
+use Rattle.ffv1_program.specs.Unread.{IfUnread, SomeSource, GivesShort, HoldsAt, IsUnscanned, IsUndecoded, IsUntaken, IsUnjoined, IsUnmerged, IsSpliceUnread, IsUnmended, IsUnplayed}
 
 pub unread_as : {T : Type 0} (P Q : CommandPath → Type 0) (r : Result T CliFault) → ((path : CommandPath) → P path → Q path)
     → IfErr r (IfUnread P) → IfErr r (IfUnread Q)
@@ -147,6 +150,23 @@ module _ {Device : Type 0} (is_at : List ℕ → Device → Type 0) (log : Devic
     take_unread remaining width height o o' x y (Err (faults.Read path)) (inr (inr (held, text, taken, inl (breaks, kept)))) unread = absurd breaks
     take_unread remaining width height o o' x y (Err (faults.Read path)) (inr (inr (held, text, taken, inr (is, has, wrote, printed)))) unread = absurd (cc)
     take_unread remaining width height o o' x y (Err fault) reported unread = tt
+
+    abbrev Unplayed : CommandPath → Type 0
+    Unplayed = IsUnplayed (SomeSource is_at log) word (words_of words)
+
+    pub samples_unread : (width height : ℕ) (o o' x y : WriteLog) (r : Result Bool CliFault)
+        → ReportsSamples r width height (log a) (log b) (map log old) (map log new) o o' x y → IfErr r (IfUnread Unplayed)
+    samples_unread width height o o' x y (Ok value) reported = tt
+    samples_unread width height o o' x y (Err (faults.Read path)) (inl ((same, unread), as_before, kept)) = subst Unplayed (sym same) (a, b, at, unread)
+    samples_unread width height o o' x y (Err (faults.Read path)) (inr (plays.Read place, is, (recording, takes, (payloads, frames, end, count, read, front)))) =
+        let same : path ≡ paths.Copy place = cc in
+        subst Unplayed (sym same) (went_held is_at log IsUnread place words old new all
+        (subst (λ n. WentAt IsUnread n (map log old) (map log new)) (sym count) (went_up_to IsUnread (map log old) (map log new) payloads read)))
+    samples_unread width height o o' x y (Err (faults.Read path)) (inr (plays.Samples number fault, is, played)) = absurd (cc)
+    samples_unread width height o o' x y (Err (faults.Read path)) (inr (plays.Out, is, played)) = absurd (cc)
+    samples_unread width height o o' x y (Err (faults.Read path)) (inr (plays.Output, is, played)) = absurd (cc)
+    samples_unread width height o o' x y (Err (faults.Read path)) (inr (plays.Memory, is, played)) = absurd (cc)
+    samples_unread width height o o' x y (Err fault) reported = tt
 
 -- ---- holding files that are read in turn
 

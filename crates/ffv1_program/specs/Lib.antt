@@ -26,4 +26,5 @@ pub use Rattle.ffv1_commands.specs.PictureText
 pub use Rattle.ffv1_commands.specs.SpliceText
 pub use Rattle.ffv1_commands.specs.MendText
 pub use Rattle.ffv1_commands.specs.DecodeText
+pub use Rattle.ffv1_commands.specs.PlayText
 pub use Rattle.ffv1_words.specs.WordPaths

@@ -1,11 +1,11 @@
 -- What each command promises of the files that its words name: what it does, why it stops, and what it leaves as it was.
-use Rattle.std.specs.Prelude.{ℕ, ◌≡◌, List, [], ◌∷◌, map, Bool, true, Option, IfSome, Result, IfOk, IfErr, IsErrOf}
+use Rattle.std.specs.Prelude.{ℕ, ◌≡◌, ◌⊎◌, List, [], ◌∷◌, map, Bool, true, Option, IfSome, Result, IfOk, IfErr, IsErrOf}
 use Rattle.std.specs.Borrow.{Bor}
 use Rattle.std.specs.Io.KnownBytes.{Appends}
 use Rattle.ffv1_devices.specs.Logs.{ReadLog}
 use Rattle.ffv1_help.specs.Texts.{help_text, version_text}
 use Rattle.ffv1_help.specs.Writing.{WritesFront}
-use Rattle.ffv1_commands.specs.Devices.{UnlessWriting, IsWrittenIfTouched, IsUnread}
+use Rattle.ffv1_commands.specs.Devices.{UnlessWriting, IfOfRecord, IsWrittenIfTouched, IsUnread}
 use Rattle.ffv1_commands.specs.Fault.{NamesPath}
 use Rattle.ffv1_commands.specs.Lists.{IfOfList}
 use Rattle.ffv1_commands.specs.ChainText.{PrintsChain, ChainStops}
@@ -21,6 +21,7 @@ use Rattle.ffv1_commands.specs.PictureText.{ShowsFile, PictureStops}
 use Rattle.ffv1_commands.specs.SpliceText.{SplicesCopies}
 use Rattle.ffv1_commands.specs.MendText.{MendsFiles}
 use Rattle.ffv1_commands.specs.DecodeText.{DecodesFile, DecodeStops}
+use Rattle.ffv1_commands.specs.PlayText.{PlaysFiles, FirstIsFrame}
 use Rattle.ffv1_commands.specs.declared.fault.CliFault.{CliFault}
 use Rattle.ffv1_commands.specs.declared.fault.CliFault.TheVariants as faults
 use Rattle.ffv1_commands.specs.declared.path.CommandPath.{CommandPath}
@@ -28,11 +29,11 @@ use Rattle.ffv1_commands.specs.declared.path.CommandPath.TheVariants as paths
 use Rattle.ffv1_words.specs.WordPaths.{IsPathOf}
 use Rattle.ffv1_words.specs.declared.words.Words.{Words}
 use Rattle.ffv1_words.specs.declared.words.Words.TheVariants.{Chain, Scan, Show, Setup, Take, Join, Merge, Report, Restore, Picture, Splice, Mend}
-use Rattle.ffv1_words.specs.declared.words.Words.TheVariants.{Decode, Help, Version}
+use Rattle.ffv1_words.specs.declared.words.Words.TheVariants.{Decode, Samples, Help, Version}
 use Rattle.ffv1_program.specs.Merging.{IsEither, IfNotBegun, StopsMerging}
-use Rattle.ffv1_program.specs.Splicing.{IsInput, StopsSplicing, StopsMendingFiles}
+use Rattle.ffv1_program.specs.Splicing.{IsInput, StopsSplicing, StopsMendingFiles, StopsPlayingFiles}
 use Rattle.ffv1_commands.specs.Holdings.{IsUnheld}
-use Rattle.ffv1_program.specs.Unread.{IfUnread, SomeSource, IsUnscanned, IsUndecoded, IsUntaken, IsUnjoined, IsUnmerged, IsSpliceUnread, IsUnmended}
+use Rattle.ffv1_program.specs.Unread.{IfUnread, SomeSource, IsUnscanned, IsUndecoded, IsUntaken, IsUnjoined, IsUnmerged, IsSpliceUnread, IsUnmended, IsUnplayed}
 
 -- the word of the file that is made, which is empty where none is
 abbrev pub out_word : Words → List ℕ
@@ -44,6 +45,7 @@ out_word (Picture file out) = out.now
 out_word (Splice out copies) = out.now
 out_word (Mend list out copies) = out.now
 out_word (Decode recording frame out) = out.now
+out_word (Samples recording out frames) = out.now
 out_word (Chain frame) = []
 out_word (Scan ranges file) = []
 out_word (Show recording) = []
@@ -254,6 +256,19 @@ promise_of files made printed (Decode recording frame out) =
       Keeps = λ fault. UnlessWriting fault (made.IsKept × printed.IsKept);
       Unread = IfUnread (IsUndecoded files.SourceWent recording.record.now frame.now);
       Refuses = λ _. Unit {0};
+      Leaves = λ _ _. Unit {0};
+    }
+promise_of files made printed (Samples recording out frames) =
+    record {
+      Does = λ returned. made.IsMade × PlaysFiles (files.bytes_at recording.record.now) recording.width recording.height
+          (bytes_of_all files.bytes_at frames.items) made.before made.after printed.before printed.after returned;
+      Stops = StopsPlayingFiles (IsInput out.now recording.record.now frames.items) (files.bytes_at recording.record.now)
+          recording.width recording.height (bytes_of_all files.bytes_at frames.items) made.before made.after printed.before printed.after;
+      Keeps = λ fault. IfOfRecord fault (made.IsKept × printed.IsKept)
+          × ((fault ≡ faults.Write paths.Out) ⊎ (made.IsKept × printed.IsKept) ⊎ FirstIsFrame (files.bytes_at recording.record.now)
+          recording.width recording.height (bytes_of_all files.bytes_at frames.items));
+      Unread = IfUnread (IsUnplayed files.SourceWent recording.record.now (words_of frames.items));
+      Refuses = λ result. IsInput out.now recording.record.now frames.items → IsErrOf result (faults.Write paths.Out) × made.IsKept × printed.IsKept;
       Leaves = λ _ _. Unit {0};
     }
 promise_of files made printed Help = prints_text help_text printed

@@ -1,9 +1,10 @@
--- Why `splice` and `mend` stopped, which make their file where nothing was written to it.
+-- Why `splice`, `mend` and `samples` stopped, which make their file where nothing was written to it.
 use Rattle.std.specs.Prelude.{ℕ, ◌≡◌, ◌⊎◌, Bool, List, [], map, Option}
 use Rattle.std.specs.List.{Contains}
 use Rattle.std.specs.Borrow.{Bor}
 use Rattle.ffv1_commands.specs.SpliceText.{SplicesCopies, SpliceStops}
 use Rattle.ffv1_commands.specs.MendText.{MendsFiles, MendStops}
+use Rattle.ffv1_commands.specs.PlayText.{PlaysFiles, SamplesStops}
 use Rattle.ffv1_commands.specs.declared.fault.CliFault.{CliFault}
 use Rattle.ffv1_commands.specs.declared.fault.CliFault.TheVariants as faults
 use Rattle.ffv1_commands.specs.declared.path.CommandPath.TheVariants as paths
@@ -25,6 +26,15 @@ StopsMendingFiles refused list copies out_before out_after printed_before printe
     (refused × (fault ≡ faults.Write paths.Out)) ⊎ MendStops list copies out_before out_after printed_before printed_after fault
     ⊎ IsUnmade (MendsFiles list copies out_before out_after printed_before printed_after) fault
 
--- The word of the file that is made is that of the list, or of a copy.
-abbrev pub IsInput : (out list : List ℕ) (copies : List (Bor (List ℕ))) → Type 0
-IsInput out list copies = (out ≡ list) ⊎ Contains (map (λ copy. copy.now) copies) out
+-- Why frames were not played: the file is refused, as it is one of the inputs; or there is no frame; or playing them stopped; or all was done,
+-- but the file was not made.
+abbrev pub StopsPlayingFiles : (refused : Type 0) → (record' : Option (List ℕ)) → (width height : ℕ) → List (Option (List ℕ))
+    → (out_before out_after printed_before printed_after : Option (List ℕ)) → CliFault → Type 0
+StopsPlayingFiles refused record' width height frames out_before out_after printed_before printed_after fault =
+    (refused × (fault ≡ faults.Write paths.Out)) ⊎ ((frames ≡ []) × (fault ≡ faults.Words))
+    ⊎ SamplesStops record' width height frames out_before out_after printed_before printed_after fault
+    ⊎ IsUnmade (PlaysFiles record' width height frames out_before out_after printed_before printed_after) fault
+
+-- The word of the file that is made is that of the list or record, or of a copy or frame.
+abbrev pub IsInput : (out first : List ℕ) (others : List (Bor (List ℕ))) → Type 0
+IsInput out first others = (out ≡ first) ⊎ Contains (map (λ other. other.now) others) out

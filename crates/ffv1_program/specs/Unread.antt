@@ -71,3 +71,9 @@ abbrev pub IsUnmended : (SourceWent : (ReadLog → ReadLog → Type 0) → List 
 IsUnmended SourceWent list copies paths.List = SourceWent IsUnread list
 IsUnmended SourceWent list copies (paths.Copy place) = HoldsAt (SourceWent GivesShort) copies place
 IsUnmended SourceWent list copies _ = ⊥
+
+-- The record or a frame was not read, within the limit of a payload.
+abbrev pub IsUnplayed : (SourceWent : (ReadLog → ReadLog → Type 0) → List ℕ → Type 0) → (record' : List ℕ) → (frames : List (List ℕ)) → CommandPath → Type 0
+IsUnplayed SourceWent record' frames paths.Record = SourceWent IsUnread record'
+IsUnplayed SourceWent record' frames (paths.Copy place) = HoldsAt (SourceWent IsUnread) frames place
+IsUnplayed SourceWent record' frames _ = ⊥

@@ -6,7 +6,7 @@ ghost use Rattle.ffv1_program.specs.Inner.Calls.{all_done};
 use crate::files::{FileSystem, MakeFile};
 use crate::frames::{chain_file, scan_files, setup_record, show_record, splice_files};
 use crate::holdings::{join_files, merge_files, report_file, restore_file, take_files};
-use crate::pictures::{decode_files, picture_file};
+use crate::pictures::{decode_files, picture_file, samples_files};
 use crate::stretches::mend_files;
 use ffv1_commands::{CliFault, CommandPath};
 use ffv1_devices::WriteFailed;
@@ -27,7 +27,8 @@ pub fn out_word<'a>(words: &Words<'a>) -> &'a str
         | Words::Picture { out, .. }
         | Words::Splice { out, .. }
         | Words::Mend { out, .. }
-        | Words::Decode { out, .. } => *out,
+        | Words::Decode { out, .. }
+        | Words::Samples { out, .. } => *out,
         _ => "",
     }
 }
@@ -54,7 +55,8 @@ fn all_printed(printed: Result<(), WriteFailed>) -> Result<bool, CliFault>
 
 /// Runs a command on the files that its words name; `made` is the one that it makes. Returns `false` where `picture` wrote its file and
 /// some tile has no samples, or `splice` its own and not all of the frame is given back, or `mend` its own and a stretch is missing,
-/// disputed, open or alone, or `scan` found a range that is not whole with all its links passing; else `true`.
+/// disputed, open or alone, or `samples` its own and a slice does not end as an encoder ends it, or `scan` found a range that is not whole
+/// with all its links passing; else `true`.
 ///
 /// It stops where the command does. A command that makes no file leaves `made` untouched.
 pub fn run<'a, F: FileSystem<'a>, O: MakeFile, W: Write>(
@@ -98,6 +100,11 @@ pub fn run<'a, F: FileSystem<'a>, O: MakeFile, W: Write>(
             frame,
             ..
         } => all_done(decode_files(alloc, files, recording, frame, made, output)),
+        Words::Samples {
+            recording,
+            out,
+            frames,
+        } => samples_files(alloc, files, recording, frames, out, made, output),
         Words::Help => all_printed(run_help(output)),
         Words::Version => all_printed(run_version(output)),
     }

@@ -1,10 +1,17 @@
 //! The sources of several paths, in their order.
-ghost use Rattle.std.specs.Prelude.{◌≡◌, length, map, vec_len, IfOk, IfErr};
-ghost use Rattle.std.specs.List.{AllZip};
+ghost use Rattle.std.specs.Prelude.{◌≡◌, ◌↔◌, length, map, vec_len, IfOk, IfErr, IsTrue};
+ghost use Rattle.std.specs.List.{AllZip, Contains};
 
 use crate::files::FileSystem;
 use ffv1_commands::CliFault;
 use std::alloc::{AllocError, Global};
+
+/// Whether a word is one of these.
+pub(crate) fn is_among(word: &str, words: &[&str]) -> bool
+    ensures { IsTrue result ↔ Contains (map (λ one. one.now) words.now) word.now }
+{
+    words.contains(&word)
+}
 
 /// The files of paths, in their order, none of which is opened yet. It fails if an allocation fails.
 pub(crate) fn sources_of<'a, F: FileSystem<'a>>(

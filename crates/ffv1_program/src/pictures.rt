@@ -1,12 +1,13 @@
-//! The commands that write samples (own): `picture` and `decode`. Each keeps its promise, whatever the word is of the file that it makes.
+//! The commands that write samples (own): `picture`, `decode` and `samples`. Each keeps its promise, whatever the word is of the file that it makes.
 ghost use Rattle.std.specs.Prelude.{ℕ, List};
 ghost use Rattle.std.specs.Borrow.{Bor};
-ghost use Rattle.ffv1_words.specs.declared.words.Words.TheVariants.{Picture, Decode};
+ghost use Rattle.ffv1_words.specs.declared.words.Words.TheVariants.{Picture, Decode, Samples};
 ghost use Rattle.ffv1_program.specs.Running.{KeepsPromise, files_of, made_by, printed_by};
 ghost use Rattle.ffv1_program.specs.Inner.Calls.{all_done};
 
-use crate::files::{FileSystem, MakeFile};
-use ffv1_commands::{CliFault, decode_of, picture_of};
+use crate::files::{FileSystem, MakeFile, make_after};
+use crate::inputs::{is_among, sources_of};
+use ffv1_commands::{CliFault, CommandPath, decode_of, picture_of, samples_of};
 use ffv1_devices::ThroughWrite;
 use ffv1_words::Recording;
 use std::alloc::Global;
@@ -63,4 +64,44 @@ pub(crate) fn decode_files<'a, F: FileSystem<'a>, O: MakeFile, W: Write>(
         &mut ThroughWrite::new(made),
         &mut ThroughWrite::new(output),
     )
+}
+
+/// Writes the samples of the frames of these paths, which are read in their order, to the file that is made, of which `out` is the word. No
+/// file is opened where `out` is the word of the record or of a frame: it would be emptied before it is read.
+///
+/// It stops where `samples_of` does; with `Write` where `out` is the word of an input, or the file can't be made; with `Words` where there
+/// is no frame; and with `Memory` if memory for the frames can't be allocated. After a fault of the record, or where `out` is an input, and
+/// before the first frame is decoded, nothing was written or printed.
+pub(crate) fn samples_files<'a, F: FileSystem<'a>, O: MakeFile, W: Write>(
+    alloc: Global,
+    files: &F,
+    recording: &Recording<'a>,
+    frames: &Vec<&'a str>,
+    out: &str,
+    made: &mut O,
+    output: &mut W,
+) -> Result<bool, CliFault>
+    ensures { KeepsPromise
+        (files_of (F.bytes_at files.now) (F.cannot_open_at files.now) (F.is_opened_at files.now) (F.is_device_at files.now) F.Device.log
+        (F.is_buffered_at files.now) F.Buffered.log)
+        (made_by O.contents O.is_made made.old made.new) (printed_by W.contents output.old output.new)
+        (Samples recording.now out.entry frames.now) result }
+{
+    if out == recording.record || is_among(out, frames.as_slice()) {
+        return Err(CliFault::Write(CommandPath::Out));
+    }
+    if frames.is_empty() {
+        return Err(CliFault::Words);
+    }
+    let mut frames = sources_of(alloc, files, frames.as_slice())?;
+    let clean = samples_of(
+        alloc,
+        &mut files.device(recording.record),
+        recording.width,
+        recording.height,
+        frames.as_mut_slice(),
+        &mut ThroughWrite::new(made),
+        &mut ThroughWrite::new(output),
+    );
+    make_after(clean, made)
 }

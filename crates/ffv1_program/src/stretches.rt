@@ -1,24 +1,18 @@
 //! The command over the stretches of a file (own): `mend`.
-ghost use Rattle.std.specs.Prelude.{◌≡◌, ◌↔◌, All, map, IfOk, IsTrue};
-ghost use Rattle.std.specs.List.{AllZip, Contains};
+ghost use Rattle.std.specs.Prelude.{◌≡◌, All, map, IfOk};
+ghost use Rattle.std.specs.List.{AllZip};
 ghost use Rattle.ffv1_stretches.specs.Copies.{state_of};
 ghost use Rattle.ffv1_words.specs.declared.words.Words.TheVariants.{Mend};
 ghost use Rattle.ffv1_program.specs.Running.{KeepsPromise, files_of, made_by, printed_by};
 ghost use Rattle.ffv1_program.specs.Inner.Calls.{IsLogAt};
 
 use crate::files::{FileSystem, MakeFile, make_after};
+use crate::inputs::is_among;
 use ffv1_commands::{CliFault, CommandPath, mend_of};
 use ffv1_devices::ThroughWrite;
 use ffv1_stretches::CopyReader;
 use std::alloc::{AllocError, Global};
 use std::io::Write;
-
-/// Whether a word is one of these.
-fn is_among(word: &str, words: &[&str]) -> bool
-    ensures { IsTrue result ↔ Contains (map (λ one. one.now) words.now) word.now }
-{
-    words.contains(&word)
-}
 
 /// Readers of the copies of paths, in their order, none of which is opened yet. It fails if an allocation fails.
 fn readers_of<'a, F: FileSystem<'a>>(

@@ -10,7 +10,7 @@ use Rattle.ffv1_words.specs.Inner.Arguments.{AreNamed, ReadsWords}
 use Rattle.ffv1_words.specs.Arguments.{AreValues, IsRecording, AreArguments, RefusesAll, command_name}
 use Rattle.ffv1_words.specs.declared.words.Recording.{Recording}
 use Rattle.ffv1_words.specs.declared.words.Words.{Words}
-use Rattle.ffv1_words.specs.declared.words.Words.TheVariants.{Show, Setup, Take, Splice, Mend, Decode}
+use Rattle.ffv1_words.specs.declared.words.Words.TheVariants.{Show, Setup, Take, Splice, Mend, Decode, Samples}
 
 -- what is refused for another thing that each has
 pub refuses-weaker : {T V : Type 0} (P : T → Type 0) (Q : V → Type 0) (fault : CliFault) → ((v : V) → Q v → (x : T) × P x)
@@ -54,7 +54,10 @@ HasRecording rows = (recording : Recording) × IsRecording rows recording
 abbrev HasCopies : List Row → Type 0
 HasCopies rows = (words : List (List ℕ)) × AreValues rows (codes "COPY") words
 
--- a recording, or copies, or both, if it is the name of a command that has them
+abbrev HasFrames : List Row → Type 0
+HasFrames rows = (words : List (List ℕ)) × AreValues rows (codes "FRAME") words
+
+-- a recording, or copies or frames, or both, if it is the name of a command that has them
 abbrev Needs : List Row → List ℕ → Type 0
 Needs rows name =
     When (bytes_eq name (codes "show")) (HasRecording rows)
@@ -62,7 +65,8 @@ Needs rows name =
     (When (bytes_eq name (codes "decode")) (HasRecording rows)
     (When (bytes_eq name (codes "take")) (HasRecording rows × HasCopies rows)
     (When (bytes_eq name (codes "splice")) (HasCopies rows)
-    (When (bytes_eq name (codes "mend")) (HasCopies rows) (Unit {0}))))))
+    (When (bytes_eq name (codes "mend")) (HasCopies rows)
+    (When (bytes_eq name (codes "samples")) (HasRecording rows × HasFrames rows) (Unit {0})))))))
 
 has_needs : (rows : List Row) (words : Words) → AreArguments rows words → Needs rows (command_name words)
 has_needs rows (Show recording) is = (recording, is)
@@ -71,6 +75,7 @@ has_needs rows (Decode recording frame out) is = (recording, is.0)
 has_needs rows (Take recording out copies) is = ((recording, is.0), (_, is.2))
 has_needs rows (Splice out copies) is = (_, is.1)
 has_needs rows (Mend list out copies) is = (_, is.2)
+has_needs rows (Samples recording out frames) is = ((recording, is.0), (_, is.2))
 has_needs rows _ is = tt
 
 -- A command of this name is refused for what it needs.

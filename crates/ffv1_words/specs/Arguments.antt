@@ -7,7 +7,7 @@ use Rattle.ffv1_commands.specs.declared.fault.CliFault.TheVariants as faults
 use Rattle.ffv1_words.specs.Grammar.{program_app}
 use Rattle.ffv1_words.specs.declared.words.Recording.{Recording}
 use Rattle.ffv1_words.specs.declared.words.Words.{Words}
-use Rattle.ffv1_words.specs.declared.words.Words.TheVariants.{Chain, Scan, Show, Setup, Take, Join, Merge, Report, Restore, Picture, Splice, Mend, Decode, Help, Version}
+use Rattle.ffv1_words.specs.declared.words.Words.TheVariants.{Chain, Scan, Show, Setup, Take, Join, Merge, Report, Restore, Picture, Splice, Mend, Decode, Samples, Help, Version}
 
 -- The first value of this name.
 abbrev pub IsWord : List Row → List ℕ → List ℕ → Type 0
@@ -51,6 +51,8 @@ AreArguments rows (Mend list out copies) =
     IsWord rows (codes "LIST") list.now × IsWord rows (codes "OUT") out.now × AreValues rows (codes "COPY") (map (λ copy. copy.now) copies.items)
 AreArguments rows (Decode recording frame out) =
     IsRecording rows recording × IsWord rows (codes "FRAME") frame.now × IsWord rows (codes "OUT") out.now
+AreArguments rows (Samples recording out frames) =
+    IsRecording rows recording × IsWord rows (codes "OUT") out.now × AreValues rows (codes "FRAME") (map (λ frame. frame.now) frames.items)
 AreArguments rows Help = Unit {0}
 AreArguments rows Version = Unit {0}
 
@@ -69,6 +71,7 @@ command_name (Picture file out) = codes "picture"
 command_name (Splice out copies) = codes "splice"
 command_name (Mend list out copies) = codes "mend"
 command_name (Decode recording frame out) = codes "decode"
+command_name (Samples recording out frames) = codes "samples"
 command_name Help = codes "help"
 command_name Version = codes "version"
 

@@ -52,6 +52,7 @@ all_commands =
     ∷ (codes "splice", codes "OUT" ∷ [], Some (codes "COPY"))
     ∷ (codes "mend", codes "LIST" ∷ codes "OUT" ∷ [], Some (codes "COPY"))
     ∷ (codes "decode", codes "RECORD" ∷ codes "WIDTH" ∷ codes "HEIGHT" ∷ codes "FRAME" ∷ codes "OUT" ∷ [], None)
+    ∷ (codes "samples", codes "RECORD" ∷ codes "WIDTH" ∷ codes "HEIGHT" ∷ codes "OUT" ∷ [], Some (codes "FRAME"))
     ∷ (codes "help", [], None)
     ∷ (codes "version", [], None)
     ∷ []

@@ -6,7 +6,7 @@ use Rattle.ffv1_commands.specs.declared.path.CommandPath.{CommandPath}
 use Rattle.ffv1_commands.specs.declared.path.CommandPath.TheVariants.{Record, Frame, Copy, Hold, Ranges, File, Inputs, Out}
 use Rattle.ffv1_commands.specs.declared.path.CommandPath.TheVariants as paths
 use Rattle.ffv1_words.specs.declared.words.Words.{Words}
-use Rattle.ffv1_words.specs.declared.words.Words.TheVariants.{Chain, Scan, Show, Setup, Take, Join, Merge, Report, Restore, Picture, Splice, Mend, Decode, Help, Version}
+use Rattle.ffv1_words.specs.declared.words.Words.TheVariants.{Chain, Scan, Show, Setup, Take, Join, Merge, Report, Restore, Picture, Splice, Mend, Decode, Samples, Help, Version}
 
 -- The command of the words has this path.
 abbrev pub IsPathOf : Words → CommandPath → Type 0
@@ -23,6 +23,7 @@ IsPathOf (Picture file out) path = IsHoldPath path
 IsPathOf (Splice out copies) path = IsSplicePath (vec_len copies) path
 IsPathOf (Mend list out copies) path = IsMendPath (vec_len copies) path
 IsPathOf (Decode recording frame out) path = IsDecodePath path
+IsPathOf (Samples recording out frames) path = IsTakePath (vec_len frames) path
 IsPathOf Help path = path ≡ paths.StandardOutput
 IsPathOf Version path = path ≡ paths.StandardOutput
 
@@ -59,4 +60,7 @@ path_word (Mend list out copies) Out = out.now
 path_word (Decode recording frame out) Record = recording.record.now
 path_word (Decode recording frame out) Frame = frame.now
 path_word (Decode recording frame out) Out = out.now
+path_word (Samples recording out frames) Record = recording.record.now
+path_word (Samples recording out frames) (Copy place) = word_at frames.items place
+path_word (Samples recording out frames) Out = out.now
 path_word _ _ = codes "standard output"

@@ -14,7 +14,7 @@ use ffv1_commands::CliFault;
 use std::alloc::{AllocError, Global};
 
 /// The commands: the name of each, its words, and after them the word of which there has to be one at least.
-static COMMANDS: [(&str, &[&str], Option<&str>); 15] = [
+static COMMANDS: [(&str, &[&str], Option<&str>); 16] = [
     ("chain", &["FRAME"], None),
     ("scan", &["RANGES", "FILE"], None),
     ("show", &["RECORD", "WIDTH", "HEIGHT"], None),
@@ -31,6 +31,11 @@ static COMMANDS: [(&str, &[&str], Option<&str>); 15] = [
         "decode",
         &["RECORD", "WIDTH", "HEIGHT", "FRAME", "OUT"],
         None,
+    ),
+    (
+        "samples",
+        &["RECORD", "WIDTH", "HEIGHT", "OUT"],
+        Some("FRAME"),
     ),
     ("help", &[], None),
     ("version", &[], None),
@@ -142,6 +147,14 @@ fn copies<'a>(alloc: Global, matches: &ArgMatches<'a>) -> Result<Vec<&'a str>, C
     list(alloc, several(matches, "COPY")?)
 }
 
+/// The words FRAME.
+fn frames<'a>(alloc: Global, matches: &ArgMatches<'a>) -> Result<Vec<&'a str>, CliFault>
+    ensures { MatchResult result (λ frames. AreValues (rows_matched matches.now) (codes "FRAME") (map (λ word. word.now) frames.items))
+        (RefusesAll (AreValues (rows_matched matches.now) (codes "FRAME"))) }
+{
+    list(alloc, several(matches, "FRAME")?)
+}
+
 /// The words of `join`.
 fn join_words<'a>(alloc: Global, matches: &ArgMatches<'a>) -> Result<Words<'a>, CliFault>
     ensures { ReadsWords (rows_matched matches.now) (codes "join") result }
@@ -223,6 +236,11 @@ fn words_of<'a>(alloc: Global, name: &str, matches: &ArgMatches<'a>) -> Result<W
             recording: recording_words(matches)?,
             frame: word(matches, "FRAME")?,
             out: word(matches, "OUT")?,
+        }),
+        "samples" => Ok(Words::Samples {
+            recording: recording_words(matches)?,
+            out: word(matches, "OUT")?,
+            frames: frames(alloc, matches)?,
         }),
         "help" => Ok(Words::Help),
         "version" => Ok(Words::Version),

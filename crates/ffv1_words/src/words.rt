@@ -111,6 +111,15 @@ pub enum Words<'a> {
         /// The file that is made.
         out: &'a str,
     },
+    /// Writes the samples of the frames of a recording of version 3.
+    Samples {
+        /// The record and size of the frames.
+        recording: Recording<'a>,
+        /// The file that is made.
+        out: &'a str,
+        /// The payloads of the frames in their order, one at least.
+        frames: Vec<&'a str>,
+    },
     /// Prints each command, the exit statuses and the faults.
     Help,
     /// Prints the version, and the kit that proved it.
@@ -133,14 +142,16 @@ impl<'a> Words<'a> {
                 Words::Show { recording }
                 | Words::Setup { recording }
                 | Words::Take { recording, .. }
-                | Words::Decode { recording, .. },
+                | Words::Decode { recording, .. }
+                | Words::Samples { recording, .. },
                 CommandPath::Record,
             ) => recording.record,
             (Words::Mend { list, .. }, CommandPath::List) => *list,
             (
                 Words::Take { copies, .. }
                 | Words::Splice { copies, .. }
-                | Words::Mend { copies, .. },
+                | Words::Mend { copies, .. }
+                | Words::Samples { frames: copies, .. },
                 CommandPath::Copy(place),
             ) => copies[place],
             (Words::Join { first, .. }, CommandPath::Hold(0)) => *first,
@@ -160,7 +171,8 @@ impl<'a> Words<'a> {
                 | Words::Picture { out, .. }
                 | Words::Splice { out, .. }
                 | Words::Mend { out, .. }
-                | Words::Decode { out, .. },
+                | Words::Decode { out, .. }
+                | Words::Samples { out, .. },
                 CommandPath::Out,
             ) => *out,
             // No command has another path.

@@ -29,5 +29,6 @@ pub record IsOfHoldings (name : List ℕ) : Type 0 where
   pub not_splice : name ≢ codes "splice"
   pub not_mend : name ≢ codes "mend"
   pub not_decode : name ≢ codes "decode"
+  pub not_samples : name ≢ codes "samples"
   pub not_help : name ≢ codes "help"
   pub not_version : name ≢ codes "version"

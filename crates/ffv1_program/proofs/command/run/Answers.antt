@@ -23,6 +23,9 @@ returns-in-Mend g c = record { promise = rw c.in-Mend.is c.mend_files.ensures; u
 pub returns-in-Decode : goal.returns-in-Decode
 returns-in-Decode g c = record { promise = rw (c.in-Decode.is, c.all_done-in-Decode.ensures) (c.decode_files.ensures c.in-Decode.out); untouched = rw c.in-Decode.is tt }
 
+pub returns-in-Samples : goal.returns-in-Samples
+returns-in-Samples g c = record { promise = rw c.in-Samples.is c.samples_files.ensures; untouched = rw c.in-Samples.is tt }
+
 pub returns-in-Help : goal.returns-in-Help
 returns-in-Help g c =
     record {

@@ -37,3 +37,13 @@ pub returns-in_err-recording_words-in-decode : goal.returns-in_err-recording_wor
 returns-in_err-recording_words-in-decode c =
     hands_on (rows_matched c.args.matches.now) c.args.name.now c.from_residual-in_err-recording_words-in-decode.result _ c.from_residual-in_err-recording_words-in-decode.ensures.1
     (refused _ (rows_matched c.args.matches.now) _ (codes "decode") c.in-decode.is _ (λ need. need) c.in_err-recording_words-in-decode.ensures)
+
+pub returns-in_err-recording_words-in-samples : goal.returns-in_err-recording_words-in-samples
+returns-in_err-recording_words-in-samples c =
+    hands_on (rows_matched c.args.matches.now) c.args.name.now c.from_residual-in_err-recording_words-in-samples.result _ c.from_residual-in_err-recording_words-in-samples.ensures.1
+    (refused _ (rows_matched c.args.matches.now) _ (codes "samples") c.in-samples.is _ (λ need. need.0) c.in_err-recording_words-in-samples.ensures)
+
+pub returns-in_err-frames-in-samples : goal.returns-in_err-frames-in-samples
+returns-in_err-frames-in-samples c =
+    hands_on (rows_matched c.args.matches.now) c.args.name.now c.from_residual-in_err-frames-in-samples.result _ c.from_residual-in_err-frames-in-samples.ensures.1
+    (refused _ (rows_matched c.args.matches.now) _ (codes "samples") c.in-samples.is _ (λ need. need.1) c.in_err-frames-in-samples.ensures)
