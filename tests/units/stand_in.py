@@ -12,6 +12,7 @@ if __name__ == "__main__":
     sys.path.insert(0, str(pathlib.Path(__file__).resolve().parent.parent))
 
 import readings
+import sample_reading
 
 
 def scan(words: list[str]) -> int:
@@ -27,14 +28,37 @@ def mend(words: list[str]) -> int:
     return end(printed, status, fault)
 
 
-def end(printed: bytes, status: int, fault: str) -> int:
+def setup(words: list[str]) -> int:
+    try:
+        return end(readings.setup_text(recording(words)), 0, None)
+    except readings.Fault as fault:
+        return end(b"", 1, f"setup fault {fault.args[0]}")
+
+
+def samples(words: list[str]) -> int:
+    try:
+        frames = [(path, pathlib.Path(path).read_bytes()) for path in words[4:]]
+        made, printed, status, fault = sample_reading.sampled(recording(words), frames)
+    except readings.Fault as fault:
+        return end(b"", 1, f"setup fault {fault.args[0]}")
+    if made is not None:
+        pathlib.Path(words[3]).write_bytes(made)
+    return end(printed, status, fault)
+
+
+def recording(words: list[str]) -> readings.Recording:
+    """The recording of a record and a size."""
+    return readings.recording_of(pathlib.Path(words[0]).read_bytes(), (int(words[1]), int(words[2])))
+
+
+def end(printed: bytes, status: int, fault: str | None) -> int:
     sys.stdout.write(printed.decode())
     if fault:
         sys.stderr.write(f"ffv1restore: {fault}\n")
     return status
 
 
-COMMANDS = {"scan": scan, "mend": mend}
+COMMANDS = {"scan": scan, "mend": mend, "setup": setup, "samples": samples}
 
 
 def make(folder: pathlib.Path, before: str = "") -> str:

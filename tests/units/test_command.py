@@ -208,6 +208,63 @@ class MendTest(InFolder):
         self.assertLess(sizes[1], 1000)
 
 
+# What FFmpeg's framemd5 writes of the video of tests/real/matroska-no-crc.
+FRAMES = """#format: frame checksums
+#version: 2
+#hash: MD5
+#tb 0: 1/25
+#media_type 0: video
+#codec_id 0: rawvideo
+#stream#, dts,        pts, duration,     size, hash
+0,          0,          0,        1,     1536, b86114ffed88c590ee3643b17cf9d56e
+0,          1,          1,        1,     1536, b86114ffed88c590ee3643b17cf9d56e
+0,          2,          2,        1,     1536, b86114ffed88c590ee3643b17cf9d56e
+0,          3,          3,        1,     1536, b86114ffed88c590ee3643b17cf9d56e
+0,          4,          4,        1,     1536, be33f285329b2c86c872e2c305ae3e0f
+0,          5,          5,        1,     1536, 97209e1fd355e8fec8124486016c2dce
+"""
+PLAIN = (TESTS / "real/matroska-no-crc/reel.mkv").read_bytes()
+
+
+class AloneTest(InFolder):
+    """Matroska files where there is no other program than ffv1restore."""
+
+    def environment(self) -> dict[str, str]:
+        return dict(super().environment(), PATH="/nowhere")
+
+    def setUp(self) -> None:
+        super().setUp()
+        for name in "a.mkv", "b.mkv":
+            self.write(name, PLAIN[:3495] + b"\x37" + PLAIN[3496:])
+
+    def test_a_repaired_frame_that_decodes(self) -> None:
+        done = self.call("-o", "out.mkv", "a.mkv", "b.mkv")
+        self.assertEqual((done.returncode, done.stderr, self.read("out.mkv")), (0, b"", PLAIN))
+        self.assertTrue(done.stdout.decode().startswith(GOOD))
+        self.assertIn("1 restored (1 woven)", done.stdout.decode())
+
+    def test_a_repaired_frame_that_an_earlier_program_can_not_decode(self) -> None:
+        self.program = stand_in.make(self.work.parent, "if words[0] == 'samples':\n    sys.exit('ffv1restore: words refused')")
+        done = self.call("-o", "out.mkv", "a.mkv", "b.mkv")
+        self.assertEqual((done.returncode, done.stderr, self.read("out.mkv")), (3, b"", PLAIN))
+        self.assertIn("OUT has it with inverted bits", done.stdout.decode())
+
+    def test_digests_of_decoded_frames(self) -> None:
+        self.write("sums", FRAMES.encode())
+        done = self.call("--digest", "sums", "-o", "out.mkv", "a.mkv", "b.mkv")
+        self.assertEqual((done.returncode, done.stderr), (0, b""))
+        self.assertIn("out.mkv has the original's frames: the digests of all 6 decoded frames are those of sums", done.stdout.decode())
+        self.write("sums", FRAMES.replace("be33", "be34").encode())
+        done = self.call("--force", "--digest", "sums", "-o", "out.mkv", "a.mkv", "b.mkv")
+        self.assertEqual((done.returncode, done.stderr), (3, b""))
+        self.assertIn("out.mkv does not have the original's frames: digests of sums differ: stream 0: frame 4", done.stdout.decode())
+
+    def test_digests_of_sound_need_ffmpeg(self) -> None:
+        sound = "#media_type 1: audio\n#codec_id 1: pcm_s16le\n1, 0, 0, 4608, 9216, " + "c" * 32 + "\n"
+        self.write("sums", (FRAMES + sound).encode())
+        self.assert_refused("cannot run ffmpeg: No such file or directory", "--digest", "sums", "-o", "out.mkv", "a.mkv", "b.mkv")
+
+
 class InterruptedTest(InFolder):
     def interrupted(self, wait: float) -> tuple[int, str]:
         """The status and the line of a call that is interrupted so many seconds after it began to work."""

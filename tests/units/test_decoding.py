@@ -1,20 +1,23 @@
 """Frames with guessed slices, and whether they decode."""
+import errno
 import os
 import pathlib
-import stat
 import tempfile
 import unittest
 import unittest.mock
 
-from mend_reel.judging.decoding import FfmpegDecoder, decoded
+import makings
+import readings
+from mend_reel.judging import decoding
+from mend_reel.judging.decoding import SamplesDecoder, decoded, is_key
 from mend_reel.judging.reasons import Why
 from mend_reel.judging.results import FrameState
 from mend_reel.model import Content, Frame, Outcome, State, Track
+from . import made, stand_in
 from .test_verdict import element, missing, plain, recording, repaired, settled, verdict, voted, whys
 
+REAL = pathlib.Path(__file__).resolve().parent.parent / "real"
 SLICES = (settled("11", 100), repaired("00", 0, 100))
-RECORD = b"record"
-RANGE_CODED = "echo version 3.4; echo coder 2 colorspace 0 depth 8"
 
 
 class DecodedTest(unittest.TestCase):
@@ -46,45 +49,148 @@ class DecodedTest(unittest.TestCase):
         self.assertEqual(self.decoded(recording(), outcomes), (set(), []))
 
 
-class DecoderTest(unittest.TestCase):
-    FRAME = Frame(1, 3.0, 100, 7)
+def video(number, folder):
+    """A track of a stored recording."""
+    width, height = map(int, folder.split("-")[1].split("x"))
+    return Track(number, Content.VIDEO, "ffv1", True, width, height, (REAL / folder / "record").read_bytes())
 
-    def ask(self, probe="exit 1", frame=FRAME, setup=RANGE_CODED):
-        """Whether a frame at place 100 is decoded, where ffprobe and ffv1restore are these scripts."""
-        with tempfile.TemporaryDirectory() as name:
-            for program, script in ("ffprobe", probe), ("ffv1restore", setup):
-                path = pathlib.Path(name, program)
-                path.write_text(f"#!/bin/sh\n{script}\n")
-                path.chmod(path.stat().st_mode | stat.S_IXUSR)
-            with unittest.mock.patch.dict(os.environ, {"PATH": f"{name}:/usr/bin:/bin"}):
-                decoder = FfmpegDecoder("out", str(pathlib.Path(name, "ffv1restore")), pathlib.Path(name))
-                return decoder(Track(1, Content.VIDEO, "ffv1", True, 96, 80, RECORD), frame)
 
-    def test_a_range_coder(self):
-        right = 'case "$*" in *"-read_intervals 1.000%3.500 "*" file:out") echo 9,7; echo 96,7;; esac'
-        self.assertTrue(self.ask(right))
-        self.assertTrue(self.ask(right, setup=RANGE_CODED.replace("coder 2", "coder 1")))
-        self.assertFalse(self.ask(right + "; echo 'bytestream end mismatching by 3' >&2"))
-        self.assertFalse(self.ask(right + "; exit 1"))
-        self.assertFalse(self.ask(right, Frame(1, 4.0, 100, 7)))
+def stored(folder, *numbers):
+    return [(REAL / folder / f"frame-{number}").read_bytes() for number in numbers]
 
-    def test_golomb_rice_and_no_record_are_not_decoded(self):
-        self.assertTrue(self.ask("echo 96,7"))
-        for setup in RANGE_CODED.replace("coder 2", "coder 0"), "echo 'ffv1restore: setup fault 2' >&2; exit 1", "echo coder":
-            self.assertFalse(self.ask("echo 96,7", setup=setup))
 
-    def test_the_setup_is_asked_for_with_the_record_and_the_size(self):
-        asked = f'[ "$1 $3 $4" = "setup 96 80" ] && [ "$(cat "$2")" = "{RECORD.decode()}" ] && {RANGE_CODED}'
-        self.assertTrue(self.ask("echo 96,7", setup=asked))
+def with_wrong_slice(frame, slice_number, place, inverted=0x10):
+    """A frame with an inverted bit in the content of a slice, whose parity fits it."""
+    pieces = [piece for _, piece in reversed(readings.links(frame)[0])]
+    content = bytearray(pieces[slice_number][:-8])
+    content[place] ^= inverted
+    pieces[slice_number] = readings.sliced(bytes(content))
+    return b"".join(pieces)
 
-    def test_other_frames_are_not_this_one(self):
-        for line in "9,7", "101,7", "96,8", "N/A,7", "96", "":
-            self.assertFalse(self.ask(f"echo {line}"))
 
-    def test_without_ffprobe(self):
-        with unittest.mock.patch.dict(os.environ, {"PATH": ""}):
-            decoder = FfmpegDecoder("out", "ffv1restore", pathlib.Path("work"))
-            self.assertFalse(decoder(Track(1, Content.VIDEO, "ffv1", True, 96, 80, RECORD), self.FRAME))
+class InFile(unittest.TestCase):
+    """Frames that lie in a file, each after its track's number and a few bytes."""
+
+    def ask(self, frames, number, tracks, before="", work=None):
+        """Whether the frame with this number is decoded; `frames` have the track and the payload of each."""
+        content, found = b"head", []
+        for track, payload in frames:
+            content += b"before"
+            found.append(Frame(track, 0.04 * len(found), len(content), len(payload)))
+            content += payload
+        with tempfile.TemporaryDirectory() as name, made.opened(content + b"tail") as (copy,):
+            self.work = work = pathlib.Path(name, "work")
+            work.mkdir()
+            decoder = SamplesDecoder(copy, found, stand_in.make(pathlib.Path(name), before), work)
+            is_decoded = decoder({track.number: track for track in tracks}[found[number].track], found[number])
+            self.assertEqual(list(work.iterdir()), [])
+            self.logged = pathlib.Path(name, "log").read_bytes() if pathlib.Path(name, "log").exists() else None
+        return is_decoded
+
+
+BETWEEN, RICE = "yuv422p-32x24-4-slices", "gray-48x32-4-slices"
+# Keeps the words of the call, and the contents of the files that these name, in place of the program's work; the status is given.
+LOGS = """import pathlib
+log = [words[0], *words[2:5], str(len(words) - 5)]
+pathlib.Path(sys.argv[0]).with_name("log").write_bytes("|".join(log).encode() + b"".join(b"|" + pathlib.Path(w).read_bytes() for w in [words[1], *words[5:]]))
+sys.exit({})"""
+KEY, GOES_ON = b"\xfcframe", b"\x3cframe"
+
+
+class CallTest(InFile):
+    TRACK = Track(1, Content.VIDEO, "ffv1", True, 96, 80, b"record")
+    OTHER = Track(2, Content.VIDEO, "ffv1", True, 96, 80, b"other")
+
+    def logged_of(self, frames, number, status=0):
+        is_decoded = self.ask(frames, number, [self.TRACK, self.OTHER], LOGS.format(status))
+        self.assertEqual(is_decoded, self.logged is not None and status == 0)
+        return self.logged
+
+    def test_a_keyframe_is_decoded_alone(self):
+        frames = [(1, KEY + b"0"), (1, KEY + b"1"), (1, GOES_ON + b"2")]
+        self.assertEqual(self.logged_of(frames, 1), b"samples|96|80|/dev/null|1|record|" + KEY + b"1")
+
+    def test_another_frame_is_decoded_with_those_of_its_track_from_its_keyframe_on(self):
+        frames = [(1, KEY + b"0"), (1, KEY + b"1"), (2, KEY + b"x"), (1, GOES_ON + b"2"), (2, GOES_ON + b"y"), (1, GOES_ON + b"3"), (1, GOES_ON + b"4")]
+        wanted = b"samples|96|80|/dev/null|3|record|" + KEY + b"1|" + GOES_ON + b"2|" + GOES_ON + b"3"
+        self.assertEqual(self.logged_of(frames, 5), wanted)
+        self.assertEqual(self.logged_of(frames, 4), b"samples|96|80|/dev/null|2|other|" + KEY + b"x|" + GOES_ON + b"y")
+
+    def test_each_status_but_0_is_none_that_decodes(self):
+        for status in 1, 2, 3, 127:
+            self.assertIsNotNone(self.logged_of([(1, KEY)], 0, status))
+
+    def test_without_a_keyframe_nothing_is_asked(self):
+        self.assertIsNone(self.logged_of([(2, KEY), (1, GOES_ON), (1, GOES_ON)], 2))
+
+    def test_of_a_frame_that_the_file_does_not_show_nothing_is_asked(self):
+        with made.opened(b"head" + KEY + KEY) as (copy,), tempfile.TemporaryDirectory() as name:
+            decoder = SamplesDecoder(copy, [Frame(1, 0.0, 4, len(KEY))], "/bin/true", pathlib.Path(name))
+            asked = [Frame(1, 0.0, 4, len(KEY)), Frame(1, 0.04, 4 + len(KEY), len(KEY)), Frame(1, 0.0, 4, 5), Frame(2, 0.0, 4, len(KEY)), Frame(1, 0.0, 3, 9)]
+            self.assertEqual([decoder(self.TRACK, frame) for frame in asked], [True, False, False, False, False])
+
+    def test_of_too_many_frames_nothing_is_asked(self):
+        frames = [(1, KEY), (1, GOES_ON), (1, GOES_ON)]
+        with unittest.mock.patch.object(decoding, "MOST_FRAMES", 3):
+            self.assertIsNotNone(self.logged_of(frames, 2))
+        with unittest.mock.patch.object(decoding, "MOST_FRAMES", 2):
+            self.assertIsNone(self.logged_of(frames, 2))
+
+    def test_without_room_for_its_files_nothing_is_known(self):
+        full = OSError(errno.ENOSPC, os.strerror(errno.ENOSPC))
+        with made.opened(b"head" + KEY) as (copy,), tempfile.TemporaryDirectory() as name:
+            frame = Frame(1, 0.0, 4, len(KEY))
+            decoder = SamplesDecoder(copy, [frame], "/bin/true", pathlib.Path(name))
+            self.assertTrue(decoder(self.TRACK, frame))
+            with unittest.mock.patch.object(decoding.pathlib.Path, "write_bytes", side_effect=full):
+                self.assertFalse(decoder(self.TRACK, frame))
+
+    def test_keyframes(self):
+        for folder in (BETWEEN, RICE, "bgra-32x24-6-slices", "gbrp16-32x24-4-slices"):
+            self.assertTrue(is_key(stored(folder, 0)[0]))
+        self.assertEqual([is_key(frame) for frame in stored(BETWEEN, *range(6))], [True, False, False, False, False, True])
+        self.assertFalse(is_key(b"\xfc"))
+
+
+class DecoderTest(InFile):
+    """Recorded frames, and what a second reading makes of them."""
+
+    def is_decoded(self, folder, frames, number):
+        return self.ask([(1, frame) for frame in frames], number, [video(1, folder)])
+
+    def test_recorded_frames(self):
+        for number in range(6):
+            self.assertTrue(self.is_decoded(BETWEEN, stored(BETWEEN, *range(6)), number))
+        for folder in (RICE, "bgra-32x24-6-slices", "gbrp10-32x24-4-slices", "ya8-32x24-4-slices"):
+            self.assertTrue(self.is_decoded(folder, stored(folder, 0), 0))
+
+    def test_a_wrong_slice_that_passes(self):
+        for folder, place in (BETWEEN, 60), (RICE, 30), ("bgra-32x24-6-slices", 60), ("gbrp10-32x24-4-slices", 60):
+            frame = with_wrong_slice(stored(folder, 0)[0], 1, place)
+            self.assertTrue(all(readings.passes(piece) for _, piece in readings.links(frame)[0]))
+            self.assertFalse(self.is_decoded(folder, [frame], 0))
+
+    def test_an_unclean_slice(self):
+        pieces = [piece for _, piece in reversed(readings.links(stored(RICE, 0)[0])[0])]
+        frame = b"".join([*pieces[:3], readings.sliced(pieces[3][:-8] + b"\0")])
+        self.assertFalse(self.is_decoded(RICE, [frame], 0))
+
+    def test_frames_after_a_wrong_one_are_not_decoded_up_to_the_next_keyframe(self):
+        frames = stored(BETWEEN, *range(6))
+        frames[2] = with_wrong_slice(frames[2], 0, 80)
+        self.assertEqual([self.is_decoded(BETWEEN, frames, number) for number in range(6)], [True, True, False, False, False, True])
+
+    def test_frames_after_a_lost_one_are_not_decoded(self):
+        frames = stored(BETWEEN, *range(4))
+        frames[1] = makings.inverted(frames[1], 40)
+        self.assertEqual([self.is_decoded(BETWEEN, frames, number) for number in range(4)], [True, False, False, False])
+
+    def test_a_record_that_is_none_of_version_3(self):
+        track = video(1, RICE)
+        for record in (makings.inverted(track.record, 3), b"", track.record[:-1]):
+            other = Track(1, Content.VIDEO, "ffv1", True, 48, 32, record)
+            self.assertFalse(self.ask([(1, stored(RICE, 0)[0])], 0, [other]))
+        self.assertFalse(self.ask([(1, stored(RICE, 0)[0])], 0, [Track(1, Content.VIDEO, "ffv1", True, 0, 32, track.record)]))
 
 
 class VouchedTest(unittest.TestCase):

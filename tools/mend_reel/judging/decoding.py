@@ -1,52 +1,67 @@
-"""Frames with guessed slices: each of these has what most copies have, or one bit inverted, and so passes. What decodes besides is taken
-for right."""
+"""Frames with guessed slices: each of these has what most copies have, or one bit inverted, and so passes. What decodes besides, and ends as an
+encoder ends it, is taken for right."""
 from __future__ import annotations
 
+import collections
 import pathlib
-from collections.abc import Callable, Sequence
+import tempfile
+from collections.abc import Callable, Iterable, Sequence
 
-from ..containers.ffprobe import can_ask
-from ..model import Frame, Layout, Outcome, State, Stretch, Track
+from ..model import Copy, Frame, Layout, Outcome, State, Stretch, Track
 from ..program.external_programs import run
 from .results import is_guessed
 
-# FFmpeg decodes from a keyframe on: it is asked about a while before a frame, and a little after it, in seconds.
-BEFORE, AFTER = 2.0, 0.5
-# At most so many bytes lie between the place of a packet that ffprobe reports and its frame: a block's header.
-HEADER = 64
-ENTRIES = "frame=pkt_pos,pkt_size"
-GOLOMB_RICE = 0
+NOWHERE = "/dev/null"
+# How many frames are decoded from a keyframe on: each is a word of a call.
+MOST_FRAMES = 1000
+# A frame begins with its range-coded keyframe bit, of even chance: 1 if the first two bytes are half of the range at least.
+KEY = 65280 // 2
 
 Decodes = Callable[[Track, Frame], bool]
 
 
-class FfmpegDecoder:
-    """Has FFmpeg decode frames of a file. It complains of a slice of a range coder that does not end where its samples do, as a wrong one
-    does in all but a few of 1000. Of Golomb-Rice slices it complains of nothing, so these are not decoded."""
+def is_key(front: bytes) -> bool:
+    """Whether a frame that begins with these bytes says that it is a keyframe."""
+    return len(front) >= 2 and int.from_bytes(front[:2], "big") >= KEY
 
-    def __init__(self, out: str, program: str, work: pathlib.Path) -> None:
+
+class SamplesDecoder:
+    """Has `ffv1restore samples` decode frames of OUT. A wrong slice can't be decoded, or does not end as an encoder ends it, in all but a
+    few of 1000 cases."""
+
+    def __init__(self, out: Copy, frames: Iterable[Frame], program: str, work: pathlib.Path) -> None:
         self.out, self.program, self.work = out, program, work
+        self.frames: dict[int, list[Frame]] = collections.defaultdict(list)
+        for frame in frames:
+            self.frames[frame.track].append(frame)
 
     def __call__(self, track: Track, frame: Frame) -> bool:
-        """Whether a frame of a track is decoded with those around it, and nothing complained of."""
-        if not can_ask() or self.coder_of(track) in (None, GOLOMB_RICE):
+        """Whether a frame of a track is decoded with those from its keyframe on, and all slices of them are clean."""
+        group = self.group(frame)
+        if not group:
             return False
-        interval = f"{max(frame.time - BEFORE, 0):.3f}%{frame.time + AFTER:.3f}"
-        done = run("ffprobe", "-v", "warning", "-threads", "1", "-protocol_whitelist", "file", "-select_streams", "v",
-                   "-read_intervals", interval, "-show_entries", ENTRIES, "-of", "csv=p=0", "file:" + self.out)
-        shown = (line.split(",") for line in done.stdout.decode("ascii", "replace").splitlines())
-        found = any(len(words) > 1 and words[0].isdigit() and 0 <= frame.place - int(words[0]) <= HEADER and words[1] == str(frame.size)
-                    for words in shown)
-        return done.returncode == 0 and not done.stderr.strip() and found
+        with tempfile.TemporaryDirectory(dir=self.work) as name:
+            folder = pathlib.Path(name)
+            paths = [folder / str(number) for number in range(len(group))]
+            try:
+                (folder / "record").write_bytes(track.record)
+                for path, each in zip(paths, group):
+                    path.write_bytes(self.out.read(each.place, each.size))
+            except OSError:
+                # Without room for them, nothing is known of the frame.
+                return False
+            size = str(track.width), str(track.height)
+            return run(self.program, "samples", folder / "record", *size, NOWHERE, *paths).returncode == 0
 
-    def coder_of(self, track: Track) -> int | None:
-        """The coder of a track, as `ffv1restore setup` prints it: 0 is Golomb-Rice, and others are range coders. None where it refuses the
-        record."""
-        path = self.work / "record"
-        path.write_bytes(track.record)
-        words = run(self.program, "setup", path, str(track.width), str(track.height)).stdout.split()
-        found = words[words.index(b"coder") + 1 :] if b"coder" in words else []
-        return int(found[0]) if found else None
+    def group(self, frame: Frame) -> list[Frame]:
+        """The frames of a track from the last keyframe up to a frame, as the frames say it themselves; nothing if it is not there, or too far."""
+        before = [each for each in self.frames[frame.track] if each.place <= frame.place][-MOST_FRAMES:]
+        if not before or (before[-1].place, before[-1].size) != (frame.place, frame.size):
+            return []
+        for number, each in reversed(list(enumerate(before))):
+            if is_key(self.out.read(each.place, 2)):
+                return before[number:]
+        return []
 
 
 def decoded(layout: Layout, stretches: Sequence[Stretch], outcomes: Sequence[Outcome], decodes: Decodes) -> frozenset[int]:

@@ -10,7 +10,7 @@ import os
 import re
 import subprocess
 from collections.abc import Callable, Iterable, Iterator, Sequence
-from typing import NamedTuple
+from typing import NamedTuple, Union
 
 from ..model import Copy, Fault, or_fault
 
@@ -42,10 +42,11 @@ class Compared(NamedTuple):
     is_of_all: bool
 
 
-def compare(digest_file: str, path: str, named: str, copies: Sequence[str], report: Report = unreported) -> Compared:
-    """What a digest file says of a file that is named so. A line of that name is meant, or of that of a copy, or the only one."""
+def compare(digest_file: str, path: str, named: str, copies: Sequence[str], report: Report = unreported, own: Make | None = None) -> Compared:
+    """What a digest file says of a file that is named so. A line of that name is meant, or of that of a copy, or the only one. `own` makes
+    the digests of frames where it can, and else FFmpeg does."""
     if next(iter(lines(digest_file)), "").startswith(FRAMES_SIGN):
-        return compare_frames(digest_file, path, named, report)
+        return compare_frames(digest_file, path, named, report, own)
     entry = choose(list(filter(None, map(read_line, lines(digest_file)))), named, copies, digest_file)
     made, algorithm = digest(path, entry.algorithm, report), entry.algorithm.upper()
     if made == entry.digest:
@@ -147,6 +148,10 @@ class FrameDigests:
         return sum(map(len, self.frames.values()))
 
 
+# Makes the digests of a file's frames that a digest file has, or None where it can't.
+Make = Callable[[FrameDigests, Report], Union[FrameDigests, None]]
+
+
 def read_frames(found: Iterable[str]) -> FrameDigests:
     """Reads the lines of a digest file, and of what FFmpeg prints."""
     made = FrameDigests()
@@ -201,12 +206,13 @@ def differences(wanted: FrameDigests, made: FrameDigests) -> dict[int, list[int]
     return {number: own for number, own in found.items() if own}
 
 
-def compare_frames(digest_file: str, path: str, named: str, report: Report) -> Compared:
+def compare_frames(digest_file: str, path: str, named: str, report: Report, own: Make | None) -> Compared:
     """Whether a file is the original by the digests of its frames."""
     wanted = read_frames(lines(digest_file))
     if not wanted.count():
         raise Fault(f"{digest_file} has the digest of no frame")
-    found = differences(wanted, make_frames(path, wanted, report))
+    made = own(wanted, report) if own else None
+    found = differences(wanted, made or make_frames(path, wanted, report))
     decoded = all(stream.is_decoded() or not stream.codec for stream in wanted.streams.values())
     what = f"{wanted.count()} {'decoded ' if decoded else ''}frames"
     if not found:

@@ -6,6 +6,7 @@ import datetime
 import heapq
 import os
 import pathlib
+import shutil
 import stat
 import sys
 from collections.abc import Iterable, Mapping, Sequence
@@ -15,7 +16,7 @@ from ..copies.arrangement import Arrangement, arrange, describe
 from ..copies.comparison import Comparison, best_shown, compare
 from ..copies.inputs import Inputs, gather
 from ..copies.preferred_copy import follow
-from ..judging import copy_health, decoding, kept_digests
+from ..judging import copy_health, decoding, frame_digests, kept_digests
 from ..judging.frame_checks import Scan
 from ..judging.results import FrameResult, FrameState
 from ..judging.verdict import Evidence, Verdict, judge
@@ -163,7 +164,7 @@ class Session:
         compared, damaged_before, path = None, arrangement.damaged_before, made.part or self.options.copies[0]
         if self.options.digest is not None:
             self.progress.begin("comparing with the digest")
-            compared = kept_digests.compare(self.options.digest, path, self.options.out or path, self.options.copies, self.progress.at)
+            compared = self.compare_with_digest(self.options.digest, path, made.out)
         if self.options.out is None:
             damaged_before = copy_health.damaged_before(layout, [copy_health.health(copies[0], 0, layout, self.judge)])
         verdict = judge(Evidence(
@@ -176,6 +177,16 @@ class Session:
             self.outputs.is_out_made = True
         self.notes += self.keeper.hand_over([*self.options.copies, *self.options.read(), *self.options.made()])
         return summary
+
+    def compare_with_digest(self, digest: str, path: str, layout: Layout) -> kept_digests.Compared:
+        """What a kept digest says of OUT, or of the file that is checked, in which this lies. Where ffmpeg is there, it makes the digests of frames:
+        then their times are compared too."""
+        file = open_copy(path)
+        try:
+            own = None if shutil.which("ffmpeg") else frame_digests.OwnDigests(file, layout, self.program, self.work)
+            return kept_digests.compare(digest, path, self.options.out or path, self.options.copies, self.progress.at, own)
+        finally:
+            os.close(file.file)
 
     def refuse_recording(self, copies: Sequence[Copy]) -> None:
         """Refuses to overwrite a recording of the same video where OUT is named by its place alone: OUT may have been forgotten."""
@@ -208,10 +219,10 @@ class Session:
             os.fchmod(made.fileno(), stat.S_IMODE(os.fstat(inputs.files[0].file).st_mode))
             os.fsync(made.fileno())
         out = open_copy(part)
-        self.progress.watch([out])
         try:
             self.progress.begin("reading OUT again")
-            decoded = decoding.decoded(layout, *mended, decoding.FfmpegDecoder(os.path.abspath(part), self.program, self.work))
+            decoded = decoding.decoded(layout, *mended, decoding.SamplesDecoder(out, layout.frames, self.program, self.work))
+            self.progress.watch([out])
             read = describe([out], self.judge)
             return Made(*mended, read, flaws_of(out, inputs.form(), read), part, decoded)
         finally:
