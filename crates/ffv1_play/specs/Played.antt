@@ -43,7 +43,8 @@ pub record PlaysAll (player : PlayerValue) (old new : List ReadLog) (out_old out
   pub printed : Writes output_old output_new (frames_text 1 frames)
   pub returned : clean ≡ are_clean frames
 
--- The payloads of the first sources have these frames. The samples of all but the last so many of them were written, and their lines printed ..
+-- The payloads have these frames, after what the player's last frame has left. The samples of all of them were written, and their lines
+-- printed.
 pub record PlaysFront (player : PlayerValue) (payloads : List (List ℕ)) (frames : List Samples) (end : Option (List LeftValue))
     (out_old out_new output_old output_new : WriteLog) : Type 0 where
   pub played : ArePlayed player.recording player.last payloads frames end
