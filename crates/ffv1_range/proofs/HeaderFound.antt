@@ -260,11 +260,11 @@ pub if_true : {A : Type 0} (b : Bool) (r s : Result A HeadFault) → b ≡ true 
 if_true true r s h = refl
 if_true false r s h = absurd cc
 
-in_place : (first : Bool) (tile : ℕ) → is_in_place first tile ≡ true → IsTrue first ↔ (tile ≡ 0)
+pub in_place : (first : Bool) (tile : ℕ) → is_in_place first tile ≡ true → IsTrue first ↔ (tile ≡ 0)
 in_place true tile h = (λ _. eqb-true tile 0 h, λ _. refl)
 in_place false tile h = (λ t. absurd cc, λ e. absurd (let l : 0 < tile = ltb-true 0 tile h in omega arith))
 
-placed : (first : Bool) (tile : ℕ) → IsTrue first ↔ (tile ≡ 0) → is_in_place first tile ≡ true
+pub placed : (first : Bool) (tile : ℕ) → IsTrue first ↔ (tile ≡ 0) → is_in_place first tile ≡ true
 placed true tile h = eq-eqb tile 0 (h.0 refl)
 placed false zero h = absurd (let e : false ≡ true = h.1 refl in cc)
 placed false (suc tile) h = lt-ltb 0 (suc tile) (omega arith)

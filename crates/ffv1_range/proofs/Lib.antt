@@ -9,6 +9,8 @@ pub mod TileLaws
 pub mod HeaderSteps
 pub mod HeaderFound
 pub mod SliceHeaderFound
+pub mod TileHeaderFound
+pub mod HeadTiles
 pub mod DeltaSteps
 pub mod SetupSteps
 pub mod TransitionSteps
@@ -19,6 +21,7 @@ pub mod DeltaRuns
 pub mod SetupRuns
 pub mod Contexts
 pub mod SetupLaws
+pub mod ProfileLaws
 pub mod Vectors
 pub mod SetupFacts
 pub mod FirstFaults

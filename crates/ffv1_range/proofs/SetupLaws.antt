@@ -280,46 +280,47 @@ wider_shift space true shift s h =
 wider_ec : (ec : ℕ) → accepts_ec Profile ec ≡ true → accepts_ec Version3 ec ≡ true
 wider_ec ec h = le-leb ec 1 (let one = eqb-true ec 1 h in omega arith)
 
+-- a record of the profile is one of version 3
+pub record_is_wider : (config : List ℕ) (width height : ℕ) (value : RecordingValue) → IsScopedRecord config Profile width height value
+    → IsScopedRecord config Version3 width height value
+record_is_wider config width height value of =
+    let ok : IsAccepted Profile width height of.fields = of.accepted in
+    record {
+      passes = of.passes;
+      is_width = of.is_width;
+      is_height = of.is_height;
+      fields = of.fields;
+      accepted = record {
+        version = ok.version;
+        micro_version = ok.micro_version;
+        coder_type = wider_coder of.fields.coder_type ok.coder_type;
+        state_transition_delta = ok.state_transition_delta;
+        colorspace_type = wider_space of.fields.colorspace_type ok.colorspace_type;
+        bits_per_raw_sample = wider_depth of.fields.bits_per_raw_sample ok.bits_per_raw_sample;
+        chroma_planes = ok.chroma_planes;
+        log2_h_chroma_subsample = wider_shift of.fields.colorspace_type of.fields.chroma_planes of.fields.log2_h_chroma_subsample ok.colorspace_type
+            ok.log2_h_chroma_subsample;
+        log2_v_chroma_subsample = wider_shift of.fields.colorspace_type of.fields.chroma_planes of.fields.log2_v_chroma_subsample ok.colorspace_type
+            ok.log2_v_chroma_subsample;
+        extra_plane = refl;
+        across = ok.across;
+        down = ok.down;
+        tiles = ok.tiles;
+        some_set = ok.some_set;
+        few_sets = ok.few_sets;
+        sets = ok.sets;
+        ec = wider_ec of.fields.ec ok.ec;
+        symbols = ok.symbols;
+      };
+      start = of.start;
+      started = of.started;
+      end = of.end;
+      coded = of.coded;
+      is = of.is;
+    }
+
 pub setup_is_recording : SetupIsRecording
-setup_is_recording config width height setup s =
-    let of = s.record_of in
-    let ok : IsAccepted Profile width height of.fields = of.accepted in (
-      s.recording,
-      record {
-        passes = of.passes;
-        is_width = of.is_width;
-        is_height = of.is_height;
-        fields = of.fields;
-        accepted = record {
-          version = ok.version;
-          micro_version = ok.micro_version;
-          coder_type = wider_coder of.fields.coder_type ok.coder_type;
-          state_transition_delta = ok.state_transition_delta;
-          colorspace_type = wider_space of.fields.colorspace_type ok.colorspace_type;
-          bits_per_raw_sample = wider_depth of.fields.bits_per_raw_sample ok.bits_per_raw_sample;
-          chroma_planes = ok.chroma_planes;
-          log2_h_chroma_subsample = wider_shift of.fields.colorspace_type of.fields.chroma_planes of.fields.log2_h_chroma_subsample ok.colorspace_type
-              ok.log2_h_chroma_subsample;
-          log2_v_chroma_subsample = wider_shift of.fields.colorspace_type of.fields.chroma_planes of.fields.log2_v_chroma_subsample ok.colorspace_type
-              ok.log2_v_chroma_subsample;
-          extra_plane = refl;
-          across = ok.across;
-          down = ok.down;
-          tiles = ok.tiles;
-          some_set = ok.some_set;
-          few_sets = ok.few_sets;
-          sets = ok.sets;
-          ec = wider_ec of.fields.ec ok.ec;
-          symbols = ok.symbols;
-        };
-        start = of.start;
-        started = of.started;
-        end = of.end;
-        coded = of.coded;
-        is = of.is;
-      },
-      s.is,
-    )
+setup_is_recording config width height setup s = (s.recording, record_is_wider config width height s.recording s.record_of, s.is)
 
 -- ---- a result that reading gives
 

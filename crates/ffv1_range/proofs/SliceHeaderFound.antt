@@ -49,13 +49,13 @@ bytes_are r content h = ap (λ b. if b then content else content ++ 0 ∷ []) h
 
 -- ---- the fields
 
-all_below : (n : ℕ) (xs : List ℕ) → list_all (λ table. nat_lt table n) xs ≡ true → All (λ table. table < n) xs
+pub all_below : (n : ℕ) (xs : List ℕ) → list_all (λ table. nat_lt table n) xs ≡ true → All (λ table. table < n) xs
 all_below n [] h = All-nil (λ table. table < n)
 all_below n (x ∷ xs) h =
     let parts = and_parts (nat_lt x n) (list_all (λ table. nat_lt table n) xs) h in
     All-cons (λ table. table < n) x xs (ltb-true x n parts.0) (all_below n xs parts.1)
 
-below_all : (n : ℕ) (xs : List ℕ) → All (λ table. table < n) xs → list_all (λ table. nat_lt table n) xs ≡ true
+pub below_all : (n : ℕ) (xs : List ℕ) → All (λ table. table < n) xs → list_all (λ table. nat_lt table n) xs ≡ true
 below_all n [] h = refl
 below_all n (x ∷ xs) h =
     and_from (nat_lt x n) (list_all (λ table. nat_lt table n) xs) (lt-ltb x n (All-head (λ table. table < n) x xs h))

@@ -19,4 +19,5 @@ pub mod Tiles
 pub mod HeaderForms
 pub mod Header
 pub mod SliceHeader
+pub mod TileHeaders
 pub mod Inner

@@ -2,15 +2,17 @@
 //!
 //! The content of a slice begins with it, range-coded in a content that nothing follows; the keyframe bit of the frame
 //! (section 4.4) stands before the header of the payload's first slice.
-ghost use Rattle.std.specs.Prelude.{◌≡◌, ◌+◌, ◌≤◌, ℕ, Ok, false, IfOk, take, nat_le};
+ghost use Rattle.std.specs.Prelude.{◌≡◌, ◌+◌, ◌≤◌, ℕ, Ok, false, IfOk, length, take, nat_le, nat_lt};
+ghost use Rattle.std.specs.List.{list_all};
 ghost use Rattle.ffv1_range.specs.Decoder.{Starts};
 ghost use Rattle.ffv1_range.specs.Forms.{ReadsForm, same_fault};
 ghost use Rattle.ffv1_range.specs.Header.{header_limits, head_read, head_judged, IsHeadOf};
 ghost use Rattle.ffv1_range.specs.HeaderForms.{header_fields, fields_form};
-ghost use Rattle.ffv1_range.specs.SliceHeader.{slice_mode, slice_bytes, field_count, slice_header_judged, slice_header_read, IsSliceHeaderOf};
+ghost use Rattle.ffv1_range.specs.SliceHeader.{slice_mode, slice_bytes, field_count, table_indexes, slice_header_judged, slice_header_read, IsSliceHeaderOf};
+ghost use Rattle.ffv1_range.specs.TileHeaders.{is_in_profile, scope_by, rules_of, IsTileContent, tile_judged, tile_read, HeadsTile};
 ghost use Rattle.ffv1_range.specs.Inner.Forms.{ReadsFormAs};
 ghost use Rattle.ffv1_range.specs.Inner.HeaderForms.{ReadsKey, ReadsHeader, IsAtPlace};
-ghost use Rattle.ffv1_range.specs.Inner.SliceHeader.{FollowsDecoder};
+ghost use Rattle.ffv1_range.specs.Inner.SliceHeader.{FollowsDecoder, EndsHeader};
 ghost use Rattle.ffv1_range.specs.Inner.Views.{limits_of};
 ghost use Rattle.ffv1_range.specs.declared.head.SliceHead.{SliceHead};
 ghost use Rattle.ffv1_range.specs.declared.head.SliceHeader.{SliceHeader};
@@ -187,6 +189,93 @@ pub fn read_slice_head<'a>(
     let start = slice_start(recording, decoder)?;
     let header = slice_header(recording, &header)?;
     Ok((header, start))
+}
+
+/// The tile of which a slice of any recording is, counted from 0 row by row: a slice that a holding can hold, which is of one tile alone. The
+/// content is the slice without its footer; it is `first` where it is the payload's first, and then the frame's keyframe bit stands before its
+/// header. It takes no memory.
+///
+/// Returns `Range` if a range-coded value can't be read, and of a recording of the profile `NotKey` straight after a keyframe bit 0. Once all
+/// of the header was read, and with coder_type 0 the bit after it, `OutsideGrid`, `Spans`, `TableIndex` and `FirstElsewhere` are returned in
+/// this order.
+pub fn read_tile(recording: &Recording, content: &[u8], first: bool) -> Result<usize, HeadFault>
+    ensures found { IfOk result (IsTileContent (rules_of recording.now) content.now first) }
+    ensures only { (tile : ℕ) → IsTileContent (rules_of recording.now) content.now first tile → result ≡ Ok tile }
+    ensures fault { result ≡ tile_read (rules_of recording.now) content.now first }
+{
+    let mut decoder = slice_decoder(recording, content)?;
+    let count = field_count(recording.has_alpha());
+    let header = read_header(scope_of(recording), &mut decoder, first, count)?;
+    end_header(recording, decoder)?;
+    judged_tile(recording, first, &header.fields)
+}
+
+/// Of a setup of the profile a content's tile is that of its header, and is refused as `read_head` refuses it.
+pub fn heads_tile()
+    ensures { HeadsTile }
+{}
+
+/// Which keyframe bits a recording may have.
+fn scope_of(recording: &Recording) -> Scope
+    ensures { result ≡ scope_by (is_in_profile recording.now) }
+{
+    if recording.is_in_profile() {
+        Scope::Profile
+    } else {
+        Scope::Version3
+    }
+}
+
+/// Reads the bit that ends the header's coding, with coder_type 0.
+fn end_header(recording: &Recording, decoder: RangeDecoder<'_>) -> Result<(), HeadFault>
+    requires { decoder.mode.closed ≡ false }
+    ensures { EndsHeader recording.now decoder.entry result }
+{
+    if recording.coder() == 0 {
+        decoder.finish()?;
+    }
+    Ok(())
+}
+
+/// Whether the record has each table set that a header names.
+fn has_tables(recording: &Recording, fields: &[u32; MOST_FIELDS]) -> bool
+    ensures { result ≡ list_all (λ table. nat_lt table (length recording.now.setup.sets))
+        (table_indexes recording.now.has_alpha (take (field_count recording.now.has_alpha) fields.now)) }
+{
+    let sets = recording.sets();
+    let [_, _, _, _, luma, chroma, alpha, ..] = *fields;
+    if (luma as usize) >= sets || (chroma as usize) >= sets {
+        return false;
+    }
+    !recording.has_alpha() || (alpha as usize) < sets
+}
+
+/// The fields of a slice of one tile, or the first fault of them.
+#[tactic(auto, using(crate::proofs::HeaderSteps::tile_fits))]
+fn judged_tile(
+    recording: &Recording,
+    first: bool,
+    fields: &[u32; MOST_FIELDS],
+) -> Result<usize, HeadFault>
+    ensures { result ≡ tile_judged (rules_of recording.now) first (take (field_count recording.now.has_alpha) fields.now) }
+{
+    let [slice_x, slice_y, less_width, less_height, ..] = *fields;
+    let grid = recording.grid();
+    let (across, down) = (grid.across(), grid.down());
+    if slice_x >= across || slice_y >= down {
+        return Err(HeadFault::OutsideGrid);
+    }
+    if less_width != 0 || less_height != 0 {
+        return Err(HeadFault::Spans);
+    }
+    if !has_tables(recording, fields) {
+        return Err(HeadFault::TableIndex);
+    }
+    let tile = slice_y as usize * across as usize + slice_x as usize;
+    if first != (tile == 0) {
+        return Err(HeadFault::FirstElsewhere);
+    }
+    Ok(tile)
 }
 
 /// A decoder at the start of a slice's content.

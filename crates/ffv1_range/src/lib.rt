@@ -8,6 +8,7 @@ mod fault;
 mod fields;
 mod grid;
 mod head;
+mod recorded;
 mod recording;
 mod scope;
 mod setup;
@@ -19,10 +20,14 @@ pub use coding::{RangeDecoder, RangeEnd, RangeFault};
 pub use fault::SetupFault;
 pub use grid::{Grid, TileRect, each_place_in_one_tile, each_tile_in_frame};
 pub use head::{
-    HEAD_FIELDS, HeadFault, SliceHead, SliceHeader, SliceStart, read_head, read_head_fields,
-    read_slice_head,
+    HEAD_FIELDS, HeadFault, SliceHead, SliceHeader, SliceStart, heads_tile, read_head,
+    read_head_fields, read_slice_head, read_tile,
 };
-pub use recording::{Recording, recording_is_in_version_3, recording_is_one};
+pub use recorded::Recorded;
+pub use recording::{
+    Recording, read_scoped, recording_in_profile, recording_is_in_version_3, recording_is_one,
+};
+pub use scope::Scope;
 pub use setup::{Setup, setup_is_in_profile, setup_is_one, setup_is_recording};
 pub use symbols::{signed_symbol_is_spelled, symbol_is_spelled};
 pub use transitions::{Transitions, next_state};

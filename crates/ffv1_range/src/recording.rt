@@ -2,11 +2,12 @@
 //!
 //! A `Recording` is of version 3 with micro_version 4 or greater: any coder_type, gray, Y Cb Cr or RGB of 8 to 16 bits, chroma shifts of at
 //! most 4, with alpha or without, at most `MOST_TILES` tiles, and 1 to 8 sets of quantization tables.
-ghost use Rattle.std.specs.Prelude.{◌≡◌, ◌+◌, ◌<◌, ◌⊎◌, Bool, true, length, MatchResult, IfOk, IfErr, IfSome, Err, if◌then◌else◌};
+ghost use Rattle.std.specs.Prelude.{◌≡◌, ◌+◌, ◌<◌, ◌⊎◌, Bool, true, false, length, MatchResult, IfOk, IfErr, IfSome, Err, if◌then◌else◌};
 ghost use Rattle.ffv1_range.specs.Setup.{RecordingValue, set_contexts, set_entry, states_coded, initial_of, IsScopedRecord, IsRecordingOf, IsInVersion3, RecordingIsOne, RecordingIsInVersion3};
 ghost use Rattle.std.specs.Option.{option_copied};
 ghost use Rattle.ffv1_range.specs.SetupFaults.{FirstRecordingFault};
 ghost use Rattle.ffv1_range.specs.SetupForms.{Grants, all_granted, checked_content, is_size, record_read};
+ghost use Rattle.ffv1_range.specs.TileHeaders.{is_in_profile, RecordingInProfile};
 ghost use Rattle.ffv1_range.specs.Tiles.{grid_of};
 ghost use Rattle.ffv1_range.specs.Inner.Forms.{Gives};
 ghost use Rattle.ffv1_range.specs.declared.scope.Scope.TheVariants.{Version3};
@@ -18,6 +19,7 @@ use crate::fault::SetupFault;
 use crate::fields::{Counts, Shape, read_front, read_last_fields};
 use crate::grid::Grid;
 use crate::scope::Scope;
+use crate::setup::Setup;
 use crate::tables::{TableSet, read_sets};
 use crate::transitions::Transitions;
 use ffv1_bits::{GREATEST_SIDE, remainder};
@@ -124,6 +126,32 @@ impl Recording {
         ensures { IsInVersion3 self.now }
     {
         let _shape = &self.shape;
+    }
+
+    /// Whether it is of the profile: Golomb-Rice codes, gray or Y Cb Cr of 8 bits without alpha, parities, and shifts of at most 2.
+    pub fn is_in_profile(&self) -> bool
+        ensures { result ≡ is_in_profile self.now }
+    {
+        self.coder() == 0
+            && !self.is_rgb()
+            && self.depth() == 8
+            && !self.has_alpha()
+            && self.ec() == 1
+            && self.shift_h() <= 2
+            && self.shift_v() <= 2
+    }
+
+    /// The setup, where it is of the profile; else the recording comes back.
+    pub fn into_setup(self) -> Result<Setup, Recording>
+        ensures ok { IfOk result (λ setup. (is_in_profile self ≡ true) × (setup ≡ self.setup)) }
+        ensures err { IfErr result (λ same. (is_in_profile self ≡ false) × (same ≡ self)) }
+    {
+        self.keeps_version_3();
+        if self.is_in_profile() {
+            Ok(Setup { recording: self })
+        } else {
+            Err(self)
+        }
     }
 
     /// Whether a plane of alpha follows the others.
@@ -246,8 +274,9 @@ impl Recording {
     }
 }
 
-/// Reads a configuration record that a scope accepts, as `Recording::read` does.
-pub(crate) fn read_scoped(
+/// Reads a configuration record that a scope accepts: `Recording::read` those of version 3, `Setup::read` those of the profile. It is refused as they
+/// refuse it.
+pub fn read_scoped(
     alloc: Global,
     scope: Scope,
     config: &[u8],
@@ -306,6 +335,11 @@ fn is_size(size: u32) -> bool
 /// One record and size say one thing of a recording.
 pub fn recording_is_one()
     ensures { RecordingIsOne }
+{}
+
+/// A recording of version 3 has a setup exactly where it is of the profile.
+pub fn recording_in_profile()
+    ensures { RecordingInProfile }
 {}
 
 /// What a record says keeps the bounds of version 3.

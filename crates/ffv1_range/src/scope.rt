@@ -3,8 +3,8 @@ ghost use Rattle.std.specs.Prelude.{◌≡◌};
 ghost use Rattle.ffv1_range.specs.Scopes.{accepts_coder, accepts_space, accepts_depth, greatest_shift, accepts_extra_plane, accepts_ec, accepts_key};
 
 /// Which values of some fields a configuration record may have.
-#[derive(Clone, Copy)]
-pub(crate) enum Scope {
+#[derive(Clone, Copy, Debug, PartialEq, Eq)]
+pub enum Scope {
     /// The profile: Golomb-Rice codes, 8 bits a sample, gray or Y Cb Cr with chroma shifts of at most 2, and slices with a parity.
     Profile,
     /// Every recording of version 3.

@@ -2,10 +2,11 @@
 //!
 //! A `Setup` is of the profile: version 3 with micro_version 4 or greater, Golomb-Rice codes, 8 bits a sample, gray or
 //! Y Cb Cr with chroma shifts of at most 2, at most `MOST_TILES` tiles, and 1 to 8 sets of quantization tables.
-ghost use Rattle.std.specs.Prelude.{◌≡◌, ◌<◌, ◌⊎◌, Bool, length, MatchResult, IfOk, IfErr};
+ghost use Rattle.std.specs.Prelude.{◌≡◌, ◌<◌, ◌⊎◌, Bool, true, length, MatchResult, IfOk, IfErr};
 ghost use Rattle.ffv1_range.specs.Setup.{SetupValue, set_contexts, set_entry, IsSetupOf, IsInProfile, SetupIsOne, SetupIsInProfile, SetupIsRecording};
 ghost use Rattle.ffv1_range.specs.SetupFaults.{FirstSetupFault};
 ghost use Rattle.ffv1_range.specs.SetupForms.{setup_read};
+ghost use Rattle.ffv1_range.specs.TileHeaders.{is_in_profile, rules_of, profile_rules};
 ghost use Rattle.ffv1_range.specs.Tiles.{grid_of};
 ghost use Rattle.ffv1_range.specs.declared.fault.SetupFault.TheVariants.{Memory};
 
@@ -23,13 +24,15 @@ pub struct Setup {
 }
 
 impl Model for Setup {
+    ghost use Rattle.std.specs.Prelude.{◌≡◌, true};
     ghost use Rattle.ffv1_range.specs.Setup.{SetupValue, IsInProfile};
+    ghost use Rattle.ffv1_range.specs.TileHeaders.{is_in_profile};
 
     ghost Value = { SetupValue };
 
     ghost view = { λ x. x.recording.setup };
 
-    ghost invariant = { λ x. IsInProfile x.recording.setup };
+    ghost invariant = { λ x. IsInProfile x.recording.setup × (is_in_profile x.recording ≡ true) };
 }
 
 impl Setup {
@@ -56,9 +59,11 @@ impl Setup {
         Ok(Setup { recording })
     }
 
-    /// The same as a recording.
+    /// The same as a recording, which is of the profile.
     pub fn recording(&self) -> &Recording
-        ensures { result.now.setup ≡ self.now }
+        ensures value { result.now.setup ≡ self.now }
+        ensures profile { is_in_profile result.now ≡ true }
+        ensures rules { rules_of result.now ≡ profile_rules self.now }
     {
         &self.recording
     }

@@ -3,7 +3,7 @@ use Rattle.std.proofs.Common.{◌≡◌, ℕ, suc, zero, ◌+◌, ◌-◌, ◌<�
 use Rattle.std.specs.Prelude.{◌==◌, Contains, slice_range}
 use Rattle.std.specs.List.{AllByRecursion, filter_map, cons_option, flat_map}
 use Rattle.std.proofs.lemmas.List.{take_all, get_or_default}
-use Rattle.ffv1_range.specs.Setup.{SetupValue}
+use Rattle.ffv1_range.specs.TileHeaders.{TileRules}
 use Rattle.ffv1_slice.specs.Chain.{size_before, FooterGives, IsLinkOf, LinkValue, link_of}
 use Rattle.ffv1_slice.specs.Walk.{links_of}
 use Rattle.ffv1_slice.specs.Slices.{IsSliceOf, IsFoundIn, IsOriginal, slice_read, with_tile, slice_at, found_slices, FoundSlicesAreFound, OriginalIsFound}
@@ -63,43 +63,43 @@ with_tile_is bytes (Err e) tile slice h = absurd cc
 IsLinkOfPayload : List ℕ → LinkValue → Type 0
 IsLinkOfPayload payload link = (q : ℕ) × IsLinkOf payload link.start q × (link ≡ link_of payload link.start q)
 
-pub found_from : (setup : SetupValue) (payload : List ℕ) (tile : ℕ) (slice : List ℕ) → Contains (found_slices setup payload) (tile, slice)
-    → IsFoundIn setup payload tile slice
+pub found_from : (rules : TileRules) (payload : List ℕ) (tile : ℕ) (slice : List ℕ) → Contains (found_slices rules payload) (tile, slice)
+    → IsFoundIn rules payload tile slice
 unfolding found_slices IsLinkOfPayload
-found_from setup payload tile slice h =
-    let kept = kept_from (slice_at setup) (links_of payload) h.0 (tile, slice) h.1 h.2 in
+found_from rules payload tile slice h =
+    let kept = kept_from (slice_at rules) (links_of payload) h.0 (tile, slice) h.1 h.2 in
     let link : IsLinkOfPayload payload kept.from = all_of (λ link. (q : ℕ) × IsLinkOf payload link.start q × (link ≡ link_of payload link.start q))
     (links_of payload) kept.there.0 kept.from (are_links payload).only kept.there.1 kept.there.2 in
-    let parts = with_tile_is kept.from.bytes (slice_read setup kept.from.bytes (kept.from.start == 0)) tile slice kept.gives in
+    let parts = with_tile_is kept.from.bytes (slice_read rules kept.from.bytes (kept.from.start == 0)) tile slice kept.gives in
     record {
       start = kept.from.start;
       end = link.0;
       link = link.1;
       bytes = parts.1 ∙ ap (λ z. z.bytes) link.2;
-      is_slice = subst (λ z. IsSliceOf setup z (kept.from.start == 0) tile) (sym parts.1)
-          (slice_found setup kept.from.bytes (kept.from.start == 0) tile parts.0);
+      is_slice = subst (λ z. IsSliceOf rules z (kept.from.start == 0) tile) (sym parts.1)
+          (slice_found rules kept.from.bytes (kept.from.start == 0) tile parts.0);
     }
 
-pub found_to : (setup : SetupValue) (payload : List ℕ) (tile : ℕ) (slice : List ℕ) → IsFoundIn setup payload tile slice
-    → Contains (found_slices setup payload) (tile, slice)
+pub found_to : (rules : TileRules) (payload : List ℕ) (tile : ℕ) (slice : List ℕ) → IsFoundIn rules payload tile slice
+    → Contains (found_slices rules payload) (tile, slice)
 unfolding found_slices
-found_to setup payload tile slice h =
-    let whole : IsSliceOf setup (slice_range payload h.start h.end) (h.start == 0) tile =
-    subst (λ z. IsSliceOf setup z (h.start == 0) tile) h.bytes h.is_slice in
-    Contains-filter_map (slice_at setup) (links_of payload) (link_of payload h.start h.end) (tile, slice) ((are_links payload).all h.start h.end h.link)
-    (ap (with_tile (slice_range payload h.start h.end)) (slice_run setup (slice_range payload h.start h.end) (h.start == 0) tile whole)
+found_to rules payload tile slice h =
+    let whole : IsSliceOf rules (slice_range payload h.start h.end) (h.start == 0) tile =
+    subst (λ z. IsSliceOf rules z (h.start == 0) tile) h.bytes h.is_slice in
+    Contains-filter_map (slice_at rules) (links_of payload) (link_of payload h.start h.end) (tile, slice) ((are_links payload).all h.start h.end h.link)
+    (ap (with_tile (slice_range payload h.start h.end)) (slice_run rules (slice_range payload h.start h.end) (h.start == 0) tile whole)
     ∙ ap (λ z. Some (tile, z)) (sym h.bytes))
 
 pub found_slices_are_found : FoundSlicesAreFound
-found_slices_are_found setup payload tile slice = (found_from setup payload tile slice, found_to setup payload tile slice)
+found_slices_are_found rules payload tile slice = (found_from rules payload tile slice, found_to rules payload tile slice)
 
 -- ---- the links of an original
 
-module _ (setup : SetupValue) (payload : List ℕ) (slices : List (List ℕ)) (original : IsOriginal setup payload slices) where
+module _ (rules : TileRules) (payload : List ℕ) (slices : List (List ℕ)) (original : IsOriginal rules payload slices) where
   slice_of_tile : (k : ℕ) → List ℕ
   slice_of_tile k = get_or slices k []
 
-  is_slice_of_tile : (k : ℕ) → k < length slices → IsSliceOf setup (slice_of_tile k) (k == 0) k
+  is_slice_of_tile : (k : ℕ) → k < length slices → IsSliceOf rules (slice_of_tile k) (k == 0) k
   unfolding slice_of_tile
   is_slice_of_tile k h = original.each k [] h
 
@@ -141,55 +141,55 @@ module _ (setup : SetupValue) (payload : List ℕ) (slices : List (List ℕ)) (o
 
 -- ---- what is found of a payload that is cut as an original is
 
-module _ (setup : SetupValue) (original copy : List ℕ) (slices : List (List ℕ)) (is : IsOriginal setup original slices) (is_cut : FooterGivesAt copy slices) where
+module _ (rules : TileRules) (original copy : List ℕ) (slices : List (List ℕ)) (is : IsOriginal rules original slices) (is_cut : FooterGivesAt copy slices) where
   -- a slice stands at its tile's places, and is of that tile where what stands there is the original's
-  pub found_at : (tile : ℕ) (slice : List ℕ) → IsFoundIn setup copy tile slice
-      → (k : ℕ) × (k < length slices) × (slice ≡ slice_range copy (starts_at slices k) (starts_at slices (k + 1))) × IsSliceOf setup slice (k == 0) tile
+  pub found_at : (tile : ℕ) (slice : List ℕ) → IsFoundIn rules copy tile slice
+      → (k : ℕ) × (k < length slices) × (slice ≡ slice_range copy (starts_at slices k) (starts_at slices (k + 1))) × IsSliceOf rules slice (k == 0) tile
   found_at tile slice h =
       let at = tile_of_cut copy slices is_cut h.start h.end h.link.is_end h.link.cut in
       let is_first : (h.start == 0) ≡ (at.0 == 0) = ap (λ z. z == 0) at.2 ∙ first_tile copy slices is_cut at.0 at.1 in (
         at.0,
         at.1,
         h.bytes ∙ ap (λ z. slice_range copy z h.end) at.2 ∙ ap (λ z. slice_range copy (starts_at slices at.0) z) at.3,
-        subst (λ z. IsSliceOf setup slice z tile) is_first h.is_slice,
+        subst (λ z. IsSliceOf rules slice z tile) is_first h.is_slice,
       )
 
-  pub own_tile : (k tile : ℕ) (slice : List ℕ) → k < length slices → slice ≡ get_or slices k [] → IsSliceOf setup slice (k == 0) tile → (tile ≡ k)
+  pub own_tile : (k tile : ℕ) (slice : List ℕ) → k < length slices → slice ≡ get_or slices k [] → IsSliceOf rules slice (k == 0) tile → (tile ≡ k)
       × (slice ≡ get_or slices tile slice)
   own_tile k tile slice lt same is_slice =
-      let own : IsSliceOf setup (get_or slices k []) (k == 0) tile = subst (λ z. IsSliceOf setup z (k == 0) tile) same is_slice in
-      let tiles : tile ≡ k = one_tile setup (get_or slices k []) (k == 0) tile k own (is.each k [] lt) in
+      let own : IsSliceOf rules (get_or slices k []) (k == 0) tile = subst (λ z. IsSliceOf rules z (k == 0) tile) same is_slice in
+      let tiles : tile ≡ k = one_tile rules (get_or slices k []) (k == 0) tile k own (is.each k [] lt) in
       (tiles, same ∙ get_or_default slices k [] slice lt ∙ ap (λ z. get_or slices z slice) (sym tiles))
 
   -- and where the original's slice stands at its places, it is found
   pub found_there : (tile : ℕ) (slice : List ℕ) → tile < length slices → slice ≡ get_or slices tile slice
-      → slice_range copy (starts_at slices tile) (starts_at slices (tile + 1)) ≡ slice → IsFoundIn setup copy tile slice
+      → slice_range copy (starts_at slices tile) (starts_at slices (tile + 1)) ≡ slice → IsFoundIn rules copy tile slice
   found_there tile slice lt same intact =
       record {
         start = starts_at slices tile;
         end = starts_at slices (tile + 1);
         link = record { is_end = end_of_tile copy slices is_cut (tile + 1) (omega arith); cut = is_cut.cut tile lt };
         bytes = sym intact;
-        is_slice = subst (λ z. IsSliceOf setup z (starts_at slices tile == 0) tile) (sym same)
-            (subst (λ z. IsSliceOf setup (get_or slices tile slice) z tile) (sym (first_tile copy slices is_cut tile lt)) (is.each tile slice lt));
+        is_slice = subst (λ z. IsSliceOf rules z (starts_at slices tile == 0) tile) (sym same)
+            (subst (λ z. IsSliceOf rules (get_or slices tile slice) z tile) (sym (first_tile copy slices is_cut tile lt)) (is.each tile slice lt));
       }
 
-module _ (setup : SetupValue) (payload : List ℕ) (slices : List (List ℕ)) (original : IsOriginal setup payload slices) where
-  original_from : (tile : ℕ) (slice : List ℕ) → IsFoundIn setup payload tile slice → (tile < length slices) × (slice ≡ get_or slices tile slice)
+module _ (rules : TileRules) (payload : List ℕ) (slices : List (List ℕ)) (original : IsOriginal rules payload slices) where
+  original_from : (tile : ℕ) (slice : List ℕ) → IsFoundIn rules payload tile slice → (tile < length slices) × (slice ≡ get_or slices tile slice)
   original_from tile slice h =
-      let at = found_at setup payload payload slices original (original_cut setup payload slices original) tile slice h in
-      let own = own_tile setup payload payload slices original (original_cut setup payload slices original) at.0 tile slice at.1
-      (at.2 ∙ bytes_of_tile setup payload slices original at.0 at.1) at.3 in
+      let at = found_at rules payload payload slices original (original_cut rules payload slices original) tile slice h in
+      let own = own_tile rules payload payload slices original (original_cut rules payload slices original) at.0 tile slice at.1
+      (at.2 ∙ bytes_of_tile rules payload slices original at.0 at.1) at.3 in
       (subst (λ z. z < length slices) (sym own.0) at.1, own.1)
 
-  original_to : (tile : ℕ) (slice : List ℕ) → (tile < length slices) × (slice ≡ get_or slices tile slice) → IsFoundIn setup payload tile slice
+  original_to : (tile : ℕ) (slice : List ℕ) → (tile < length slices) × (slice ≡ get_or slices tile slice) → IsFoundIn rules payload tile slice
   original_to tile slice h =
-      found_there setup payload payload slices original (original_cut setup payload slices original) tile slice h.0 h.1
-      (bytes_of_tile setup payload slices original tile h.0 ∙ get_or_default slices tile [] slice h.0 ∙ sym h.1)
+      found_there rules payload payload slices original (original_cut rules payload slices original) tile slice h.0 h.1
+      (bytes_of_tile rules payload slices original tile h.0 ∙ get_or_default slices tile [] slice h.0 ∙ sym h.1)
 
 pub original_is_found : OriginalIsFound
-original_is_found setup payload slices original tile slice = (
-  original_from setup payload slices original tile slice,
-  original_to setup payload slices
+original_is_found rules payload slices original tile slice = (
+  original_from rules payload slices original tile slice,
+  original_to rules payload slices
       original tile slice,
 )

@@ -6,7 +6,7 @@ use Rattle.byteorder.specs.Endian.{big_number}
 use Rattle.ffv1_bits.specs.Parity.{AreBytes, PassesParity}
 use Rattle.ffv1_bits.proofs.Burst.{burst}
 use Rattle.ffv1_bits.proofs.Bytes.{AreBytes-range}
-use Rattle.ffv1_range.specs.Setup.{SetupValue}
+use Rattle.ffv1_range.specs.TileHeaders.{TileRules}
 use Rattle.ffv1_slice.specs.Chain.{size_before}
 use Rattle.ffv1_slice.specs.Slices.{IsSliceOf, IsFoundIn}
 use Rattle.ffv1_slice.specs.Near.{starts_at, version_at, size_field, IsNear, IsIntactIn, NearFound}
@@ -60,11 +60,11 @@ size_of_range xs p q low high =
 
 -- ---- a copy that is near an original
 
-module _ (setup : SetupValue) (original : List ℕ) (slices : List (List ℕ)) (copy : List ℕ) (near : IsNear setup original slices copy) where
+module _ (rules : TileRules) (original : List ℕ) (slices : List (List ℕ)) (copy : List ℕ) (near : IsNear rules original slices copy) where
   cut : FooterGivesAt original slices
-  cut = original_cut setup original slices near.is_original
+  cut = original_cut rules original slices near.is_original
 
-  own : (k : ℕ) → k < length slices → IsSliceOf setup (get_or slices k []) (k == 0) k
+  own : (k : ℕ) → k < length slices → IsSliceOf rules (get_or slices k []) (k == 0) k
   own k lt = near.is_original.each k [] lt
 
   next : (k : ℕ) → k < length slices → starts_at slices (k + 1) ≡ starts_at slices k + length (get_or slices k [])
@@ -76,7 +76,7 @@ module _ (setup : SetupValue) (original : List ℕ) (slices : List (List ℕ)) (
       let long : 8 ≤ length (get_or slices k []) = cut.long k lt in
       let ends : starts_at slices (k + 1) ≡ starts_at slices k + length (get_or slices k []) = next k lt in
       let here : length (slice_range original (starts_at slices k) (starts_at slices (k + 1))) ≡ length (get_or slices k []) =
-      ap length (bytes_of_tile setup original slices near.is_original k lt) in
+      ap length (bytes_of_tile rules original slices near.is_original k lt) in
       let room : length (slice_range original (starts_at slices k) (starts_at slices (k + 1))) ≡ min (starts_at slices (k + 1) - starts_at slices k)
       (length original - starts_at slices k) =
       length-take (starts_at slices (k + 1) - starts_at slices k) (drop (starts_at slices k) original)
@@ -115,27 +115,27 @@ module _ (setup : SetupValue) (original : List ℕ) (slices : List (List ℕ)) (
       elim (near.each k [] lt) [
         | inl same ↦ same
         | inr damaged ↦
-            let slice_bytes : AreBytes (get_or slices k []) = subst AreBytes (bytes_of_tile setup original slices near.is_original k lt)
+            let slice_bytes : AreBytes (get_or slices k []) = subst AreBytes (bytes_of_tile rules original slices near.is_original k lt)
             (AreBytes-range original (starts_at slices k) (starts_at slices (k + 1)) near.original_bytes) in
             sym (burst (get_or slices k []) (version_at slices copy k) damaged.at slice_bytes
             (AreBytes-range copy (starts_at slices k) (starts_at slices (k + 1)) near.copy_bytes) damaged.differ (own k lt).passes passes)
       ]
 
-  near_from : (tile : ℕ) (slice : List ℕ) → IsFoundIn setup copy tile slice → (tile < length slices) × (slice ≡ get_or slices tile slice)
+  near_from : (tile : ℕ) (slice : List ℕ) → IsFoundIn rules copy tile slice → (tile < length slices) × (slice ≡ get_or slices tile slice)
       × IsIntactIn slices copy tile slice
   near_from tile slice h =
-      let at = found_at setup original copy slices near.is_original copy_cut tile slice h in
+      let at = found_at rules original copy slices near.is_original copy_cut tile slice h in
       let whole = intact at.0 at.1 (subst PassesParity at.2 at.3.passes) in
-      let mine = own_tile setup original copy slices near.is_original copy_cut at.0 tile slice at.1 (at.2 ∙ whole) at.3 in
+      let mine = own_tile rules original copy slices near.is_original copy_cut at.0 tile slice at.1 (at.2 ∙ whole) at.3 in
       (subst (λ z. z < length slices) (sym mine.0) at.1, mine.1, ap (version_at slices copy) mine.0 ∙ sym at.2)
 
   near_to : (tile : ℕ) (slice : List ℕ) → (tile < length slices) × (slice ≡ get_or slices tile slice) × IsIntactIn slices copy tile slice
-      → IsFoundIn setup copy tile slice
-  near_to tile slice h = found_there setup original copy slices near.is_original copy_cut tile slice h.0 h.1 h.2
+      → IsFoundIn rules copy tile slice
+  near_to tile slice h = found_there rules original copy slices near.is_original copy_cut tile slice h.0 h.1 h.2
 
 pub near_found : NearFound
-near_found setup original slices copy near tile slice = (
-  near_from setup original slices copy near tile slice,
-  near_to setup original slices copy near tile
+near_found rules original slices copy near tile slice = (
+  near_from rules original slices copy near tile slice,
+  near_to rules original slices copy near tile
       slice,
 )

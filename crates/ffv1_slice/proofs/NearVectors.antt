@@ -7,6 +7,7 @@ use Rattle.ffv1_bits.specs.Bits.{number_bits, bits_of}
 use Rattle.ffv1_bits.specs.Parity.{polynomial_of, divided, remainder_of, AreBytes, DifferWithin32, PassesParity}
 use Rattle.ffv1_bits.proofs.Burst.{burst}
 use Rattle.ffv1_range.specs.Setup.{SetupValue}
+use Rattle.ffv1_range.specs.TileHeaders.{TileRules, profile_rules}
 use Rattle.ffv1_range.specs.Coding.{bit_at, slot_at, start_of}
 use Rattle.ffv1_range.specs.Transitions.{standard_transitions, one_states_with, zero_states_of, default_states}
 use Rattle.ffv1_range.specs.HeaderForms.{symbols_onto}
@@ -92,26 +93,29 @@ setup = record {
   height = 1;
 }
 
-first_read : slice_read setup first_slice true ≡ Ok 0
+abbrev pub rules : TileRules
+rules = profile_rules setup
+
+first_read : slice_read rules first_slice true ≡ Ok 0
 unfolding slice_read number_bits bits_of polynomial_of divided remainder_of start_of bit_at slot_at symbol_form exponent_form low_form symbols_onto standard_transitions one_states_with zero_states_of default_states
 first_read = refl
 
-second_read : slice_read setup second_slice false ≡ Ok 1
+second_read : slice_read rules second_slice false ≡ Ok 1
 unfolding slice_read number_bits bits_of polynomial_of divided remainder_of start_of bit_at slot_at symbol_form exponent_form low_form symbols_onto standard_transitions one_states_with zero_states_of default_states
 second_read = refl
 
-pub is_original : IsOriginal setup frame slices
+pub is_original : IsOriginal rules frame slices
 is_original = record { count = refl; joined = refl; short = omega arith; each = each }
   where
-    each : (tile : ℕ) (d : List ℕ) → tile < 2 → IsSliceOf setup (get_or slices tile d) (tile == 0) tile
-    each zero d lt = slice_found setup first_slice true 0 first_read
-    each (suc zero) d lt = slice_found setup second_slice false 1 second_read
+    each : (tile : ℕ) (d : List ℕ) → tile < 2 → IsSliceOf rules (get_or slices tile d) (tile == 0) tile
+    each zero d lt = slice_found rules first_slice true 0 first_read
+    each (suc zero) d lt = slice_found rules second_slice false 1 second_read
     each (suc (suc tile)) d lt = absurd (omega arith)
 
 -- a copy of the frame's length, from each of its two slices
 near_by : (copy : List ℕ) → AreBytes copy → length copy ≡ length frame
     → (version_at slices copy 0 ≡ first_slice) ⊎ IsDamagedWithin32 first_slice (version_at slices copy 0)
-    → (version_at slices copy 1 ≡ second_slice) ⊎ IsDamagedWithin32 second_slice (version_at slices copy 1) → IsNear setup frame slices copy
+    → (version_at slices copy 1 ≡ second_slice) ⊎ IsDamagedWithin32 second_slice (version_at slices copy 1) → IsNear rules frame slices copy
 near_by copy bytes size first second =
     record { is_original = is_original; original_bytes = bytes_from frame refl; copy_bytes = bytes; same_length = size; each = each }
   where
@@ -121,11 +125,11 @@ near_by copy bytes size first second =
     each (suc zero) d lt = second
     each (suc (suc tile)) d lt = absurd (omega arith)
 
-pub near : IsNear setup frame slices damaged_frame
+pub near : IsNear rules frame slices damaged_frame
 unfolding starts_at
 near = near_by damaged_frame (bytes_from damaged_frame refl) refl (inr damaged) (inl refl)
 
-pub other_near : IsNear setup frame slices other_frame
+pub other_near : IsNear rules frame slices other_frame
 unfolding starts_at
 other_near = near_by other_frame (bytes_from other_frame refl) refl (inl refl) (inr other_damaged)
 
@@ -139,14 +143,14 @@ unfolding starts_at
 first_intact = refl
 
 -- the second is found, and the first is not
-second_found : IsFoundIn setup damaged_frame 1 second_slice
+second_found : IsFoundIn rules damaged_frame 1 second_slice
 unfolding starts_at
-second_found = (near_found setup frame slices damaged_frame near 1 second_slice).1 (omega arith, refl, refl)
+second_found = (near_found rules frame slices damaged_frame near 1 second_slice).1 (omega arith, refl, refl)
 
-first_not_found : (slice : List ℕ) → IsFoundIn setup damaged_frame 0 slice → ⊥
+first_not_found : (slice : List ℕ) → IsFoundIn rules damaged_frame 0 slice → ⊥
 unfolding starts_at
 first_not_found slice found =
-    let parts = (near_found setup frame slices damaged_frame near 0 slice).0 found in
+    let parts = (near_found rules frame slices damaged_frame near 0 slice).0 found in
     let same : damaged_slice ≡ first_slice = parts.2 ∙ parts.1 in
     let byte : get_or damaged_slice 0 0 ≡ get_or first_slice 0 0 = ap (λ (s : List ℕ). get_or s 0 0) same in
     absurd (omega arith)

@@ -4,13 +4,11 @@ use Rattle.std.specs.Prelude.{IfOk, nat_le, ◌==◌, ◌&&◌, if◌then◌else
 use Rattle.std.proofs.lemmas.Bool.{and_parts, and_from, leb-true, le-leb, eqb-true, eq-eqb}
 use Rattle.ffv1_bits.specs.Bits.{bits_of}
 use Rattle.ffv1_bits.specs.Parity.{remainder_of, PassesParity}
-use Rattle.ffv1_range.specs.Setup.{SetupValue}
-use Rattle.ffv1_range.specs.Header.{header_limits, head_read}
-use Rattle.ffv1_range.specs.declared.head.SliceHead.{SliceHead}
+use Rattle.ffv1_range.specs.TileHeaders.{TileRules, tile_read}
 use Rattle.ffv1_range.specs.declared.head.HeadFault.{HeadFault}
-use Rattle.ffv1_range.proofs.HeaderFound.{head_found, head_run}
+use Rattle.ffv1_range.proofs.TileHeaderFound.{tile_found, tile_run}
 use Rattle.ffv1_slice.specs.Chain.{size_before, IsFramed}
-use Rattle.ffv1_slice.specs.Slices.{IsSliceOf, content_of, tile_of_head, is_passing_slice, slice_read}
+use Rattle.ffv1_slice.specs.Slices.{IsSliceOf, content_of, link_tile, is_passing_slice, slice_read}
 use Rattle.ffv1_slice.specs.declared.slice.LinkFault.{LinkFault}
 use Rattle.ffv1_slice.specs.declared.slice.LinkFault.TheVariants.{Parity}
 
@@ -40,56 +38,51 @@ pub if_true : {A : Type 0} (b : Bool) (r s : A) → b ≡ true → (if b then r 
 if_true true r s h = refl
 if_true false r s h = absurd cc
 
-tile_head : (r : Result (SliceHead × ℕ) HeadFault) (tile : ℕ) → tile_of_head r ≡ Ok tile → (head : SliceHead) × (place : ℕ) × (r ≡ Ok (head, place))
-    × (head.tile ≡ tile)
-tile_head (Ok read) tile h = (read.0, read.1, refl, same)
+link_tile_is : (r : Result ℕ HeadFault) (tile : ℕ) → link_tile r ≡ Ok tile → r ≡ Ok tile
+link_tile_is (Ok read) tile h = h'
   where
-    same : read.0.tile ≡ tile
-    same = cc
-tile_head (Err fault) tile h = absurd cc
+    h' : ◌≡◌ {A = Result ℕ HeadFault} (Ok read) (Ok tile)
+    h' = ap Ok (let same : ◌≡◌ {A = Result ℕ LinkFault} (Ok read) (Ok tile) = h in cc)
+link_tile_is (Err fault) tile h = absurd cc
 
 -- ---- slices
 
-pub slice_found : (setup : SetupValue) (slice : List ℕ) (first : Bool) (tile : ℕ) → slice_read setup slice first ≡ Ok tile → IsSliceOf setup slice first tile
+pub slice_found : (rules : TileRules) (slice : List ℕ) (first : Bool) (tile : ℕ) → slice_read rules slice first ≡ Ok tile → IsSliceOf rules slice first tile
 unfolding slice_read
-slice_found setup slice first tile h =
-    let whole = if_whole (is_passing_slice slice) (tile_of_head (head_read (header_limits setup) (content_of slice) first)) tile h in
+slice_found rules slice first tile h =
+    let whole = if_whole (is_passing_slice slice) (link_tile (tile_read rules (content_of slice) first)) tile h in
     let parts = whole_parts slice whole.0 in
-    let head = tile_head (head_read (header_limits setup) (content_of slice) first) tile whole.1 in
     record {
       passes = parts.1;
       framed = parts.0;
-      head = head.0;
-      place = head.1;
-      is_head = head_found (header_limits setup) (content_of slice) first head.0 head.1 head.2;
-      of_tile = head.3;
+      content = tile_found rules (content_of slice) first tile (link_tile_is (tile_read rules (content_of slice) first) tile whole.1);
     }
 
 -- what is whole is read by its header
-pub slice_read-whole : (setup : SetupValue) (slice : List ℕ) (first : Bool) → IsFramed slice → PassesParity slice
-    → slice_read setup slice first ≡ tile_of_head (head_read (header_limits setup) (content_of slice) first)
+pub slice_read-whole : (rules : TileRules) (slice : List ℕ) (first : Bool) → IsFramed slice → PassesParity slice
+    → slice_read rules slice first ≡ link_tile (tile_read rules (content_of slice) first)
 unfolding slice_read
-slice_read-whole setup slice first framed passes =
-    if_true (is_passing_slice slice) (tile_of_head (head_read (header_limits setup) (content_of slice) first)) (Err Parity) (whole_from slice framed passes)
+slice_read-whole rules slice first framed passes =
+    if_true (is_passing_slice slice) (link_tile (tile_read rules (content_of slice) first)) (Err Parity) (whole_from slice framed passes)
 
 -- what fails its parity is refused for that
-pub slice_read-fails : (setup : SetupValue) (slice : List ℕ) (first : Bool) → (PassesParity slice → ⊥) → slice_read setup slice first ≡ Err Parity
+pub slice_read-fails : (rules : TileRules) (slice : List ℕ) (first : Bool) → (PassesParity slice → ⊥) → slice_read rules slice first ≡ Err Parity
 unfolding slice_read
-slice_read-fails setup slice first fails =
-    elim (is_passing_slice slice) as (λ b. is_passing_slice slice ≡ b → (if b then tile_of_head (head_read (header_limits setup) (content_of slice) first) else Err Parity)
+slice_read-fails rules slice first fails =
+    elim (is_passing_slice slice) as (λ b. is_passing_slice slice ≡ b → (if b then link_tile (tile_read rules (content_of slice) first) else Err Parity)
     ≡ Err Parity)
     [ true ↦ λ e. absurd (fails (whole_parts slice e).1) | false ↦ λ e. refl ] refl
 
-pub slice_run : (setup : SetupValue) (slice : List ℕ) (first : Bool) (tile : ℕ) → IsSliceOf setup slice first tile → slice_read setup slice first ≡ Ok tile
-slice_run setup slice first tile h =
-    slice_read-whole setup slice first h.framed h.passes
-    ∙ ap tile_of_head (head_run (header_limits setup) (content_of slice) first h.head h.place h.is_head) ∙ ap Ok h.of_tile
+pub slice_run : (rules : TileRules) (slice : List ℕ) (first : Bool) (tile : ℕ) → IsSliceOf rules slice first tile → slice_read rules slice first ≡ Ok tile
+slice_run rules slice first tile h =
+    slice_read-whole rules slice first h.framed h.passes
+    ∙ ap link_tile (tile_run rules (content_of slice) first tile h.content)
 
-pub slice_is_found : (setup : SetupValue) (slice : List ℕ) (first : Bool) (r : Result ℕ LinkFault) → r ≡ slice_read setup slice first
-    → IfOk r (IsSliceOf setup slice first)
-slice_is_found setup slice first (Ok tile) h = slice_found setup slice first tile (sym h)
-slice_is_found setup slice first (Err fault) h = tt
+pub slice_is_found : (rules : TileRules) (slice : List ℕ) (first : Bool) (r : Result ℕ LinkFault) → r ≡ slice_read rules slice first
+    → IfOk r (IsSliceOf rules slice first)
+slice_is_found rules slice first (Ok tile) h = slice_found rules slice first tile (sym h)
+slice_is_found rules slice first (Err fault) h = tt
 
 -- bytes are a slice of one tile
-pub one_tile : (setup : SetupValue) (slice : List ℕ) (first : Bool) (a b : ℕ) → IsSliceOf setup slice first a → IsSliceOf setup slice first b → a ≡ b
-one_tile setup slice first a b h k = let both = sym (slice_run setup slice first a h) ∙ slice_run setup slice first b k in cc
+pub one_tile : (rules : TileRules) (slice : List ℕ) (first : Bool) (a b : ℕ) → IsSliceOf rules slice first a → IsSliceOf rules slice first b → a ≡ b
+one_tile rules slice first a b h k = let both = sym (slice_run rules slice first a h) ∙ slice_run rules slice first b k in cc

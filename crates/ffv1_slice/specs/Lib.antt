@@ -8,4 +8,4 @@ pub mod Near
 pub use Rattle.ffv1_bits.specs.Bits
 pub use Rattle.ffv1_bits.specs.Parity
 pub use Rattle.ffv1_range.specs.Setup
-pub use Rattle.ffv1_range.specs.Header
+pub use Rattle.ffv1_range.specs.TileHeaders

@@ -2,7 +2,7 @@
 use Rattle.std.specs.Prelude.{ℕ, ◌+◌, ◌-◌, ◌<◌, ◌≡◌, ◌⊎◌, ◌↔◌, List, length, take, slice_range, slice_index_or}
 use Rattle.std.specs.List.{flat_map}
 use Rattle.ffv1_bits.specs.Parity.{DifferWithin32, AreBytes}
-use Rattle.ffv1_range.specs.Setup.{SetupValue}
+use Rattle.ffv1_range.specs.TileHeaders.{TileRules}
 use Rattle.ffv1_slice.specs.Slices.{IsFoundIn, IsOriginal}
 
 -- the place at which the slice of a tile begins, where slices are joined in tile order; after the last tile, their length
@@ -24,8 +24,8 @@ pub record IsDamagedWithin32 (slice link : List ℕ) : Type 0 where
   pub size : size_field link ≡ size_field slice
 
 -- A copy of an original: it has the original's length, and at each slice's places it is equal to the slice, or damaged within 32 bits.
-pub record IsNear (setup : SetupValue) (original : List ℕ) (slices : List (List ℕ)) (copy : List ℕ) : Type 0 where
-  pub is_original : IsOriginal setup original slices
+pub record IsNear (rules : TileRules) (original : List ℕ) (slices : List (List ℕ)) (copy : List ℕ) : Type 0 where
+  pub is_original : IsOriginal rules original slices
   pub original_bytes : AreBytes original
   pub copy_bytes : AreBytes copy
   pub same_length : length copy ≡ length original
@@ -41,5 +41,5 @@ IsIntactIn slices copy tile slice = version_at slices copy tile ≡ slice
 -- In a copy that is near an original exactly the original's intact slices are found, each of its tile.
 abbrev pub NearFound : Type 0
 NearFound =
-    (setup : SetupValue) (original : List ℕ) (slices : List (List ℕ)) (copy : List ℕ) → IsNear setup original slices copy → (tile : ℕ) (slice : List ℕ)
-    → IsFoundIn setup copy tile slice ↔ ((tile < length slices) × (slice ≡ slice_index_or slices tile slice) × IsIntactIn slices copy tile slice)
+    (rules : TileRules) (original : List ℕ) (slices : List (List ℕ)) (copy : List ℕ) → IsNear rules original slices copy → (tile : ℕ) (slice : List ℕ)
+    → IsFoundIn rules copy tile slice ↔ ((tile < length slices) × (slice ≡ slice_index_or slices tile slice) × IsIntactIn slices copy tile slice)

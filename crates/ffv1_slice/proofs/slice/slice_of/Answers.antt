@@ -3,21 +3,22 @@ use Rattle.std.specs.Prelude.{◌==◌}
 use Rattle.ffv1_slice.specs.Chain.{IsFramed}
 use Rattle.ffv1_slice.specs.Slices.{slice_read}
 use Rattle.ffv1_slice.proofs.SliceLaws.{slice_run, slice_read-whole, slice_read-fails}
+use Rattle.ffv1_slice.proofs.slice.slice_of.Given.{Over}
 use Rattle.ffv1_slice.proofs.slice.slice_of.Goals as goal
 
 -- the bytes and the start that were read are the link's
-reads_link : (c : goal.After-read_slice) → c.read_slice.result ≡ slice_read c.args.setup.now c.args.link.now.bytes (c.args.link.now.start == 0)
-reads_link c =
-    c.read_slice.ensures.read ∙ ap (λ z. slice_read c.args.setup.now z (c.start.result == 0)) c.bytes.ensures.value
-    ∙ ap (λ z. slice_read c.args.setup.now c.args.link.now.bytes (z == 0)) c.start.ensures
+reads_link : (g : Over) (c : goal.After-read_slice g) → c.read_slice.result ≡ slice_read (g.S.Recorded.rules c.args.setup.now) c.args.link.now.bytes (c.args.link.now.start == 0)
+reads_link g c =
+    c.read_slice.ensures.read ∙ ap (λ z. slice_read (g.S.Recorded.rules c.args.setup.now) z (c.start.result == 0)) c.bytes.ensures.value
+    ∙ ap (λ z. slice_read (g.S.Recorded.rules c.args.setup.now) c.args.link.now.bytes (z == 0)) c.start.ensures
 
 pub returns-clause-only : goal.returns-clause-only
-returns-clause-only c = λ tile h. reads_link c ∙ slice_run c.args.setup.now c.args.link.now.bytes (c.args.link.now.start == 0) tile h
+returns-clause-only g c = λ tile h. reads_link g c ∙ slice_run (g.S.Recorded.rules c.args.setup.now) c.args.link.now.bytes (c.args.link.now.start == 0) tile h
 
 pub returns-clause-parity : goal.returns-clause-parity
-returns-clause-parity c = λ fails. reads_link c ∙ slice_read-fails c.args.setup.now c.args.link.now.bytes (c.args.link.now.start == 0) fails
+returns-clause-parity g c = λ fails. reads_link g c ∙ slice_read-fails (g.S.Recorded.rules c.args.setup.now) c.args.link.now.bytes (c.args.link.now.start == 0) fails
 
 pub returns-clause-head : goal.returns-clause-head
-returns-clause-head c =
-    λ passes. reads_link c
-    ∙ slice_read-whole c.args.setup.now c.args.link.now.bytes (c.args.link.now.start == 0) (subst IsFramed c.bytes.ensures.value c.bytes.ensures.framed) passes
+returns-clause-head g c =
+    λ passes. reads_link g c
+    ∙ slice_read-whole (g.S.Recorded.rules c.args.setup.now) c.args.link.now.bytes (c.args.link.now.start == 0) (subst IsFramed c.bytes.ensures.value c.bytes.ensures.framed) passes

@@ -1,6 +1,7 @@
 use Rattle.std.proofs.Common.{◌∙◌, ap, refl, sym}
 use Rattle.std.proofs.lemmas.Result.{err_from_is_err_and}
 use Rattle.ffv1_range.proofs.SetupLaws.{record_in_profile, setup_first, setup_refused}
+use Rattle.ffv1_range.proofs.ProfileLaws.{record_of_profile}
 use Rattle.ffv1_range.proofs.setup.Setup.read.Goals as goal
 
 pub returns-in_err-recording : goal.returns-in_err-recording
@@ -15,7 +16,10 @@ returns-in_err-recording c =
     })
 
 pub invariant_of-result : goal.invariant_of-result
-invariant_of-result c = record_in_profile c.args.config.now c.args.width c.args.height c.in_ok-recording.recording c.in_ok-recording.ensures.found
+invariant_of-result c = (
+  record_in_profile c.args.config.now c.args.width c.args.height c.in_ok-recording.recording c.in_ok-recording.ensures.found,
+  record_of_profile c.args.config.now c.args.width c.args.height c.in_ok-recording.recording c.in_ok-recording.ensures.found,
+)
 
 pub returns : goal.returns
 returns c =
