@@ -36,8 +36,8 @@ any_moved p xs ys each any =
 -- to take one copy is to take a list of it
 pub with_found-with_copies : (h : Contents) (copy : List ℕ) → with_found h copy ≡ with_copies h (copy ∷ [])
 with_found-with_copies h copy =
-    let slices = sym (append-nil (found_slices h.reel.setup copy)) in
-    let origins = sym (append-nil (origins_of_copy h.reel.setup copy)) in
+    let slices = sym (append-nil (found_slices h.reel.rules copy)) in
+    let origins = sym (append-nil (origins_of_copy h.reel.rules copy)) in
     λ i. with_facts h (set.from_list (slices i)) (set.from_list (origins i))
 
 -- what each copy gives, of all copies
@@ -68,8 +68,8 @@ module _ (reel : Reel) where
   pub with_copies-holding_of : (copies more : List (List ℕ)) → with_copies (holding_of reel copies) more ≡ holding_of reel (copies ++ more)
   with_copies-holding_of copies more = λ i. record {
     reel = reel;
-    slices = union-flat_map entries_total entries_antisymmetric (found_slices reel.setup) copies more i;
-    origins = union-flat_map origins_total origins_antisymmetric (origins_of_copy reel.setup) copies more i;
+    slices = union-flat_map entries_total entries_antisymmetric (found_slices reel.rules) copies more i;
+    origins = union-flat_map origins_total origins_antisymmetric (origins_of_copy reel.rules) copies more i;
   }
 
   pub with_found-holding_of : (copies : List (List ℕ)) (copy : List ℕ) → with_found (holding_of reel copies) copy ≡ holding_of reel (copies ++ copy ∷ [])
@@ -82,6 +82,6 @@ module _ (reel : Reel) where
   pub holding_of-same : (copies others : List (List ℕ)) → HasSameCopies copies others → holding_of reel copies ≡ holding_of reel others
   holding_of-same copies others same = λ i. record {
     reel = reel;
-    slices = flat_map-same entries_total entries_antisymmetric (found_slices reel.setup) copies others same i;
-    origins = flat_map-same origins_total origins_antisymmetric (origins_of_copy reel.setup) copies others same i;
+    slices = flat_map-same entries_total entries_antisymmetric (found_slices reel.rules) copies others same i;
+    origins = flat_map-same origins_total origins_antisymmetric (origins_of_copy reel.rules) copies others same i;
   }

@@ -20,13 +20,13 @@ with_facts-empty h = λ i. record {
 -- one copy more
 pub with_copies-push : (h : Contents) (copies : List (List ℕ)) (copy : List ℕ) → with_found (with_copies h copies) copy ≡ with_copies h (copies ++ copy ∷ [])
 with_copies-push h copies copy =
-    let setup = h.reel.setup in
+    let rules = h.reel.rules in
     let slices = set.union_assoc entries_total entries_antisymmetric h.slices
-    (set.from_list (flat_map (found_slices setup) copies)) (set.from_list (flat_map (found_slices setup) (copy ∷ [])))
-    ∙ ap (set.union h.slices) (union-flat_map entries_total entries_antisymmetric (found_slices setup) copies (copy ∷ [])) in
+    (set.from_list (flat_map (found_slices rules) copies)) (set.from_list (flat_map (found_slices rules) (copy ∷ [])))
+    ∙ ap (set.union h.slices) (union-flat_map entries_total entries_antisymmetric (found_slices rules) copies (copy ∷ [])) in
     let origins = set.union_assoc origins_total origins_antisymmetric h.origins
-    (set.from_list (flat_map (origins_of_copy setup) copies)) (set.from_list (flat_map (origins_of_copy setup) (copy ∷ [])))
-    ∙ ap (set.union h.origins) (union-flat_map origins_total origins_antisymmetric (origins_of_copy setup) copies (copy ∷ [])) in
+    (set.from_list (flat_map (origins_of_copy rules) copies)) (set.from_list (flat_map (origins_of_copy rules) (copy ∷ [])))
+    ∙ ap (set.union h.origins) (union-flat_map origins_total origins_antisymmetric (origins_of_copy rules) copies (copy ∷ [])) in
     with_found-with_copies (with_copies h copies) copy ∙ (λ i. record { reel = h.reel; slices = slices i; origins = origins i })
 
 pub with_copies-take_more : {X : Type 0} (view : X → List ℕ) (h now next : Contents) (xs : List X) (i : ℕ) (d : X) → i < length xs

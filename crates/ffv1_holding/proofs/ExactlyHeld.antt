@@ -9,7 +9,7 @@ use Rattle.std.proofs.lemmas.List.Folds.{list_any-append}
 use Rattle.std.proofs.lemmas.List.{get_or_default}
 use Rattle.std.proofs.lemmas.Bool.{or_left, or_right}
 use Rattle.sha2.specs.Sha256.{sha256}
-use Rattle.ffv1_range.specs.Setup.{SetupValue}
+use Rattle.ffv1_range.specs.TileHeaders.{TileRules}
 use Rattle.ffv1_slice.specs.Slices.{IsFoundIn, found_slices}
 use Rattle.ffv1_slice.proofs.NearLaws.{near_found}
 use Rattle.ffv1_slice.proofs.FoundLaws.{found_from, found_to}
@@ -92,14 +92,14 @@ numbered_at (s ∷ slices) first (suc i) d lt =
     or_right _ _ (ap (λ n. list_any (eq_by_cmp entry_cmp (n, get_or slices i d)) (enumerate_from (first + 1) slices)) {x = first + suc i} {y = first + 1 + i}
     (omega arith) ∙ numbered_at slices (first + 1) i d (omega arith))
 
-pub exactly_held : (reel : Reel) (slices copies : List (List ℕ)) → AreCopiesOfSlices reel.setup slices copies → HoldsExactly (holding_of reel copies) slices
+pub exactly_held : (reel : Reel) (slices copies : List (List ℕ)) → AreCopiesOfSlices reel.rules slices copies → HoldsExactly (holding_of reel copies) slices
 exactly_held reel slices copies are =
     set.same_set entries_total entries_antisymmetric _ _ (λ q.
-    set.contains-from_list entries_total (flat_map (found_slices reel.setup) copies) q
+    set.contains-from_list entries_total (flat_map (found_slices reel.rules) copies) q
     ∙ both_ways _ _
     (λ held.
-    let at = found_in entries_total entries_antisymmetric (found_slices reel.setup) copies q held in
-    let own = are.only at.0 q.0 q.1 at.1 (found_from reel.setup at.0 q.0 q.1 at.2) in
+    let at = found_in entries_total entries_antisymmetric (found_slices reel.rules) copies q held in
+    let own = are.only at.0 q.0 q.1 at.1 (found_from reel.rules at.0 q.0 q.1 at.2) in
     ap (λ (b : List ℕ). list_any (eq_by_cmp entry_cmp (q.0, b)) (enumerate_from 0 slices)) own.1
     ∙ ap (λ n. list_any (eq_by_cmp entry_cmp (n, get_or slices q.0 q.1)) (enumerate_from 0 slices)) {x = q.0} {y = 0 + q.0} (omega arith)
     ∙ numbered_at slices 0 q.0 q.1 own.0)
@@ -108,45 +108,45 @@ exactly_held reel slices copies are =
     let found = are.all at.0 q.1 at.1 in
     let is : q ≡ (at.0, get_or slices at.0 q.1) = at.2 q.1 ∙ ap (λ n. let e : Entry = (n, get_or slices at.0 q.1) in e) {x = 0 + at.0} {y = at.0}
     (omega arith) in
-    is_held entries_total entries_antisymmetric (found_slices reel.setup) copies q found.0 found.1
-    (subst (λ (e : Entry). Contains (found_slices reel.setup found.0) e) (sym is)
-    (found_to reel.setup found.0 at.0 (get_or slices at.0 q.1) found.2)))
+    is_held entries_total entries_antisymmetric (found_slices reel.rules) copies q found.0 found.1
+    (subst (λ (e : Entry). Contains (found_slices reel.rules found.0) e) (sym is)
+    (found_to reel.rules found.0 at.0 (get_or slices at.0 q.1) found.2)))
     ∙ sym (set.contains-from_list entries_total (enumerate_from 0 slices) q))
 
 -- what is held of copies is what is found in one of them
 pub held_is_found : HeldIsFound
-held_is_found setup copies tile slice = (from, to)
+held_is_found rules copies tile slice = (from, to)
   where
-    from : set.contains (slices_of_copies setup copies) (tile, slice) ≡ true → (copy : List ℕ) × Contains copies copy × IsFoundIn setup copy tile slice
+    from : set.contains (slices_of_copies rules copies) (tile, slice) ≡ true → (copy : List ℕ) × Contains copies copy × IsFoundIn rules copy tile slice
     from held =
-        let at = found_in entries_total entries_antisymmetric (found_slices setup) copies (tile, slice)
-        (sym (set.contains-from_list entries_total (flat_map (found_slices setup) copies) (tile, slice)) ∙ held) in
-        (at.0, at.1, found_from setup at.0 tile slice at.2)
+        let at = found_in entries_total entries_antisymmetric (found_slices rules) copies (tile, slice)
+        (sym (set.contains-from_list entries_total (flat_map (found_slices rules) copies) (tile, slice)) ∙ held) in
+        (at.0, at.1, found_from rules at.0 tile slice at.2)
 
-    to : (copy : List ℕ) × Contains copies copy × IsFoundIn setup copy tile slice → set.contains (slices_of_copies setup copies) (tile, slice) ≡ true
+    to : (copy : List ℕ) × Contains copies copy × IsFoundIn rules copy tile slice → set.contains (slices_of_copies rules copies) (tile, slice) ≡ true
     to found =
-        set.contains-from_list entries_total (flat_map (found_slices setup) copies) (tile, slice)
-        ∙ is_held entries_total entries_antisymmetric (found_slices setup) copies (tile, slice) found.0 found.1 (found_to setup found.0 tile slice found.2)
+        set.contains-from_list entries_total (flat_map (found_slices rules) copies) (tile, slice)
+        ∙ is_held entries_total entries_antisymmetric (found_slices rules) copies (tile, slice) found.0 found.1 (found_to rules found.0 tile slice found.2)
 
 -- what is found in near copies is the original's, and where each tile is intact in one of them, all of it is found
-pub near_are_copies : (setup : SetupValue) (original : List ℕ) (slices copies : List (List ℕ)) → AreNear setup original slices copies
-    → AreCopiesOfSlices setup slices copies
-near_are_copies setup original slices copies are = record {
+pub near_are_copies : (rules : TileRules) (original : List ℕ) (slices copies : List (List ℕ)) → AreNear rules original slices copies
+    → AreCopiesOfSlices rules slices copies
+near_are_copies rules original slices copies are = record {
   only = λ copy tile bytes among found.
-      let is = (near_found setup original slices copy (are.near copy among) tile bytes).0 found in (is.0, is.1);
+      let is = (near_found rules original slices copy (are.near copy among) tile bytes).0 found in (is.0, is.1);
   all = λ tile d lt.
       let at = are.intact tile d lt in
       let own : get_or slices tile d ≡ get_or slices tile (get_or slices tile d) = get_or_default slices tile d (get_or slices tile d) lt in
-      (at.0, at.1, (near_found setup original slices at.0 (are.near at.0 at.1) tile (get_or slices tile d)).1 (lt, own, at.2));
+      (at.0, at.1, (near_found rules original slices at.0 (are.near at.0 at.1) tile (get_or slices tile d)).1 (lt, own, at.2));
 }
 
-pub near_held : (reel : Reel) (original : List ℕ) (slices copies : List (List ℕ)) → AreNear reel.setup original slices copies
+pub near_held : (reel : Reel) (original : List ℕ) (slices copies : List (List ℕ)) → AreNear reel.rules original slices copies
     → HoldsExactly (holding_of reel copies) slices
-near_held reel original slices copies are = exactly_held reel slices copies (near_are_copies reel.setup original slices copies are)
+near_held reel original slices copies are = exactly_held reel slices copies (near_are_copies reel.rules original slices copies are)
 
 -- a holding of their slices
-pub near_exact : (h : Contents) (original : List ℕ) (slices copies : List (List ℕ)) → AreNear h.reel.setup original slices copies
-    → h.slices ≡ slices_of_copies h.reel.setup copies → HoldsExactly h slices
+pub near_exact : (h : Contents) (original : List ℕ) (slices copies : List (List ℕ)) → AreNear h.reel.rules original slices copies
+    → h.slices ≡ slices_of_copies h.reel.rules copies → HoldsExactly h slices
 near_exact h original slices copies are is = is ∙ near_held h.reel original slices copies are
 
 contains-map : {X Y : Type 0} (f : X → Y) (xs : List X) (y : Y) → Contains (map f xs) y → (x : X) × Contains xs x × (y ≡ f x)
@@ -160,35 +160,35 @@ map-contains f [] x (k, lt, is) = absurd (omega arith)
 map-contains f (z ∷ xs) x (zero, lt, is) = (0, omega arith, ap f is)
 map-contains f (z ∷ xs) x (suc k, lt, is) = let rest = map-contains f xs x (k, omega arith, is) in (suc rest.0, omega (arith, rest.1), rest.2)
 
-module _ (setup : SetupValue) (copies : List (List ℕ)) (tile : ℕ) (slice digest : List ℕ) where
+module _ (rules : TileRules) (copies : List (List ℕ)) (tile : ℕ) (slice digest : List ℕ) where
   abbrev origin : Origin
   origin = ((tile, slice), digest)
 
   -- an origin is the digest of a copy in which the slice is found
-  origin_from : set.contains (origins_of_copies setup copies) origin ≡ true → (copy : List ℕ) × Contains copies copy × IsFoundIn setup copy tile slice
+  origin_from : set.contains (origins_of_copies rules copies) origin ≡ true → (copy : List ℕ) × Contains copies copy × IsFoundIn rules copy tile slice
       × (digest ≡ sha256 copy)
   origin_from there =
-      let gives = origins_of_copy setup in
+      let gives = origins_of_copy rules in
       let at = found_in origins_total origins_antisymmetric gives copies origin
       (sym (set.contains-from_list origins_total (flat_map gives copies) origin) ∙ there) in
-      let own = contains-map (λ (e : Entry). let x : Origin = (e, sha256 at.0) in x) (found_slices setup at.0) origin at.2 in
+      let own = contains-map (λ (e : Entry). let x : Origin = (e, sha256 at.0) in x) (found_slices rules at.0) origin at.2 in
       let entry : (tile, slice) ≡ own.0 = ap (λ (x : Origin). x.0) own.2 in (
         at.0,
         at.1,
-        found_from setup at.0 tile slice (subst (λ (e : Entry). Contains (found_slices setup at.0) e) (sym entry) own.1),
+        found_from rules at.0 tile slice (subst (λ (e : Entry). Contains (found_slices rules at.0) e) (sym entry) own.1),
         ap (λ (x : Origin). x.1) own.2,
       )
 
-  origin_to : (copy : List ℕ) × Contains copies copy × IsFoundIn setup copy tile slice × (digest ≡ sha256 copy)
-      → set.contains (origins_of_copies setup copies) origin ≡ true
+  origin_to : (copy : List ℕ) × Contains copies copy × IsFoundIn rules copy tile slice × (digest ≡ sha256 copy)
+      → set.contains (origins_of_copies rules copies) origin ≡ true
   origin_to found =
-      let gives = origins_of_copy setup in
-      let here = map-contains (λ (e : Entry). let x : Origin = (e, sha256 found.0) in x) (found_slices setup found.0) (tile, slice)
-      (found_to setup found.0 tile slice found.2) in
+      let gives = origins_of_copy rules in
+      let here = map-contains (λ (e : Entry). let x : Origin = (e, sha256 found.0) in x) (found_slices rules found.0) (tile, slice)
+      (found_to rules found.0 tile slice found.2) in
       set.contains-from_list origins_total (flat_map gives copies) origin
       ∙ is_held origins_total origins_antisymmetric gives copies origin found.0 found.1
       (subst (λ (d : List ℕ). let x : Origin = ((tile, slice), d) in Contains (gives found.0) x) (sym found.3) here)
 
 -- the origins of what is held of copies are the digests of those in which it is found
 pub origin_is_a_copy : OriginIsACopy
-origin_is_a_copy setup copies tile slice digest = (origin_from setup copies tile slice digest, origin_to setup copies tile slice digest)
+origin_is_a_copy rules copies tile slice digest = (origin_from rules copies tile slice digest, origin_to rules copies tile slice digest)

@@ -1,19 +1,65 @@
 -- A record and a size are those of one reel.
-use Rattle.std.proofs.Common.{◌≡◌, ℕ, List, sym, subst}
-use Rattle.ffv1_range.specs.Setup.{SetupValue, IsSetupOf}
-use Rattle.ffv1_range.proofs.SetupFacts.{one_setup, setup_size}
-use Rattle.ffv1_holding.specs.Reels.{Reel, IsReel}
+use Rattle.std.proofs.Common.{◌≡◌, ℕ, ◌*◌, List, true, refl, sym, ap, subst, ◌∙◌}
+use Rattle.ffv1_range.specs.Setup.{SetupValue, RecordingValue, IsScopedRecord, IsRecordingOf, IsSetupOf}
+use Rattle.ffv1_range.specs.Header.{header_limits}
+use Rattle.ffv1_range.specs.TileHeaders.{TileRules, is_in_profile, rules_of, profile_rules}
+use Rattle.ffv1_range.specs.declared.scope.Scope.{Scope}
+use Rattle.ffv1_range.specs.declared.scope.Scope.TheVariants.{Profile, Version3}
+use Rattle.ffv1_range.proofs.SetupLaws.{recording_is_one, record_is_wider}
+use Rattle.ffv1_range.proofs.ProfileLaws.{profile_record, record_of_profile, rules_of_profile}
+use Rattle.ffv1_holding.specs.Reels.{Reel, IsReel, reel_of, reel_tiles}
 
--- a setup of a record is so at its own size
-pub own_size : (config : List ℕ) (width height : ℕ) (s : SetupValue) → IsSetupOf config width height s → IsSetupOf config s.width s.height s
-own_size config width height s is =
-    let size = setup_size config width height s is in
-    subst (λ w. IsSetupOf config w s.height s) (sym size.0) (subst (λ h. IsSetupOf config width h s) (sym size.1) is)
+-- a record has the size for which it is read
+recording_size : (config : List ℕ) (width height : ℕ) (r : RecordingValue) → IsRecordingOf config width height r
+    → (r.setup.width ≡ width) × (r.setup.height ≡ height)
+recording_size config width height r h = (ap (λ (z : RecordingValue). z.setup.width) h.is, ap (λ (z : RecordingValue). z.setup.height) h.is)
+
+-- what a record says is so at its own size
+own_size : (config : List ℕ) (width height : ℕ) (r : RecordingValue) → IsRecordingOf config width height r
+    → IsRecordingOf config r.setup.width r.setup.height r
+own_size config width height r is =
+    let size = recording_size config width height r is in
+    subst (λ w. IsRecordingOf config w r.setup.height r) (sym size.0) (subst (λ h. IsRecordingOf config width h r) (sym size.1) is)
+
+-- each record that a scope accepts is one of version 3
+pub wider : (config : List ℕ) (scope : Scope) (width height : ℕ) (r : RecordingValue) → IsScopedRecord config scope width height r
+    → IsRecordingOf config width height r
+wider config Profile width height r is = record_is_wider config width height r is
+wider config Version3 width height r is = is
+
+-- a record that is read makes a reel
+pub reel_is : (config : List ℕ) (scope : Scope) (width height : ℕ) (r : RecordingValue) → IsScopedRecord config scope width height r
+    → IsReel (reel_of config r)
+reel_is config scope width height r is = (r, own_size config width height r (wider config scope width height r is), refl)
+
+-- so does a record of the profile
+pub setup_reel : (config : List ℕ) (width height : ℕ) (s : SetupValue) → IsSetupOf config width height s
+    → IsReel (record { config = config; setup = s; rules = profile_rules s })
+setup_reel config width height s is =
+    let r = is.recording in
+    let rules = rules_of_profile r (record_of_profile config width height r is.record_of) in
+    let same : ◌≡◌ {A = Reel} (reel_of config r) (record { config = config; setup = s; rules = profile_rules s }) =
+    λ i. record { config = config; setup = sym is.is i; rules = (rules ∙ ap profile_rules (sym is.is)) i } in
+    subst IsReel same (reel_is config Profile width height r is.record_of)
 
 pub same_reel : (a b : Reel) → IsReel a → IsReel b → a.config ≡ b.config → a.setup.width ≡ b.setup.width → a.setup.height ≡ b.setup.height → a ≡ b
 same_reel a b is also config width height =
-    let moved : IsSetupOf b.config b.setup.width b.setup.height a.setup =
-    subst (λ c. IsSetupOf c b.setup.width b.setup.height a.setup) config
-    (subst (λ w. IsSetupOf a.config w b.setup.height a.setup) width (subst (λ h. IsSetupOf a.config a.setup.width h a.setup) height is)) in
-    let setup = one_setup b.config b.setup.width b.setup.height a.setup b.setup moved also in
-    λ i. record { config = config i; setup = setup i }
+    let moved : IsRecordingOf b.config b.setup.width b.setup.height is.0 =
+    subst (λ c. IsRecordingOf c b.setup.width b.setup.height is.0) config
+    (subst (λ w. IsRecordingOf a.config w b.setup.height is.0) width (subst (λ h. IsRecordingOf a.config a.setup.width h is.0) height is.1)) in
+    let recording = recording_is_one b.config b.setup.width b.setup.height is.0 also.0 moved also.1 in
+    is.2 ∙ (λ i. reel_of (config i) (recording i)) ∙ sym also.2
+
+-- the rules are those of the setup's grid
+pub reel_limits : (r : Reel) → IsReel r → r.rules.limits ≡ header_limits r.setup
+reel_limits r is = ap (λ (z : Reel). z.rules.limits) is.2 ∙ ap (λ (z : Reel). header_limits z.setup) (sym is.2)
+
+-- a reel of the profile has a setup
+pub profile_reel : (r : Reel) → IsReel r → r.rules.is_profile ≡ true
+    → IsSetupOf r.config r.setup.width r.setup.height r.setup × (r.rules ≡ profile_rules r.setup)
+profile_reel r is profile =
+    let setup : r.setup ≡ is.0.setup = ap (λ (z : Reel). z.setup) is.2 in
+    let of : is_in_profile is.0 ≡ true = ap (λ (z : Reel). z.rules.is_profile) (sym is.2) ∙ profile in (
+      record { recording = is.0; record_of = profile_record r.config r.setup.width r.setup.height is.0 is.1 of; is = setup },
+      ap (λ (z : Reel). z.rules) is.2 ∙ rules_of_profile is.0 of ∙ ap profile_rules (sym setup),
+    )

@@ -1,5 +1,5 @@
 -- A holding of just the original's slices restores the original.
-use Rattle.std.proofs.Common.{◌≡◌, ℕ, zero, suc, ◌+◌, ◌<◌, eqb, true, false, ◌||◌, ◌&&◌, cond, List, [], ◌∷◌, ◌++◌, length, map, get_or, refl, sym, ap, ◌∙◌, arith}
+use Rattle.std.proofs.Common.{◌≡◌, ℕ, zero, suc, ◌+◌, ◌*◌, ◌<◌, eqb, true, false, ◌||◌, ◌&&◌, cond, List, [], ◌∷◌, ◌++◌, length, map, get_or, refl, sym, ap, ◌∙◌, arith}
 use mathlib.Core.Bool.{or-false}
 use Rattle.std.specs.List.{list_any, filter, flat_map, range_with_len, enumerate_from}
 use Rattle.std.specs.Ordering.{eq_by_cmp}
@@ -7,11 +7,13 @@ use Rattle.std.proofs.lemmas.Bool.{le-leb}
 use Rattle.ffv1_holding.specs.SliceOrder.{entry_cmp, bytes_cmp, bytes_total, bytes_antisymmetric, entries_total}
 use Rattle.ffv1_holding.specs.Sets as set
 use Rattle.ffv1_slice.specs.Slices.{IsOriginal}
-use Rattle.ffv1_holding.specs.Reels.{reel_tiles}
+use Rattle.ffv1_range.specs.Header.{HeadLimits}
+use Rattle.ffv1_holding.specs.Reels.{IsReel, reel_tiles}
 use Rattle.ffv1_holding.specs.Contents.{Contents}
 use Rattle.ffv1_holding.specs.TileSets.{tile_slices}
 use Rattle.ffv1_holding.specs.TileState.{StateOfTile, status_of, tile_state, tile_state_of, state_of_best, settled, settled_bytes, restored_payload}
 use Rattle.ffv1_holding.specs.Originals.{HoldsExactly}
+use Rattle.ffv1_holding.proofs.Reels.{reel_limits}
 use Rattle.ffv1_holding.proofs.RisingSets.{items-from_list}
 use Rattle.ffv1_holding.proofs.Tiles.{any_of_tile, same_tile, other_tile}
 
@@ -56,13 +58,19 @@ module _ (h : Contents) (slices : List (List ℕ)) (exact : HoldsExactly h slice
       ++ joined_from (k + 1) n rest (omega arith) (λ i d lt. ap (λ t. settled_bytes (tile_state h t)) {x = k + 1 + i} {y = k + suc i} (omega arith)
       ∙ is (suc i) d (omega arith)) j)
 
-  pub restored_original : (payload : List ℕ) → IsOriginal h.reel.setup payload slices → restored_payload h ≡ payload
-  restored_original payload original =
-      joined_from 0 (reel_tiles h.reel) slices original.count (λ i d lt. ap (λ t. settled_bytes (tile_state h t)) {x = 0 + i} {y = i} (omega arith)
-      ∙ ap settled_bytes (settled_alone i d (omega (arith, original.count))))
+  -- an original has a slice for each tile
+  tile_for_each : (payload : List ℕ) → IsReel h.reel → IsOriginal h.reel.rules payload slices → length slices ≡ reel_tiles h.reel
+  tile_for_each payload reel original = original.count ∙ ap (λ (limits : HeadLimits). limits.across * limits.down) (reel_limits h.reel reel)
+
+  pub restored_original : (payload : List ℕ) → IsReel h.reel → IsOriginal h.reel.rules payload slices → restored_payload h ≡ payload
+  restored_original payload reel original =
+      let count = tile_for_each payload reel original in
+      joined_from 0 (reel_tiles h.reel) slices count (λ i d lt. ap (λ t. settled_bytes (tile_state h t)) {x = 0 + i} {y = i} (omega arith)
+      ∙ ap settled_bytes (settled_alone i d (omega (arith, count))))
       ∙ sym original.joined
 
   -- no tile of the original is unsettled
-  pub never_unsettled : (payload : List ℕ) → IsOriginal h.reel.setup payload slices → (t : ℕ) → t < (reel_tiles h.reel) → (s : StateOfTile) → s ≡ tile_state h t
+  pub never_unsettled : (payload : List ℕ) → IsReel h.reel → IsOriginal h.reel.rules payload slices → (t : ℕ) → t < (reel_tiles h.reel) → (s : StateOfTile) → s ≡ tile_state h t
       → ((b : List ℕ) → s ≡ settled b → ⊥) → ⊥
-  never_unsettled payload original t lt s is other = other (get_or slices t []) (is ∙ settled_alone t [] (omega (arith, original.count)))
+  never_unsettled payload reel original t lt s is other =
+      other (get_or slices t []) (is ∙ settled_alone t [] (omega (arith, tile_for_each payload reel original)))

@@ -6,7 +6,7 @@ use Rattle.std.proofs.Common.{refl}
 use Rattle.std.specs.Coded.{Coded, code_by, coded×}
 use Rattle.sha2.specs.Sha256.{sha256}
 use Rattle.ffv1_bits.specs.Limits.{slice_limit}
-use Rattle.ffv1_range.specs.Setup.{SetupValue}
+use Rattle.ffv1_range.specs.TileHeaders.{TileRules}
 use Rattle.ffv1_slice.specs.Members.{HasSameMembers}
 use Rattle.ffv1_slice.specs.Slices.{IsSliceOf, found_slices}
 use Rattle.ffv1_holding.specs.SliceOrder.{Entry, Origin, with_each, bytes_cmp, entry_cmp, origin_cmp, coded_entry, coded_origin}
@@ -25,7 +25,7 @@ pub record Contents : Type 0 where
 abbrev pub no_slices : Reel → Contents
 no_slices reel = record { reel = reel; slices = set.empty; origins = set.empty }
 
--- One record, width and height: a record and a size have one setup.
+-- One record, width and height: a record and a size have one rules.
 abbrev pub IsSameReel : Contents → Contents → Type 0
 IsSameReel a b = a.reel ≡ b.reel
 
@@ -38,27 +38,27 @@ abbrev pub joined : Contents → Contents → Contents
 joined a b = with_facts a b.slices b.origins
 
 -- all that is found in these copies
-abbrev pub slices_of_copies : SetupValue → List (List ℕ) → set.SetOf entry_cmp
-slices_of_copies setup copies = set.from_list (flat_map (found_slices setup) copies)
+abbrev pub slices_of_copies : TileRules → List (List ℕ) → set.SetOf entry_cmp
+slices_of_copies rules copies = set.from_list (flat_map (found_slices rules) copies)
 
 -- each slice that is found in a copy, with the digest of the whole copy
-abbrev pub origins_of_copy : SetupValue → List ℕ → List Origin
-origins_of_copy setup copy = map (λ e. (e, sha256 copy)) (found_slices setup copy)
+abbrev pub origins_of_copy : TileRules → List ℕ → List Origin
+origins_of_copy rules copy = map (λ e. (e, sha256 copy)) (found_slices rules copy)
 
-abbrev pub origins_of_copies : SetupValue → List (List ℕ) → set.SetOf origin_cmp
-origins_of_copies setup copies = set.from_list (flat_map (origins_of_copy setup) copies)
+abbrev pub origins_of_copies : TileRules → List (List ℕ) → set.SetOf origin_cmp
+origins_of_copies rules copies = set.from_list (flat_map (origins_of_copy rules) copies)
 
 -- with what is found in a copy
 abbrev pub with_found : Contents → List ℕ → Contents
-with_found h copy = with_facts h (set.from_list (found_slices h.reel.setup copy)) (set.from_list (origins_of_copy h.reel.setup copy))
+with_found h copy = with_facts h (set.from_list (found_slices h.reel.rules copy)) (set.from_list (origins_of_copy h.reel.rules copy))
 
 -- with all that is found in these copies
 abbrev pub with_copies : Contents → List (List ℕ) → Contents
-with_copies h copies = with_facts h (slices_of_copies h.reel.setup copies) (origins_of_copies h.reel.setup copies)
+with_copies h copies = with_facts h (slices_of_copies h.reel.rules copies) (origins_of_copies h.reel.rules copies)
 
 -- The holding of a set of copies, which are listed in any order and as often as one likes.
 abbrev pub holding_of : Reel → List (List ℕ) → Contents
-holding_of reel copies = record { reel = reel; slices = slices_of_copies reel.setup copies; origins = origins_of_copies reel.setup copies }
+holding_of reel copies = record { reel = reel; slices = slices_of_copies reel.rules copies; origins = origins_of_copies reel.rules copies }
 
 -- the same copies, in whatever order and however often
 abbrev pub HasSameCopies : List (List ℕ) → List (List ℕ) → Type 0
@@ -78,13 +78,13 @@ with_entry h e digests =
     record { reel = h.reel; slices = set.insert h.slices e; origins = set.union h.origins (set.from_list (with_each e digests)) }
 
 -- A slice of its tile. It is read with a keyframe bit exactly where that is tile 0.
-pub record IsEntryOf (setup : SetupValue) (e : Entry) : Type 0 where
-  pub slice : IsSliceOf setup e.1 (e.0 == 0) e.0
+pub record IsEntryOf (rules : TileRules) (e : Entry) : Type 0 where
+  pub slice : IsSliceOf rules e.1 (e.0 == 0) e.0
   pub fits : length e.1 ≤ slice_limit
 
 -- each is a slice of its tile
-abbrev pub AreEntriesOf : SetupValue → set.SetOf entry_cmp → Type 0
-AreEntriesOf setup slices = (e : Entry) → set.contains slices e ≡ true → IsEntryOf setup e
+abbrev pub AreEntriesOf : TileRules → set.SetOf entry_cmp → Type 0
+AreEntriesOf rules slices = (e : Entry) → set.contains slices e ≡ true → IsEntryOf rules e
 
 -- no origin without its slice
 abbrev pub AreHeld : set.SetOf entry_cmp → set.SetOf origin_cmp → Type 0
@@ -97,7 +97,7 @@ AreOfDigestLength origins = (o : Origin) → set.contains origins o ≡ true →
 -- What each holding keeps true: its reel is one, it holds slices of its tiles, and its origins are digests of what gave these.
 pub record IsHolding (h : Contents) : Type 0 where
   pub reel : IsReel h.reel
-  pub slices : AreEntriesOf h.reel.setup h.slices
+  pub slices : AreEntriesOf h.reel.rules h.slices
   pub origins_held : AreHeld h.slices h.origins
   pub digests_whole : AreOfDigestLength h.origins
 

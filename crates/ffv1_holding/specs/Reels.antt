@@ -1,27 +1,34 @@
--- A recording: its configuration record, and the setup that the record gives for the size of its frames.
-use Rattle.std.specs.Prelude.{ℕ, ◌≡◌, ◌*◌, Bool, List, Err}
+-- A recording: its configuration record, the setup that the record gives for the size of its frames, and how their slices are told.
+use Rattle.std.specs.Prelude.{ℕ, ◌≡◌, ◌*◌, List, Err}
 use Rattle.std.proofs.Common.{refl}
 use Rattle.std.specs.Coded.{Coded, code_by, coded×, coded_ℕ, coded_list}
-use Rattle.ffv1_range.specs.Setup.{SetupValue, IsSetupOf, coded_setup}
-use Rattle.ffv1_range.specs.SetupForms.{setup_read}
+use Rattle.ffv1_range.specs.Setup.{SetupValue, RecordingValue, IsRecordingOf, coded_setup}
+use Rattle.ffv1_range.specs.SetupForms.{Grants, record_read}
+use Rattle.ffv1_range.specs.TileHeaders.{TileRules, rules_of, coded_rules}
+use Rattle.ffv1_range.specs.declared.scope.Scope.{Scope}
 use Rattle.ffv1_range.specs.declared.fault.SetupFault.TheVariants.{Memory}
 
 pub record Reel : Type 0 where
   pub config : List ℕ
   pub setup : SetupValue
+  pub rules : TileRules
 
--- the setup is that of the record, at the setup's own size
+-- the reel of a record that says this
+abbrev pub reel_of : List ℕ → RecordingValue → Reel
+reel_of config recording = record { config = config; setup = recording.setup; rules = rules_of recording }
+
+-- The setup and the rules are those of the record, at the setup's own size.
 abbrev pub IsReel : Reel → Type 0
-IsReel r = IsSetupOf r.config r.setup.width r.setup.height r.setup
+IsReel r = (recording : RecordingValue) × IsRecordingOf r.config r.setup.width r.setup.height recording × (r ≡ reel_of r.config recording)
 
--- Reading a record at a size needs memory before it meets a fault.
-abbrev pub WantsMemory : List ℕ → ℕ → ℕ → Type 0
-WantsMemory config width height = (granted : Bool) × (setup_read granted config width height ≡ Err Memory)
+-- Reading a record that a scope accepts at a size needs memory before it meets a fault.
+abbrev pub WantsMemory : Scope → List ℕ → ℕ → ℕ → Type 0
+WantsMemory scope config width height = (granted : Grants) × (record_read granted config scope width height ≡ Err Memory)
 
 -- the number of tiles of its frames
 abbrev pub reel_tiles : Reel → ℕ
 reel_tiles r = r.setup.across * r.setup.down
 
 abbrev pub coded_reel : Coded Reel
-coded_reel = code_by (List ℕ × SetupValue) (coded× (coded_list coded_ℕ) coded_setup)
-    (λ r. (r.config, r.setup)) (λ p. record { config = p.0; setup = p.1 }) (λ _. refl)
+coded_reel = code_by (List ℕ × (SetupValue × TileRules)) (coded× (coded_list coded_ℕ) (coded× coded_setup coded_rules))
+    (λ r. (r.config, (r.setup, r.rules))) (λ p. record { config = p.0; setup = p.1.0; rules = p.1.1 }) (λ _. refl)

@@ -2,30 +2,34 @@
 //!
 //! Here a holding is made and joined to others. Its other methods are in `take.rt`, which takes copies, `restore.rt`, which says
 //! how the tiles stand and restores the payload, and `origins.rt`, which says which copies gave a slice.
-ghost use Rattle.std.specs.Prelude.{◌≡◌, ◌⊎◌, IfOk, IfErr, OnErr};
-ghost use Rattle.ffv1_range.specs.Setup.{SetupValue, IsSetupOf};
+ghost use Rattle.std.specs.Prelude.{◌≡◌, ◌⊎◌, Err, true, false, IfOk, IfErr, OnErr};
+ghost use Rattle.ffv1_range.specs.Setup.{SetupValue, RecordingValue, IsSetupOf, IsScopedRecord};
+ghost use Rattle.ffv1_range.specs.SetupForms.{all_granted, record_read};
+ghost use Rattle.ffv1_range.specs.TileHeaders.{profile_rules};
 ghost use Rattle.ffv1_range.specs.SetupFaults.{FirstSetupFault};
 ghost use Rattle.ffv1_holding.specs.Contents.{no_slices, IsHolding};
+ghost use Rattle.ffv1_holding.specs.Reels.{reel_of};
 
 use crate::fault::HoldFault;
 use crate::joins::Join;
 use crate::pool::Pool;
 use crate::reel::Reel;
-use ffv1_range::{Setup, SetupFault};
+use ffv1_range::{Recorded, Recording, Scope, Setup, SetupFault};
 use std::alloc::{AllocError, Global};
 use std::marker::Model;
 
 /// The distinct slices that were found in copies of one frame, each with the SHA-256 digests of the whole copies that
 /// gave it.
 ///
-/// Each is a slice of its tile in the frame's setup: its parity is right, and its header is one of the profile.
+/// Each is a slice of its tile by what the record says: its parity is right, and its header is one of the recording's. That is a `Setup`, and
+/// then the recording is of the profile, or a `Recording`.
 #[derive(Drop)]
-pub struct Holding {
-    pub(crate) reel: Reel,
+pub struct Holding<S: Recorded = Setup> {
+    pub(crate) reel: Reel<S>,
     pub(crate) held: Pool,
 }
 
-impl Model for Holding {
+impl<S: Recorded> Model for Holding<S> {
     ghost use Rattle.ffv1_holding.specs.Contents.{Contents, coded_contents};
 
     ghost Value = { Contents };
@@ -39,8 +43,8 @@ impl Model for Holding {
     ghost invariant = { IsKept };
 }
 
-impl Holding {
-    /// A holding of no slices, for a configuration record and the size of its frames in samples.
+impl Holding<Setup> {
+    /// A holding of no slices, for a configuration record of the profile and the size of its frames in samples.
     ///
     /// It is refused exactly as `Setup::read` refuses them, or with `Memory`.
     pub fn new(alloc: Global, config: &[u8], width: u32, height: u32) -> Result<Holding, SetupFault>
@@ -61,8 +65,57 @@ impl Holding {
         Ok(holding)
     }
 
+    /// The setup that `Setup::read` gives for the record and the size. It stays the same whatever is taken or joined.
+    pub fn setup(&self) -> &Setup
+        ensures value { result.now ≡ self.now.reel.setup }
+        ensures rules { self.now.reel.rules ≡ profile_rules result.now }
+        ensures well_formed { IsHolding self.now }
+    {
+        self.reel.setup()
+    }
+}
+
+impl Holding<Recording> {
+    /// A holding of no slices, for a configuration record that the scope accepts and the size of its frames in samples.
+    ///
+    /// It is refused exactly as `read_scoped` refuses them, or with `Memory`.
+    pub fn of_record(
+        alloc: Global,
+        scope: Scope,
+        config: &[u8],
+        width: u32,
+        height: u32,
+    ) -> Result<Holding<Recording>, SetupFault>
+        ensures found { IfOk result (λ h. (r : RecordingValue) × IsScopedRecord config.now scope width height r × (h ≡ no_slices (reel_of config.now r))) }
+        ensures only { (r : RecordingValue) → IsScopedRecord config.now scope width height r → OnErr result (result ≡ Err SetupFault.Memory) }
+        ensures fault { IfErr result (λ fault. (fault ≡ SetupFault.Memory) ⊎ (record_read all_granted config.now scope width height ≡ Err fault)) }
+    {
+        let Ok(config) = Vec::from_slice(alloc, config) else {
+            return Err(SetupFault::Memory);
+        };
+        let reel = Reel::read_scoped(alloc, scope, config, width, height)?;
+        let Ok(holding) = Holding::of_reel(alloc, reel) else {
+            return Err(SetupFault::Memory);
+        };
+        Ok(holding)
+    }
+
+    /// The same holding of the profile, where the recording is of it; else it comes back.
+    pub fn into_profile(self) -> Result<Holding, Holding<Recording>>
+        ensures ok { IfOk result (λ h. (h ≡ self) × (self.reel.rules.is_profile ≡ true)) }
+        ensures err { IfErr result (λ h. (h ≡ self) × (self.reel.rules.is_profile ≡ false)) }
+    {
+        let Holding { reel, held } = self;
+        match reel.into_profile() {
+            Ok(reel) => Ok(Holding { reel, held }),
+            Err(reel) => Err(Holding { reel, held }),
+        }
+    }
+}
+
+impl<S: Recorded> Holding<S> {
     /// A holding of no slices, for a recording. The only refusal is Memory.
-    pub fn of_reel(alloc: Global, reel: Reel) -> Result<Holding, AllocError>
+    pub fn of_reel(alloc: Global, reel: Reel<S>) -> Result<Holding<S>, AllocError>
         ensures { IfOk result (λ h. h ≡ no_slices reel) }
     {
         let held = Pool::new(alloc, reel.tiles())?;
@@ -70,23 +123,15 @@ impl Holding {
     }
 
     /// The recording. It stays the same whatever is taken or joined.
-    pub fn reel(&self) -> &Reel
+    pub fn reel(&self) -> &Reel<S>
         ensures value { result.now ≡ self.now.reel }
         ensures well_formed { IsHolding self.now }
     {
         &self.reel
     }
-
-    /// The setup that `Setup::read` gives for the record and the size. It stays the same whatever is taken or joined.
-    pub fn setup(&self) -> &Setup
-        ensures value { result.now ≡ self.now.reel.setup }
-        ensures well_formed { IsHolding self.now }
-    {
-        self.reel.setup()
-    }
 }
 
-impl Join for Holding {
+impl<S: Recorded> Join for Holding<S> {
     ghost use Rattle.ffv1_holding.specs.Sets as set;
     ghost use Rattle.ffv1_holding.specs.Contents.{IsSameReel, joined};
     ghost use Rattle.ffv1_holding.specs.ContentsLaws.{joined_comm, joined_assoc, joined_again, joined_reel};

@@ -13,6 +13,7 @@ ghost use Rattle.ffv1_holding.specs.Originals.{AreNear, HoldsExactly};
 
 use crate::holding::Holding;
 use crate::standing::{TileState, least_status, state};
+use ffv1_range::Recorded;
 use std::alloc::AllocError;
 
 /// Why there is no restored payload.
@@ -37,7 +38,7 @@ impl From<AllocError> for RestoreFault {
     }
 }
 
-impl Holding {
+impl<S: Recorded> Holding<S> {
     /// How many slices are held, of all tiles.
     pub fn size(&self) -> usize
         ensures { result ≡ set.size self.now.slices }
@@ -91,17 +92,17 @@ impl Holding {
         ensures refused { IfErr result (IsRefusal self.now) }
 
         // Where just the original's slices are held, no other payload is returned, and the only refusal is `Memory`.
-        ensures original { (payload : List ℕ) (slices : List (List ℕ)) → IsOriginal self.now.reel.setup payload slices → HoldsExactly self.now slices
+        ensures original { (payload : List ℕ) (slices : List (List ℕ)) → IsOriginal self.now.reel.rules payload slices → HoldsExactly self.now slices
             → IfOk result (λ restored. restored.items ≡ payload) }
-        ensures original_settled { (payload : List ℕ) (slices : List (List ℕ)) → IsOriginal self.now.reel.setup payload slices → HoldsExactly self.now slices
+        ensures original_settled { (payload : List ℕ) (slices : List (List ℕ)) → IsOriginal self.now.reel.rules payload slices → HoldsExactly self.now slices
             → OnErr result (result ≡ Err RestoreFault.Memory) }
 
         // Where what is held is of copies that are near an original, with each of its slices intact in one of them, no other payload is
         // returned, and the only refusal is `Memory`.
-        ensures near { (payload : List ℕ) (slices copies : List (List ℕ)) → AreNear self.now.reel.setup payload slices copies
-            → self.now.slices ≡ slices_of_copies self.now.reel.setup copies → IfOk result (λ restored. restored.items ≡ payload) }
-        ensures near_settled { (payload : List ℕ) (slices copies : List (List ℕ)) → AreNear self.now.reel.setup payload slices copies
-            → self.now.slices ≡ slices_of_copies self.now.reel.setup copies → OnErr result (result ≡ Err RestoreFault.Memory) }
+        ensures near { (payload : List ℕ) (slices copies : List (List ℕ)) → AreNear self.now.reel.rules payload slices copies
+            → self.now.slices ≡ slices_of_copies self.now.reel.rules copies → IfOk result (λ restored. restored.items ≡ payload) }
+        ensures near_settled { (payload : List ℕ) (slices copies : List (List ℕ)) → AreNear self.now.reel.rules payload slices copies
+            → self.now.slices ≡ slices_of_copies self.now.reel.rules copies → OnErr result (result ≡ Err RestoreFault.Memory) }
     {
         for tile in 0..self.held.tiles() {
             match self.state(tile) {

@@ -1,7 +1,8 @@
 //! Taking copies of a frame into a holding (own). A copy's links are found by the sizes in their footers (RFC 9043, section
-//! 4.9.1); those that pass their parity (section 4.9.3) and have a header of the profile are its slices.
+//! 4.9.1); those that pass their parity (section 4.9.3) and have a header for one tile are its slices.
 ghost use Rattle.std.specs.Prelude.{◌≡◌, ◌≢◌, ◌⊎◌, ◌*◌, ◌+◌, ◌<◌, ◌≤◌, ◌^◌, length, map, take, [], slice_index_or, IfOk, IfErr, OnOk, OnErr};
 ghost use Rattle.ffv1_bits.specs.Limits.{payload_limit};
+ghost use Rattle.ffv1_range.specs.TileHeaders.{rules_of};
 ghost use Rattle.ffv1_slice.specs.Walk.{links_of};
 ghost use Rattle.ffv1_slice.specs.Slices.{found_slices};
 ghost use Rattle.ffv1_holding.specs.Sets as set;
@@ -14,7 +15,7 @@ use crate::fault::HoldFault;
 use crate::holding::Holding;
 use crate::pool_entry::PoolEntry;
 use ffv1_bits::PAYLOAD_LIMIT;
-use ffv1_range::Setup;
+use ffv1_range::{Recorded, Recording};
 use ffv1_slice::{Chain, next_link, slice_of};
 use std::alloc::AllocError;
 
@@ -38,7 +39,7 @@ pub struct TakeAllFault {
     pub cause: HoldFault,
 }
 
-impl Holding {
+impl<S: Recorded> Holding<S> {
     /// Adds the slices that are found in a copy, and the SHA-256 digest of the whole copy to the origins of each.
     ///
     /// Returns `PayloadTooLong` exactly if the copy has more than 2^30 bytes, before any link is looked at; the only
@@ -47,7 +48,7 @@ impl Holding {
         ensures ok { OnOk result (self.new ≡ with_found self.old payload.now) }
         ensures short { OnOk result (length payload.now ≤ payload_limit) }
         ensures links { IfOk result (λ taken. taken.links ≡ length (links_of payload.now)) }
-        ensures slices { IfOk result (λ taken. taken.slices ≡ length (found_slices self.old.reel.setup payload.now)) }
+        ensures slices { IfOk result (λ taken. taken.slices ≡ length (found_slices self.old.reel.rules payload.now)) }
         ensures new { IfOk result (λ taken. set.size self.new.slices ≡ set.size self.old.slices + taken.new) }
 
         ensures fault { IfErr result (IsTakeFault payload.now) }
@@ -57,7 +58,7 @@ impl Holding {
             return Err(HoldFault::PayloadTooLong);
         }
         let mut found = Vec::new(self.held.alloc());
-        let links = list_found(self.reel.setup(), payload, &mut found)?;
+        let links = list_found(self.reel.recording(), payload, &mut found)?;
         let slices = found.len();
         put_in_order(payload, &mut found)?;
         let before = self.held.size();
@@ -76,7 +77,7 @@ impl Holding {
         slice: &[u8],
         origins: &[[u8; 32]],
     ) -> Result<(), HoldFault>
-        requires slice { IsEntryOf self.old.reel.setup (tile, slice.now) }
+        requires slice { IsEntryOf self.old.reel.rules (tile, slice.now) }
         requires origins { AreDigests origins.now }
         ensures ok { OnOk result (self.new ≡ with_entry self.old (tile, slice.now) origins.now) }
         ensures memory { OnErr result (result ≡ Err HoldFault.Memory) }
@@ -108,12 +109,16 @@ impl Holding {
 }
 
 /// Lists the slices that are found in a copy, from its end, after no others, and returns how many links it has.
-fn list_found(setup: &Setup, payload: &[u8], found: &mut Vec<PoolEntry>) -> Result<usize, HoldFault>
+fn list_found(
+    recording: &Recording,
+    payload: &[u8],
+    found: &mut Vec<PoolEntry>,
+) -> Result<usize, HoldFault>
     requires short { length payload.now ≤ payload_limit }
     requires none { found.old.items ≡ [] }
-    ensures found { OnOk result (map (entry_in payload.now) found.new.items ≡ found_slices setup.now payload.now) }
+    ensures found { OnOk result (map (entry_in payload.now) found.new.items ≡ found_slices (rules_of recording.now) payload.now) }
     ensures lie { OnOk result (AreEntriesIn payload.now found.new.items) }
-    ensures well_formed { OnOk result (AreEntriesOf setup.now (set.from_list (found_slices setup.now payload.now))) }
+    ensures well_formed { OnOk result (AreEntriesOf (rules_of recording.now) (set.from_list (found_slices (rules_of recording.now) payload.now))) }
     ensures links { IfOk result (λ links. links ≡ length (links_of payload.now)) }
     ensures memory { OnErr result (result ≡ Err HoldFault.Memory) }
 {
@@ -121,7 +126,7 @@ fn list_found(setup: &Setup, payload: &[u8], found: &mut Vec<PoolEntry>) -> Resu
     let mut chain = Chain::new(payload);
     while let Some(link) = next_link(&mut chain) {
         links += 1;
-        if let Ok(tile) = slice_of(setup, &link) {
+        if let Ok(tile) = slice_of(recording, &link) {
             found.push(PoolEntry {
                 tile,
                 start: link.start(),

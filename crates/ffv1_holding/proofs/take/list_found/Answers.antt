@@ -3,6 +3,7 @@ use Rattle.std.specs.List.{filter_map, AllByRecursion}
 use Rattle.std.proofs.lemmas.List.{map-append, length-map, get_or-map}
 use Rattle.ffv1_bits.specs.Limits.{slice_limit}
 use Rattle.ffv1_slice.specs.Chain.{LinkValue, IsLinkOf, link_of, IsFramed}
+use Rattle.ffv1_range.specs.TileHeaders.{rules_of}
 use Rattle.ffv1_slice.specs.Slices.{slice_at, found_slices}
 use Rattle.ffv1_slice.specs.Walk.{links_of}
 use Rattle.ffv1_slice.proofs.SliceFacts.{found_slices-links}
@@ -36,7 +37,7 @@ loop-link-init c =
 pub overflow_add-links : goal.overflow_add-links
 overflow_add-links c =
     let inv = c.loop-link.invariant in
-    links_fit c.args.setup.now inv.passed c.in-Some.link c.next_link.new.chain.left (links_of c.args.payload.now) c.args.payload.now c.loop-link.links
+    links_fit (rules_of c.args.recording.now) inv.passed c.in-Some.link c.next_link.new.chain.left (links_of c.args.payload.now) c.args.payload.now c.loop-link.links
     (ap (λ xs. inv.passed ++ xs) (sym c.in-Some.ensures.some) ∙ inv.whole)
     (subst (λ xs. 8 * length xs ≤ length c.args.payload.now) c.new-chain.ensures.value c.new-chain.ensures.few) c.requires.short inv.links
 
@@ -46,7 +47,7 @@ loop-link-preserved-in-Continue-1 c =
     let passed = inv.passed in
     let link = c.in-Some.link in
     let rest = c.next_link.new.chain.left in
-    let setup = c.args.setup.now in
+    let rules = rules_of c.args.recording.now in
     let payload = c.args.payload.now in
     let tile = c.in-Ok.tile in
     let is = c.in-Ok.ensures.found in
@@ -59,28 +60,28 @@ loop-link-preserved-in-Continue-1 c =
     let view : entry_in payload new ≡ (tile, link.bytes) = (λ i. (tile, slice i)) in
     let lies : IsEntryIn payload new = entry_listed payload link cut.0 cut.2 tile c.start.result
     (length c.bytes.result.now) c.start.ensures long (subst IsFramed c.bytes.ensures.value c.bytes.ensures.framed) in
-    let entry : IsEntryOf setup (entry_in payload new) = subst (IsEntryOf setup) (sym view)
-    (entry_of_link setup link tile is (subst (λ (b : List ℕ). length b ≤ slice_limit) c.bytes.ensures.value c.bytes.ensures.short)) in
+    let entry : IsEntryOf rules (entry_in payload new) = subst (IsEntryOf rules) (sym view)
+    (entry_of_link rules link tile is (subst (λ (b : List ℕ). length b ≤ slice_limit) c.bytes.ensures.value c.bytes.ensures.short)) in
     record {
       passed = passed ++ link ∷ [];
-      whole = passed_more setup passed link rest (links_of payload) (ap (λ xs. passed ++ xs) (sym c.in-Some.ensures.some) ∙ inv.whole);
+      whole = passed_more rules passed link rest (links_of payload) (ap (λ xs. passed ++ xs) (sym c.in-Some.ensures.some) ∙ inv.whole);
       links = length-more c.loop-link.links passed (passed ++ link ∷ []) link inv.links refl;
       all_links = all_links.1;
       listed = ap (map (entry_in payload)) grown ∙ map-append (entry_in payload) c.loop-link.found.items (new ∷ [])
-          ∙ (λ i. inv.listed i ++ view i ∷ []) ∙ sym (found_more setup passed link tile is);
+          ∙ (λ i. inv.listed i ++ view i ∷ []) ∙ sym (found_more rules passed link tile is);
       lie = rw grown (each-push (IsEntryIn payload) c.loop-link.found.items new inv.lie lies);
-      well_formed = rw grown (each-push (λ (e : PoolEntry). IsEntryOf setup (entry_in payload e)) c.loop-link.found.items new inv.well_formed entry);
+      well_formed = rw grown (each-push (λ (e : PoolEntry). IsEntryOf rules (entry_in payload e)) c.loop-link.found.items new inv.well_formed entry);
     }
 
 pub loop-link-preserved : goal.loop-link-preserved
 loop-link-preserved c =
     let inv = c.loop-link.invariant in
     let link = c.in-Some.link in
-    let setup = c.args.setup.now in
-    let same = none_more setup inv.passed link (λ tile is. c.in_default-slice_of.not-Ok tile (c.slice_of.ensures.only tile is)) in
+    let rules = rules_of c.args.recording.now in
+    let same = none_more rules inv.passed link (λ tile is. c.in_default-slice_of.not-Ok tile (c.slice_of.ensures.only tile is)) in
     record {
       passed = inv.passed ++ link ∷ [];
-      whole = passed_more setup inv.passed link c.next_link.new.chain.left (links_of c.args.payload.now)
+      whole = passed_more rules inv.passed link c.next_link.new.chain.left (links_of c.args.payload.now)
           (ap (λ xs. inv.passed ++ xs) (sym c.in-Some.ensures.some) ∙ inv.whole);
       links = length-more c.loop-link.links inv.passed (inv.passed ++ link ∷ []) link inv.links refl;
       all_links = (subst (AreCut c.args.payload.now) c.in-Some.ensures.some inv.all_links).1;
@@ -89,12 +90,12 @@ loop-link-preserved c =
       well_formed = inv.well_formed;
     }
 
-all_found : (c : goal.In_default) → map (entry_in c.args.payload.now) c.loop-link.found.items ≡ found_slices c.args.setup.now c.args.payload.now
+all_found : (c : goal.In_default) → map (entry_in c.args.payload.now) c.loop-link.found.items ≡ found_slices (rules_of c.args.recording.now) c.args.payload.now
 all_found c =
     let inv = c.loop-link.invariant in
-    let setup = c.args.setup.now in
+    let rules = rules_of c.args.recording.now in
     let all = all_passed inv.passed c.loop-link.chain.left (links_of c.args.payload.now) c.in_default.ensures.none inv.whole in
-    inv.listed ∙ ap (filter_map (slice_at setup)) all ∙ sym (found_slices-links setup c.args.payload.now)
+    inv.listed ∙ ap (filter_map (slice_at rules)) all ∙ sym (found_slices-links rules c.args.payload.now)
 
 pub returns-clause-found : goal.returns-clause-found
 returns-clause-found c = all_found c
@@ -102,12 +103,12 @@ returns-clause-found c = all_found c
 pub returns-clause-well_formed : goal.returns-clause-well_formed
 returns-clause-well_formed c =
     let inv = c.loop-link.invariant in
-    let setup = c.args.setup.now in
+    let rules = rules_of c.args.recording.now in
     let payload = c.args.payload.now in
     let es = c.loop-link.found.items in
     let nothing : PoolEntry = record { tile = 0; start = 0; length = 0 } in
-    subst (λ (xs : List Entry). AreEntriesOf setup (set.from_list xs)) (all_found c)
-    (all-from_list entries_total entries_antisymmetric (IsEntryOf setup) (map (entry_in payload) es)
+    subst (λ (xs : List Entry). AreEntriesOf rules (set.from_list xs)) (all_found c)
+    (all-from_list entries_total entries_antisymmetric (IsEntryOf rules) (map (entry_in payload) es)
     (λ i d lt. let in_range : i < length es = omega (arith, length-map es (entry_in payload)) in
     rw (get_or-map (entry_in payload) es i nothing d in_range) (inv.well_formed i nothing in_range)))
 

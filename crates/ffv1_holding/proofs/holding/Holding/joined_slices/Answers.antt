@@ -10,7 +10,7 @@ use Rattle.ffv1_holding.proofs.holding.Holding.joined_slices.Goals as goal
 use Rattle.ffv1_holding.proofs.holding.Holding.joined_slices.Goals.{in-Settled+in_ok-extend_from_slice, in_default}
 
 pub loop-tile-preserved : goal.loop-tile-preserved
-loop-tile-preserved c =
+loop-tile-preserved g c =
     let bytes = λ (tile : ℕ). settled_bytes (tile_state c.args.self.now tile) in
     let t = c.loop-tile.tile in
     let so_far = flat_map bytes (range_with_len 0 t) in
@@ -26,6 +26,6 @@ loop-tile-preserved c =
     ]
 
 pub returns-in_err-extend_from_slice : goal.returns-in_err-extend_from_slice
-returns-in_err-extend_from_slice c =
+returns-in_err-extend_from_slice g c =
     let p = err_from_is_err_and c.from_residual.result c.from_residual.ensures.1 in
     rw (p.1, p.2) (record { ok = tt; memory = refl })

@@ -5,4 +5,4 @@ use Rattle.ffv1_holding.proofs.holding.Holding.joined_slices.Given as goal
 
 -- the settled slices of the tiles passed so far
 abbrev pub invariant-loop-tile : goal.invariant-loop-tile
-invariant-loop-tile l = l.payload.items ≡ flat_map (λ tile. settled_bytes (tile_state l.self tile)) (range_with_len 0 l.tile)
+invariant-loop-tile g l = l.payload.items ≡ flat_map (λ tile. settled_bytes (tile_state l.self tile)) (range_with_len 0 l.tile)

@@ -6,7 +6,7 @@ use Rattle.ffv1_holding.specs.Inner.TileSets.{TileSlices}
 use Rattle.ffv1_holding.proofs.holding.Holding.of_reel.Goals as goal
 
 pub invariant_of-result : goal.invariant_of-result
-invariant_of-result c = record {
+invariant_of-result g c = record {
   reel = c.tiles.ensures.well_formed;
   tiles = ap (λ (h : TileSlices). h.tiles) c.in_ok-held.ensures ∙ c.tiles.ensures.count;
   slices = λ q held. absurd (true≢false (sym held ∙ ap (λ (h : TileSlices). set.contains h.slices q) c.in_ok-held.ensures ∙ set.contains-empty entry_cmp q));

@@ -2,7 +2,7 @@ use Rattle.std.proofs.Common.{◌∙◌, Result, Ok, Err, IfOk, rules}
 use Rattle.std.proofs.Common.{sym, ap}
 use Rattle.ffv1_holding.specs.TileState.{missing, disputed}
 use Rattle.ffv1_holding.specs.TileStates.{state_shown}
-use Rattle.ffv1_holding.proofs.TileReads.{in_grid}
+use Rattle.ffv1_holding.proofs.TileReads.{in_grid, reel_shown}
 use Rattle.ffv1_holding.proofs.Restored.{restored_original, never_unsettled}
 use Rattle.ffv1_holding.proofs.ExactlyHeld.{near_exact}
 use Rattle.ffv1_holding.proofs.holding.Holding.restore.Goals as goal
@@ -13,32 +13,32 @@ if_ok (Ok x) P Q is leads = leads x is
 if_ok (Err e) P Q is leads = is
 
 pub returns-clause-original : goal.returns-clause-original
-returns-clause-original c payload slices original exact =
-    if_ok c.joined_slices.result _ _ c.joined_slices.ensures.ok (λ restored is. is ∙ restored_original c.args.self.now slices exact payload original)
+returns-clause-original g c payload slices original exact =
+    if_ok c.joined_slices.result _ _ c.joined_slices.ensures.ok (λ restored is. is ∙ restored_original c.args.self.now slices exact payload (reel_shown c.self.inside c.self.invariant c.args.self.now c.self.view_is) original)
 
 pub returns-in-Missing-clause-original_settled : goal.returns-in-Missing-clause-original_settled
-returns-in-Missing-clause-original_settled c payload slices original exact =
-    absurd (never_unsettled c.args.self.now slices exact payload original c.loop-tile.tile
+returns-in-Missing-clause-original_settled g c payload slices original exact =
+    absurd (never_unsettled c.args.self.now slices exact payload (reel_shown c.self.inside c.self.invariant c.args.self.now c.self.view_is) original c.loop-tile.tile
     (in_grid c.self.inside c.self.invariant c.args.self.now c.self.view_is c.loop-tile.tile _ c.loop-tile-test.true c.tiles-tile-end.ensures) missing
     (ap state_shown (sym c.in-Missing.is) ∙ c.state.ensures) (λ b e. cc))
 
 pub returns-in-Disputed-clause-original_settled : goal.returns-in-Disputed-clause-original_settled
-returns-in-Disputed-clause-original_settled c payload slices original exact =
-    absurd (never_unsettled c.args.self.now slices exact payload original c.loop-tile.tile
+returns-in-Disputed-clause-original_settled g c payload slices original exact =
+    absurd (never_unsettled c.args.self.now slices exact payload (reel_shown c.self.inside c.self.invariant c.args.self.now c.self.view_is) original c.loop-tile.tile
     (in_grid c.self.inside c.self.invariant c.args.self.now c.self.view_is c.loop-tile.tile _ c.loop-tile-test.true c.tiles-tile-end.ensures)
     (disputed c.in-Disputed.field-0) (ap state_shown (sym c.in-Disputed.is) ∙ c.state.ensures) (λ b e. cc))
 
 pub returns-clause-near : goal.returns-clause-near
-returns-clause-near c payload slices copies near is =
-    returns-clause-original c payload slices near.is_original (near_exact c.args.self.now payload slices copies near is)
+returns-clause-near g c payload slices copies near is =
+    returns-clause-original g c payload slices near.is_original (near_exact c.args.self.now payload slices copies near is)
 
 pub returns-in-Missing-clause-near_settled : goal.returns-in-Missing-clause-near_settled
-returns-in-Missing-clause-near_settled c payload slices copies near is =
-    returns-in-Missing-clause-original_settled c payload slices near.is_original (near_exact c.args.self.now payload slices copies near is)
+returns-in-Missing-clause-near_settled g c payload slices copies near is =
+    returns-in-Missing-clause-original_settled g c payload slices near.is_original (near_exact c.args.self.now payload slices copies near is)
 
 pub returns-in-Disputed-clause-near_settled : goal.returns-in-Disputed-clause-near_settled
-returns-in-Disputed-clause-near_settled c payload slices copies near is =
-    returns-in-Disputed-clause-original_settled c payload slices near.is_original (near_exact c.args.self.now payload slices copies near is)
+returns-in-Disputed-clause-near_settled g c payload slices copies near is =
+    returns-in-Disputed-clause-original_settled g c payload slices near.is_original (near_exact c.args.self.now payload slices copies near is)
 
 pub returns-in-Missing-clause-refused : goal.returns-in-Missing-clause-refused
-returns-in-Missing-clause-refused c = search rules
+returns-in-Missing-clause-refused g c = search rules

@@ -1,13 +1,15 @@
 use Rattle.std.proofs.Common.{ℕ, List, Err, sym, ap, subst}
 use Rattle.std.proofs.lemmas.Result.{err_from_is_err_and}
 use Rattle.ffv1_range.specs.Setup.{IsSetupOf}
-use Rattle.ffv1_holding.proofs.Reels.{own_size}
-use Rattle.ffv1_holding.proofs.reel.Reel.read.Goals as goal
+use Rattle.ffv1_range.specs.TileHeaders.{profile_rules}
+use Rattle.ffv1_holding.specs.Reels.{Reel, IsReel}
+use Rattle.ffv1_holding.proofs.Reels.{setup_reel}
+use Rattle.ffv1_holding.proofs.reel.Reel+Setup.read.Goals as goal
 
-well_formed : (c : goal.In_ok-setup) → IsSetupOf c.args.config.items c.in_ok-setup.setup.width c.in_ok-setup.setup.height c.in_ok-setup.setup
+well_formed : (c : goal.In_ok-setup) → IsReel (record { config = c.args.config.items; setup = c.in_ok-setup.setup; rules = profile_rules c.in_ok-setup.setup })
 well_formed c =
-    subst (λ (config : List ℕ). IsSetupOf config c.in_ok-setup.setup.width c.in_ok-setup.setup.height c.in_ok-setup.setup) c.deref.ensures.value
-    (own_size c.deref.result.now c.args.width c.args.height c.in_ok-setup.setup c.in_ok-setup.ensures.found)
+    setup_reel c.args.config.items c.args.width c.args.height c.in_ok-setup.setup
+    (subst (λ (config : List ℕ). IsSetupOf config c.args.width c.args.height c.in_ok-setup.setup) c.deref.ensures.value c.in_ok-setup.ensures.found)
 
 pub invariant_of-result : goal.invariant_of-result
 invariant_of-result c = well_formed c

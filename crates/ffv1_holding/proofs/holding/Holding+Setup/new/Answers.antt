@@ -2,7 +2,7 @@ use Rattle.std.proofs.Common.{◌≡◌, sym, ap, subst, List, ℕ, Err, refl, i
 use Rattle.std.proofs.lemmas.Result.{err_from_is_err_and}
 use Rattle.ffv1_range.specs.Setup.{IsSetupOf}
 use Rattle.ffv1_range.specs.declared.fault.SetupFault.TheVariants.{Memory}
-use Rattle.ffv1_holding.proofs.holding.Holding.new.Goals as goal
+use Rattle.ffv1_holding.proofs.holding.Holding+Setup.new.Goals as goal
 
 pub returns-in_err-reel-clause-only : goal.returns-in_err-reel-clause-only
 returns-in_err-reel-clause-only c =
