@@ -1,36 +1,37 @@
 -- A record and a size are those of one reel.
 use Rattle.std.proofs.Common.{◌≡◌, ℕ, ◌*◌, List, true, refl, sym, ap, subst, ◌∙◌}
-use Rattle.ffv1_range.specs.Setup.{SetupValue, RecordingValue, IsScopedRecord, IsRecordingOf, IsSetupOf}
+use Rattle.ffv1_range.specs.Setup.{SetupValue, RecordingValue, IsScopedRecord, IsSetupOf}
 use Rattle.ffv1_range.specs.Header.{header_limits}
 use Rattle.ffv1_range.specs.TileHeaders.{TileRules, is_in_profile, rules_of, profile_rules}
-use Rattle.ffv1_range.specs.declared.scope.Scope.{Scope}
-use Rattle.ffv1_range.specs.declared.scope.Scope.TheVariants.{Profile, Version3}
-use Rattle.ffv1_range.proofs.SetupLaws.{recording_is_one, record_is_wider}
+use Rattle.ffv1_range.specs.declared.scope.Scope.TheVariants.{Parities}
+use Rattle.ffv1_holding.specs.declared.recordings.Recordings.{Recordings}
+use Rattle.ffv1_holding.specs.declared.recordings.Recordings.TheVariants.{Profile, Any}
+use Rattle.ffv1_range.proofs.SetupLaws.{record_is_one, profile_has_parities, parities_are_wider}
 use Rattle.ffv1_range.proofs.ProfileLaws.{profile_record, record_of_profile, rules_of_profile}
-use Rattle.ffv1_holding.specs.Reels.{Reel, IsReel, reel_of, reel_tiles}
+use Rattle.ffv1_holding.specs.Reels.{Reel, IsReel, IsRecordOf, reel_of, reel_tiles}
 
 -- a record has the size for which it is read
-recording_size : (config : List ℕ) (width height : ℕ) (r : RecordingValue) → IsRecordingOf config width height r
+recording_size : (config : List ℕ) (width height : ℕ) (r : RecordingValue) → IsScopedRecord config Parities width height r
     → (r.setup.width ≡ width) × (r.setup.height ≡ height)
 recording_size config width height r h = (ap (λ (z : RecordingValue). z.setup.width) h.is, ap (λ (z : RecordingValue). z.setup.height) h.is)
 
 -- what a record says is so at its own size
-own_size : (config : List ℕ) (width height : ℕ) (r : RecordingValue) → IsRecordingOf config width height r
-    → IsRecordingOf config r.setup.width r.setup.height r
+own_size : (config : List ℕ) (width height : ℕ) (r : RecordingValue) → IsScopedRecord config Parities width height r
+    → IsScopedRecord config Parities r.setup.width r.setup.height r
 own_size config width height r is =
     let size = recording_size config width height r is in
-    subst (λ w. IsRecordingOf config w r.setup.height r) (sym size.0) (subst (λ h. IsRecordingOf config width h r) (sym size.1) is)
+    subst (λ w. IsScopedRecord config Parities w r.setup.height r) (sym size.0) (subst (λ h. IsScopedRecord config Parities width h r) (sym size.1) is)
 
--- each record that a scope accepts is one of version 3
-pub wider : (config : List ℕ) (scope : Scope) (width height : ℕ) (r : RecordingValue) → IsScopedRecord config scope width height r
-    → IsRecordingOf config width height r
-wider config Profile width height r is = record_is_wider config width height r is
-wider config Version3 width height r is = is
+-- each record that is read has parities
+pub has_parities : (recordings : Recordings) (config : List ℕ) (width height : ℕ) (r : RecordingValue) → IsRecordOf recordings config width height r
+    → IsScopedRecord config Parities width height r
+has_parities Profile config width height r is = profile_has_parities config width height r is
+has_parities Any config width height r is = is
 
 -- a record that is read makes a reel
-pub reel_is : (config : List ℕ) (scope : Scope) (width height : ℕ) (r : RecordingValue) → IsScopedRecord config scope width height r
+pub reel_is : (recordings : Recordings) (config : List ℕ) (width height : ℕ) (r : RecordingValue) → IsRecordOf recordings config width height r
     → IsReel (reel_of config r)
-reel_is config scope width height r is = (r, own_size config width height r (wider config scope width height r is), refl)
+reel_is recordings config width height r is = (r, own_size config width height r (has_parities recordings config width height r is), refl)
 
 -- so does a record of the profile
 pub setup_reel : (config : List ℕ) (width height : ℕ) (s : SetupValue) → IsSetupOf config width height s
@@ -40,14 +41,14 @@ setup_reel config width height s is =
     let rules = rules_of_profile r (record_of_profile config width height r is.record_of) in
     let same : ◌≡◌ {A = Reel} (reel_of config r) (record { config = config; setup = s; rules = profile_rules s }) =
     λ i. record { config = config; setup = sym is.is i; rules = (rules ∙ ap profile_rules (sym is.is)) i } in
-    subst IsReel same (reel_is config Profile width height r is.record_of)
+    subst IsReel same (reel_is Profile config width height r is.record_of)
 
 pub same_reel : (a b : Reel) → IsReel a → IsReel b → a.config ≡ b.config → a.setup.width ≡ b.setup.width → a.setup.height ≡ b.setup.height → a ≡ b
 same_reel a b is also config width height =
-    let moved : IsRecordingOf b.config b.setup.width b.setup.height is.0 =
-    subst (λ c. IsRecordingOf c b.setup.width b.setup.height is.0) config
-    (subst (λ w. IsRecordingOf a.config w b.setup.height is.0) width (subst (λ h. IsRecordingOf a.config a.setup.width h is.0) height is.1)) in
-    let recording = recording_is_one b.config b.setup.width b.setup.height is.0 also.0 moved also.1 in
+    let moved : IsScopedRecord b.config Parities b.setup.width b.setup.height is.0 =
+    subst (λ c. IsScopedRecord c Parities b.setup.width b.setup.height is.0) config
+    (subst (λ w. IsScopedRecord a.config Parities w b.setup.height is.0) width (subst (λ h. IsScopedRecord a.config Parities a.setup.width h is.0) height is.1)) in
+    let recording = record_is_one b.config Parities b.setup.width b.setup.height is.0 also.0 moved also.1 in
     is.2 ∙ (λ i. reel_of (config i) (recording i)) ∙ sym also.2
 
 -- the rules are those of the setup's grid
@@ -60,6 +61,6 @@ pub profile_reel : (r : Reel) → IsReel r → r.rules.is_profile ≡ true
 profile_reel r is profile =
     let setup : r.setup ≡ is.0.setup = ap (λ (z : Reel). z.setup) is.2 in
     let of : is_in_profile is.0 ≡ true = ap (λ (z : Reel). z.rules.is_profile) (sym is.2) ∙ profile in (
-      record { recording = is.0; record_of = profile_record r.config r.setup.width r.setup.height is.0 is.1 of; is = setup },
+      record { recording = is.0; record_of = profile_record r.config r.setup.width r.setup.height is.0 (parities_are_wider r.config r.setup.width r.setup.height is.0 is.1) of; is = setup },
       ap (λ (z : Reel). z.rules) is.2 ∙ rules_of_profile is.0 of ∙ ap profile_rules (sym setup),
     )

@@ -2,6 +2,7 @@ pub mod SliceOrder
 pub mod Sets
 pub mod Rising
 pub mod Joins
+pub mod Recordings
 pub mod Reels
 pub mod TileSets
 pub mod Contents

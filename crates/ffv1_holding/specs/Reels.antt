@@ -2,11 +2,14 @@
 use Rattle.std.specs.Prelude.{ℕ, ◌≡◌, ◌*◌, List, Err}
 use Rattle.std.proofs.Common.{refl}
 use Rattle.std.specs.Coded.{Coded, code_by, coded×, coded_ℕ, coded_list}
-use Rattle.ffv1_range.specs.Setup.{SetupValue, RecordingValue, IsRecordingOf, coded_setup}
-use Rattle.ffv1_range.specs.SetupForms.{Grants, record_read}
+use Rattle.ffv1_range.specs.Setup.{SetupValue, RecordingValue, IsScopedRecord, coded_setup}
+use Rattle.ffv1_range.specs.SetupForms.{Grants, all_granted, record_read}
 use Rattle.ffv1_range.specs.TileHeaders.{TileRules, rules_of, coded_rules}
-use Rattle.ffv1_range.specs.declared.scope.Scope.{Scope}
+use Rattle.ffv1_range.specs.declared.scope.Scope.TheVariants.{Parities}
+use Rattle.ffv1_range.specs.declared.fault.SetupFault.{SetupFault}
 use Rattle.ffv1_range.specs.declared.fault.SetupFault.TheVariants.{Memory}
+use Rattle.ffv1_holding.specs.Recordings.{scope_of}
+use Rattle.ffv1_holding.specs.declared.recordings.Recordings.{Recordings}
 
 pub record Reel : Type 0 where
   pub config : List ℕ
@@ -17,13 +20,21 @@ pub record Reel : Type 0 where
 abbrev pub reel_of : List ℕ → RecordingValue → Reel
 reel_of config recording = record { config = config; setup = recording.setup; rules = rules_of recording }
 
--- The setup and the rules are those of the record, at the setup's own size.
+-- The setup and the rules are those of the record, which is one with parities, at the setup's own size.
 abbrev pub IsReel : Reel → Type 0
-IsReel r = (recording : RecordingValue) × IsRecordingOf r.config r.setup.width r.setup.height recording × (r ≡ reel_of r.config recording)
+IsReel r = (recording : RecordingValue) × IsScopedRecord r.config Parities r.setup.width r.setup.height recording × (r ≡ reel_of r.config recording)
 
--- Reading a record that a scope accepts at a size needs memory before it meets a fault.
-abbrev pub WantsMemory : Scope → List ℕ → ℕ → ℕ → Type 0
-WantsMemory scope config width height = (granted : Grants) × (record_read granted config scope width height ≡ Err Memory)
+-- what such a record says
+abbrev pub IsRecordOf : Recordings → List ℕ → ℕ → ℕ → RecordingValue → Type 0
+IsRecordOf recordings config width height recording = IsScopedRecord config (scope_of recordings) width height recording
+
+-- the first fault of a record at a size
+abbrev pub FirstRecordFault : Recordings → List ℕ → ℕ → ℕ → SetupFault → Type 0
+FirstRecordFault recordings config width height fault = record_read all_granted config (scope_of recordings) width height ≡ Err fault
+
+-- Reading a record at a size needs memory before it meets a fault.
+abbrev pub WantsMemory : Recordings → List ℕ → ℕ → ℕ → Type 0
+WantsMemory recordings config width height = (granted : Grants) × (record_read granted config (scope_of recordings) width height ≡ Err Memory)
 
 -- the number of tiles of its frames
 abbrev pub reel_tiles : Reel → ℕ

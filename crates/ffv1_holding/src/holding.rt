@@ -3,18 +3,18 @@
 //! Here a holding is made and joined to others. Its other methods are in `take.rt`, which takes copies, `restore.rt`, which says
 //! how the tiles stand and restores the payload, and `origins.rt`, which says which copies gave a slice.
 ghost use Rattle.std.specs.Prelude.{◌≡◌, ◌⊎◌, Err, true, false, IfOk, IfErr, OnErr};
-ghost use Rattle.ffv1_range.specs.Setup.{SetupValue, RecordingValue, IsSetupOf, IsScopedRecord};
-ghost use Rattle.ffv1_range.specs.SetupForms.{all_granted, record_read};
+ghost use Rattle.ffv1_range.specs.Setup.{SetupValue, RecordingValue, IsSetupOf};
 ghost use Rattle.ffv1_range.specs.TileHeaders.{profile_rules};
 ghost use Rattle.ffv1_range.specs.SetupFaults.{FirstSetupFault};
 ghost use Rattle.ffv1_holding.specs.Contents.{no_slices, IsHolding};
-ghost use Rattle.ffv1_holding.specs.Reels.{reel_of};
+ghost use Rattle.ffv1_holding.specs.Reels.{IsRecordOf, FirstRecordFault, reel_of};
 
 use crate::fault::HoldFault;
 use crate::joins::Join;
 use crate::pool::Pool;
+use crate::recordings::Recordings;
 use crate::reel::Reel;
-use ffv1_range::{Recorded, Recording, Scope, Setup, SetupFault};
+use ffv1_range::{Recorded, Recording, Setup, SetupFault};
 use std::alloc::{AllocError, Global};
 use std::marker::Model;
 
@@ -76,24 +76,24 @@ impl Holding<Setup> {
 }
 
 impl Holding<Recording> {
-    /// A holding of no slices, for a configuration record that the scope accepts and the size of its frames in samples.
+    /// A holding of no slices, for a configuration record and the size of its frames in samples.
     ///
-    /// It is refused exactly as `read_scoped` refuses them, or with `Memory`.
+    /// It is refused exactly as `read_scoped` refuses them in the scope of these recordings, or with `Memory`.
     pub fn of_record(
         alloc: Global,
-        scope: Scope,
+        recordings: Recordings,
         config: &[u8],
         width: u32,
         height: u32,
     ) -> Result<Holding<Recording>, SetupFault>
-        ensures found { IfOk result (λ h. (r : RecordingValue) × IsScopedRecord config.now scope width height r × (h ≡ no_slices (reel_of config.now r))) }
-        ensures only { (r : RecordingValue) → IsScopedRecord config.now scope width height r → OnErr result (result ≡ Err SetupFault.Memory) }
-        ensures fault { IfErr result (λ fault. (fault ≡ SetupFault.Memory) ⊎ (record_read all_granted config.now scope width height ≡ Err fault)) }
+        ensures found { IfOk result (λ h. (r : RecordingValue) × IsRecordOf recordings config.now width height r × (h ≡ no_slices (reel_of config.now r))) }
+        ensures only { (r : RecordingValue) → IsRecordOf recordings config.now width height r → OnErr result (result ≡ Err SetupFault.Memory) }
+        ensures fault { IfErr result (λ fault. (fault ≡ SetupFault.Memory) ⊎ FirstRecordFault recordings config.now width height fault) }
     {
         let Ok(config) = Vec::from_slice(alloc, config) else {
             return Err(SetupFault::Memory);
         };
-        let reel = Reel::read_scoped(alloc, scope, config, width, height)?;
+        let reel = Reel::of_record(alloc, recordings, config, width, height)?;
         let Ok(holding) = Holding::of_reel(alloc, reel) else {
             return Err(SetupFault::Memory);
         };

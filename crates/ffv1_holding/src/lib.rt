@@ -12,6 +12,7 @@ mod laws;
 mod origins;
 mod pool;
 mod pool_entry;
+mod recordings;
 mod reel;
 mod restore;
 mod rows;
@@ -26,6 +27,7 @@ pub use joins::{Join, JoinAllFault, join_all};
 pub use laws::{
     copies_hold_the_original, held_is_found, near_copies_hold_the_original, origin_is_a_copy,
 };
+pub use recordings::Recordings;
 pub use reel::Reel;
 pub use restore::RestoreFault;
 pub use slice_set::SliceSet;

@@ -1,13 +1,12 @@
 //! A recording (own): its configuration record (RFC 9043, section 4.3), and what the record says of frames of one size.
 ghost use Rattle.std.specs.Prelude.{◌≡◌, ◌⊎◌, ◌↔◌, Err, true, false, IsTrue, IfOk, IfErr, OnErr, IsErrOf, MatchResult};
-ghost use Rattle.ffv1_range.specs.Setup.{SetupValue, RecordingValue, IsSetupOf, IsScopedRecord};
+ghost use Rattle.ffv1_range.specs.Setup.{SetupValue, RecordingValue, IsSetupOf};
 ghost use Rattle.ffv1_range.specs.SetupFaults.{FirstSetupFault};
-ghost use Rattle.ffv1_range.specs.SetupForms.{all_granted, record_read};
 ghost use Rattle.ffv1_range.specs.TileHeaders.{rules_of, profile_rules};
-ghost use Rattle.ffv1_range.specs.declared.scope.Scope.TheVariants.{Profile};
-ghost use Rattle.ffv1_holding.specs.Reels.{IsReel, WantsMemory, reel_of, reel_tiles};
+ghost use Rattle.ffv1_holding.specs.Reels.{IsReel, IsRecordOf, FirstRecordFault, WantsMemory, reel_of, reel_tiles};
 
-use ffv1_range::{Recorded, Recording, Scope, Setup, SetupFault, read_scoped};
+use crate::recordings::Recordings;
+use ffv1_range::{Recorded, Recording, Setup, SetupFault, read_scoped};
 use std::alloc::Global;
 use std::marker::Model;
 
@@ -54,22 +53,22 @@ impl Reel<Setup> {
 }
 
 impl Reel<Recording> {
-    /// The recording of a record that the scope accepts, and of a size. It is refused exactly as `read_scoped` refuses them.
-    pub fn read_scoped(
+    /// The recording of a record and a size. It is refused exactly as `read_scoped` refuses them in the scope of these recordings.
+    pub fn of_record(
         alloc: Global,
-        scope: Scope,
+        recordings: Recordings,
         config: Vec<u8>,
         width: u32,
         height: u32,
     ) -> Result<Reel<Recording>, SetupFault>
-        ensures found { IfOk result (λ r. (recording : RecordingValue) × IsScopedRecord config.items scope width height recording × (r ≡ reel_of config.items recording)) }
+        ensures found { IfOk result (λ r. (recording : RecordingValue) × IsRecordOf recordings config.items width height recording × (r ≡ reel_of config.items recording)) }
         ensures well_formed { IfOk result IsReel }
-        ensures only { (r : RecordingValue) → IsScopedRecord config.items scope width height r
+        ensures only { (r : RecordingValue) → IsRecordOf recordings config.items width height r
             → MatchResult result (λ read. read ≡ reel_of config.items r) (λ fault. fault ≡ SetupFault.Memory) }
-        ensures fault { IfErr result (λ fault. (fault ≡ SetupFault.Memory) ⊎ (record_read all_granted config.items scope width height ≡ Err fault)) }
-        ensures memory { IsErrOf result SetupFault.Memory → WantsMemory scope config.items width height }
+        ensures fault { IfErr result (λ fault. (fault ≡ SetupFault.Memory) ⊎ FirstRecordFault recordings config.items width height fault) }
+        ensures memory { IsErrOf result SetupFault.Memory → WantsMemory recordings config.items width height }
     {
-        let setup = read_scoped(alloc, scope, &config, width, height)?;
+        let setup = read_scoped(alloc, recordings.scope(), &config, width, height)?;
         Ok(Reel { config, setup })
     }
 

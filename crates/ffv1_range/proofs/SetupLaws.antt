@@ -12,9 +12,9 @@ use Rattle.ffv1_range.specs.Forms.{from_place, form_at}
 use Rattle.ffv1_range.specs.TableForms.{fresh_row}
 use Rattle.ffv1_range.specs.InitialStates.{keeps_states}
 use Rattle.ffv1_range.specs.Setup.{SetupValue, RecordingValue, SetFields, RecordFields, IsAccepted, IsSize, record_content, IsScopedRecord, IsSetupOf, IsInProfile, IsInVersion3, SetupIsOne, SetupIsInProfile, SetupIsRecording, RecordingIsOne, RecordingIsInVersion3}
-use Rattle.ffv1_range.specs.Scopes.{accepts_coder, accepts_space, accepts_depth, accepts_shift, accepts_ec, greatest_shift}
+use Rattle.ffv1_range.specs.Scopes.{accepts_coder, accepts_space, accepts_depth, accepts_shift, accepts_extra_plane, accepts_ec, greatest_shift}
 use Rattle.ffv1_range.specs.declared.scope.Scope.{Scope}
-use Rattle.ffv1_range.specs.declared.scope.Scope.TheVariants.{Profile, Version3}
+use Rattle.ffv1_range.specs.declared.scope.Scope.TheVariants.{Profile, Parities, Version3}
 use Rattle.ffv1_range.specs.Tables.{set_of}
 use Rattle.ffv1_range.specs.SetupForms.{Grants, all_granted, record_form, checked_content, is_size, record_read, setup_read}
 use Rattle.ffv1_range.specs.declared.coding.RangeFault.{RangeFault}
@@ -157,11 +157,11 @@ small_shift scope space false shift h = omega arith
 
 no_shift_past_4 : (scope : Scope) (space : ℕ) → greatest_shift scope space ≤ 4
 no_shift_past_4 Profile space = omega arith
-no_shift_past_4 Version3 space = elim (space == 0) as (λ b. (if b then 4 else 0) ≤ 4) [ true ↦ omega arith | false ↦ omega arith ]
+no_shift_past_4 _ space = elim (space == 0) as (λ b. (if b then 4 else 0) ≤ 4) [ true ↦ omega arith | false ↦ omega arith ]
 
 known_coder : (scope : Scope) (coder : ℕ) → accepts_coder scope coder ≡ true → coder ≤ 2
 known_coder Profile coder h = let none = eqb-true coder 0 h in omega arith
-known_coder Version3 coder h = leb-true coder 2 h
+known_coder _ coder h = leb-true coder 2 h
 
 known_depth : (scope : Scope) (depth : ℕ) → accepts_depth scope depth ≡ true → (depth ≡ 0) ⊎ ((8 ≤ depth) × (depth ≤ 16))
 known_depth Profile depth h =
@@ -169,7 +169,7 @@ known_depth Profile depth h =
       | inl none ↦ inl (eqb-true depth 0 none)
       | inr eight ↦ inr (let is = eqb-true depth 8 eight in (omega arith, omega arith))
     ]
-known_depth Version3 depth h =
+known_depth _ depth h =
     elim (or_cases (depth == 0) (nat_le 8 depth && nat_le depth 16) h) [
       | inl none ↦ inl (eqb-true depth 0 none)
       | inr some ↦ inr (let parts = and_parts (nat_le 8 depth) (nat_le depth 16) some in (leb-true 8 depth parts.0, leb-true depth 16 parts.1))
@@ -280,11 +280,20 @@ wider_shift space true shift s h =
 wider_ec : (ec : ℕ) → accepts_ec Profile ec ≡ true → accepts_ec Version3 ec ≡ true
 wider_ec ec h = le-leb ec 1 (let one = eqb-true ec 1 h in omega arith)
 
--- a record of the profile is one of version 3
-pub record_is_wider : (config : List ℕ) (width height : ℕ) (value : RecordingValue) → IsScopedRecord config Profile width height value
-    → IsScopedRecord config Version3 width height value
-record_is_wider config width height value of =
-    let ok : IsAccepted Profile width height of.fields = of.accepted in
+-- what one scope accepts, another accepts too
+record IsWithin (narrow wide : Scope) : Type 0 where
+  coder : (coder : ℕ) → accepts_coder narrow coder ≡ true → accepts_coder wide coder ≡ true
+  space : (space : ℕ) → accepts_space narrow space ≡ true → accepts_space wide space ≡ true
+  depth : (depth : ℕ) → accepts_depth narrow depth ≡ true → accepts_depth wide depth ≡ true
+  shift : (space : ℕ) (chroma : Bool) (shift : ℕ) → accepts_space narrow space ≡ true → accepts_shift narrow space chroma shift ≡ true
+      → accepts_shift wide space chroma shift ≡ true
+  extra_plane : (extra : Bool) → accepts_extra_plane narrow extra ≡ true → accepts_extra_plane wide extra ≡ true
+  ec : (ec : ℕ) → accepts_ec narrow ec ≡ true → accepts_ec wide ec ≡ true
+
+record_within : (narrow wide : Scope) → IsWithin narrow wide → (config : List ℕ) (width height : ℕ) (value : RecordingValue)
+    → IsScopedRecord config narrow width height value → IsScopedRecord config wide width height value
+record_within narrow wide within config width height value of =
+    let ok : IsAccepted narrow width height of.fields = of.accepted in
     record {
       passes = of.passes;
       is_width = of.is_width;
@@ -293,23 +302,23 @@ record_is_wider config width height value of =
       accepted = record {
         version = ok.version;
         micro_version = ok.micro_version;
-        coder_type = wider_coder of.fields.coder_type ok.coder_type;
+        coder_type = within.coder of.fields.coder_type ok.coder_type;
         state_transition_delta = ok.state_transition_delta;
-        colorspace_type = wider_space of.fields.colorspace_type ok.colorspace_type;
-        bits_per_raw_sample = wider_depth of.fields.bits_per_raw_sample ok.bits_per_raw_sample;
+        colorspace_type = within.space of.fields.colorspace_type ok.colorspace_type;
+        bits_per_raw_sample = within.depth of.fields.bits_per_raw_sample ok.bits_per_raw_sample;
         chroma_planes = ok.chroma_planes;
-        log2_h_chroma_subsample = wider_shift of.fields.colorspace_type of.fields.chroma_planes of.fields.log2_h_chroma_subsample ok.colorspace_type
+        log2_h_chroma_subsample = within.shift of.fields.colorspace_type of.fields.chroma_planes of.fields.log2_h_chroma_subsample ok.colorspace_type
             ok.log2_h_chroma_subsample;
-        log2_v_chroma_subsample = wider_shift of.fields.colorspace_type of.fields.chroma_planes of.fields.log2_v_chroma_subsample ok.colorspace_type
+        log2_v_chroma_subsample = within.shift of.fields.colorspace_type of.fields.chroma_planes of.fields.log2_v_chroma_subsample ok.colorspace_type
             ok.log2_v_chroma_subsample;
-        extra_plane = refl;
+        extra_plane = within.extra_plane of.fields.extra_plane ok.extra_plane;
         across = ok.across;
         down = ok.down;
         tiles = ok.tiles;
         some_set = ok.some_set;
         few_sets = ok.few_sets;
         sets = ok.sets;
-        ec = wider_ec of.fields.ec ok.ec;
+        ec = within.ec of.fields.ec ok.ec;
         symbols = ok.symbols;
       };
       start = of.start;
@@ -318,6 +327,40 @@ record_is_wider config width height value of =
       coded = of.coded;
       is = of.is;
     }
+
+no_alpha_is_any : (extra : Bool) → accepts_extra_plane Profile extra ≡ true → accepts_extra_plane Version3 extra ≡ true
+no_alpha_is_any extra h = refl
+
+-- a record of the profile is one with parities
+pub profile_has_parities : (config : List ℕ) (width height : ℕ) (value : RecordingValue) → IsScopedRecord config Profile width height value
+    → IsScopedRecord config Parities width height value
+profile_has_parities =
+    record_within Profile Parities (record {
+      coder = wider_coder;
+      space = wider_space;
+      depth = wider_depth;
+      shift = wider_shift;
+      extra_plane = no_alpha_is_any;
+      ec = λ ec h. h;
+    })
+
+-- a record with parities is one of version 3
+pub parities_are_wider : (config : List ℕ) (width height : ℕ) (value : RecordingValue) → IsScopedRecord config Parities width height value
+    → IsScopedRecord config Version3 width height value
+parities_are_wider =
+    record_within Parities Version3 (record {
+      coder = λ coder h. h;
+      space = λ space h. h;
+      depth = λ depth h. h;
+      shift = λ space chroma shift s h. h;
+      extra_plane = λ extra h. h;
+      ec = wider_ec;
+    })
+
+-- a record of the profile is one of version 3
+pub record_is_wider : (config : List ℕ) (width height : ℕ) (value : RecordingValue) → IsScopedRecord config Profile width height value
+    → IsScopedRecord config Version3 width height value
+record_is_wider config width height value of = parities_are_wider config width height value (profile_has_parities config width height value of)
 
 pub setup_is_recording : SetupIsRecording
 setup_is_recording config width height setup s = (s.recording, record_is_wider config width height s.recording s.record_of, s.is)

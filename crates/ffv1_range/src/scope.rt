@@ -1,12 +1,14 @@
-//! Which recordings are read: those of the profile, or all of version 3.
+//! Which recordings are read: those of the profile, those with parities, or all of version 3.
 ghost use Rattle.std.specs.Prelude.{◌≡◌};
 ghost use Rattle.ffv1_range.specs.Scopes.{accepts_coder, accepts_space, accepts_depth, greatest_shift, accepts_extra_plane, accepts_ec, accepts_key};
 
-/// Which values of some fields a configuration record may have.
+/// Which configuration records are read: by the values of some of their fields.
 #[derive(Clone, Copy, Debug, PartialEq, Eq)]
 pub enum Scope {
     /// The profile: Golomb-Rice codes, 8 bits a sample, gray or Y Cb Cr with chroma shifts of at most 2, and slices with a parity.
     Profile,
+    /// Every recording of version 3 whose slices have parities.
+    Parities,
     /// Every recording of version 3.
     Version3,
 }
@@ -18,7 +20,7 @@ impl Scope {
     {
         match self {
             Scope::Profile => coder == 0,
-            Scope::Version3 => coder <= 2,
+            Scope::Parities | Scope::Version3 => coder <= 2,
         }
     }
 
@@ -28,7 +30,7 @@ impl Scope {
     {
         match self {
             Scope::Profile => space == 0,
-            Scope::Version3 => space <= 1,
+            Scope::Parities | Scope::Version3 => space <= 1,
         }
     }
 
@@ -38,7 +40,7 @@ impl Scope {
     {
         match self {
             Scope::Profile => depth == 0 || depth == 8,
-            Scope::Version3 => depth == 0 || (8 <= depth && depth <= 16),
+            Scope::Parities | Scope::Version3 => depth == 0 || (8 <= depth && depth <= 16),
         }
     }
 
@@ -48,8 +50,8 @@ impl Scope {
     {
         match self {
             Scope::Profile => 2,
-            Scope::Version3 if space == 0 => 4,
-            Scope::Version3 => 0,
+            _ if space == 0 => 4,
+            _ => 0,
         }
     }
 
@@ -59,7 +61,7 @@ impl Scope {
     {
         match self {
             Scope::Profile => !extra,
-            Scope::Version3 => true,
+            Scope::Parities | Scope::Version3 => true,
         }
     }
 
@@ -69,6 +71,7 @@ impl Scope {
     {
         match self {
             Scope::Profile => ec == 1,
+            Scope::Parities => ec == 1,
             Scope::Version3 => ec <= 1,
         }
     }
@@ -79,7 +82,7 @@ impl Scope {
     {
         match self {
             Scope::Profile => key,
-            Scope::Version3 => true,
+            Scope::Parities | Scope::Version3 => true,
         }
     }
 }
