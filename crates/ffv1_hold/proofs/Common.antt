@@ -28,8 +28,10 @@ pub use Rattle.ffv1_devices.proofs.Steps.{GivesUp-after, GoesOn-refl, GoesOn-tra
 pub use Rattle.ffv1_devices.specs.Logs.{BreaksOff, GoesOn, ReadLog, Reads, StopsWriting, Tries, WriteLog, Writes}
 pub use Rattle.ffv1_devices.specs.Results.{WritesAll}
 pub use Rattle.ffv1_devices.specs.Writing.{WritesFront}
-pub use Rattle.ffv1_range.proofs.SetupFacts.{no_setup_fault, one_setup, one_setup_fault, setup_small, setup_tiles}
-pub use Rattle.ffv1_range.specs.Setup.{IsSetupOf, SetupValue}
+pub use Rattle.ffv1_range.proofs.SetupFacts.{no_setup_fault, one_setup_fault}
+pub use Rattle.ffv1_range.specs.Setup.{IsSetupOf}
+pub use Rattle.ffv1_range.specs.Header.{HeadLimits}
+pub use Rattle.ffv1_range.specs.TileHeaders.{TileRules, rules_of}
 pub use Rattle.ffv1_range.specs.SetupFaults.{FirstSetupFault}
 pub use Rattle.ffv1_range.specs.declared.fault.SetupFault.{SetupFault}
 pub use Rattle.ffv1_slice.proofs.SliceFacts.{slice_in_grid}
@@ -68,14 +70,16 @@ pub use Rattle.ffv1_holding.proofs.ExactlyHeld.{near_exact}
 pub use Rattle.ffv1_holding.proofs.ItemsRise.{items-insert_last, items-rising, rising-append, rising_one}
 pub use Rattle.ffv1_holding.proofs.Lists.{flat_map-range_more}
 pub use Rattle.ffv1_holding.proofs.OriginSteps.{both_tie, held_each, held_union, whole_each, whole_union}
-pub use Rattle.ffv1_holding.proofs.Reels.{own_size, same_reel}
+pub use Rattle.ffv1_holding.proofs.Reels.{one_record, profile_reel, reel_is, reel_limits, reel_small, reel_tiles_few, same_reel, setup_reel_of}
 pub use Rattle.ffv1_holding.proofs.RisingSets.{contains_item, insert_present, items-empty, items-from_list, or_absorbed, rising_rest, size-items, union-insert}
 pub use Rattle.ffv1_holding.proofs.Tiles.{any-other, any-same, contains-tile_slices}
 pub use Rattle.ffv1_holding.specs.Contents.{AreDigests, Contents, IsEntryOf, IsHolding, IsSameReel, digests_of, holding_of, joined, no_slices, with_copies, with_entry, with_found}
 pub use Rattle.ffv1_holding.specs.HoldingParts.{IsKept, contents}
 pub use Rattle.ffv1_holding.specs.Inner.TileSets.{entries_below, tile_entries}
 pub use Rattle.ffv1_holding.specs.Originals.{AreNear, HoldsExactly}
-pub use Rattle.ffv1_holding.specs.Reels.{IsReel, Reel, reel_tiles}
+pub use Rattle.ffv1_holding.specs.Reels.{IsReel, IsRecordOf, Reel, reel_of, reel_tiles}
+pub use Rattle.ffv1_holding.specs.declared.recordings.Recordings.{Recordings}
+pub use Rattle.ffv1_holding.specs.declared.recordings.Recordings.TheVariants.{Profile}
 pub use Rattle.ffv1_holding.specs.Rising.{IsRising}
 pub use Rattle.ffv1_holding.specs.SliceOrder.{Entry, Origin, bytes_antisymmetric, bytes_cmp, bytes_total, entries_antisymmetric, entries_total, entry_cmp, origin_cmp, origins_antisymmetric, origins_total, with_each}
 pub use Rattle.ffv1_holding.specs.TakeFaults.{AreShort}

@@ -1,11 +1,11 @@
 -- A text shows no fault.
-use Rattle.ffv1_hold.proofs.Common.{◌≡◌, ℕ, ◌<◌, ◌≤◌, ◌^◌, List, [], ◌∷◌, ◌++◌, length, take, get_or, Option, Some, None, refl, sym, ap, ◌∙◌, subst, inl, inr, arith, append_assoc, length-append, ◌⊎◌, take-append_seam, take-append-le, record_limit, SetupValue, IsSetupOf, setup_small, no_setup_fault, AllByRecursion, HoldFileFault, Version, IsRising, Reel, Contents, IsHolding, FileEntry, magic, sized_record, head_text, body_text, entries_text, file_entries, file_text, IsStated, last_of, Follows, IsFileEntryOf, file_entry_cmp, AreEntries, HasText, IsFileReel, IsPartOfBody, BodyShows, IsPartOfEntry, EntryShows, IsPartOfReel, ReelShows, MagicShows, IsPartOfFile, FileShows, rising_rest}
+use Rattle.ffv1_hold.proofs.Common.{◌≡◌, ℕ, ◌<◌, ◌≤◌, ◌^◌, List, [], ◌∷◌, ◌++◌, length, take, get_or, Option, Some, None, refl, sym, ap, ◌∙◌, subst, inl, inr, arith, append_assoc, length-append, ◌⊎◌, take-append_seam, take-append-le, record_limit, TileRules, IsSetupOf, reel_small, profile_reel, no_setup_fault, AllByRecursion, HoldFileFault, Version, IsRising, Reel, Contents, IsHolding, FileEntry, magic, sized_record, head_text, body_text, entries_text, file_entries, file_text, IsStated, last_of, Follows, IsFileEntryOf, file_entry_cmp, AreEntries, HasText, IsFileReel, IsPartOfBody, BodyShows, IsPartOfEntry, EntryShows, IsPartOfReel, ReelShows, MagicShows, IsPartOfFile, FileShows, rising_rest, true}
 use Rattle.ffv1_hold.specs.declared.file_fault.HoldFileFault.TheVariants as faults
 use Rattle.ffv1_hold.proofs.Bodies.{length-be4}
 use Rattle.ffv1_hold.proofs.NumberTexts.{no_tag, rest_same, number_same, after_number}
 use Rattle.ffv1_hold.proofs.BodyTexts.{same_body, body_cut, body_none}
 use Rattle.ffv1_hold.proofs.HeldEntries.{are_entries}
-use Rattle.ffv1_hold.proofs.TextLaws.{entries_after, none_after, AreFitting, fitting_all, fitting_items, same_sized, same_head, after_magic, head_parts, sized_parts, text_parts}
+use Rattle.ffv1_hold.proofs.TextLaws.{short_reel, entries_after, none_after, AreFitting, fitting_all, fitting_items, same_sized, same_head, after_magic, head_parts, sized_parts, text_parts}
 
 -- ---- entries after a last one
 
@@ -21,22 +21,22 @@ pub last_of-none : (es : List FileEntry) → last_of es ≡ last_from None es
 last_of-none [] = refl
 last_of-none (e ∷ es) = last_of-from e es
 
-module _ (v : Version) (setup : SetupValue) where
+module _ (v : Version) (rules : TileRules) where
   -- slices of their tiles, each after the one before it
   abbrev pub AreValid : Option FileEntry → List FileEntry → Type 0
   AreValid last [] = Unit {0}
-  AreValid last (e ∷ es) = (IsFileEntryOf v setup e × Follows last e.0) × AreValid (Some e) es
+  AreValid last (e ∷ es) = (IsFileEntryOf v rules e × Follows last e.0) × AreValid (Some e) es
 
-  valid_after : (x : FileEntry) (es : List FileEntry) → IsRising file_entry_cmp (x ∷ es) → AllByRecursion (IsFileEntryOf v setup) es → AreValid (Some x) es
+  valid_after : (x : FileEntry) (es : List FileEntry) → IsRising file_entry_cmp (x ∷ es) → AllByRecursion (IsFileEntryOf v rules) es → AreValid (Some x) es
   valid_after x [] up each = tt
   valid_after x (e ∷ es) up each =
       ((each.0, up 0 1 e (omega arith) (omega arith)), valid_after e es (rising_rest file_entry_cmp x (e ∷ es) up) each.1)
 
-  valid : (es : List FileEntry) → IsRising file_entry_cmp es → AllByRecursion (IsFileEntryOf v setup) es → AreValid None es
+  valid : (es : List FileEntry) → IsRising file_entry_cmp es → AllByRecursion (IsFileEntryOf v rules) es → AreValid None es
   valid [] up each = tt
   valid (e ∷ es) up each = ((each.0, tt), valid_after e es up each.1)
 
-  pub valid_list : (es : List FileEntry) → AreEntries v setup es → AreValid None es
+  pub valid_list : (es : List FileEntry) → AreEntries v rules es → AreValid None es
   valid_list es all = valid es all.rising all.each
 
   -- ---- what shows a fault, by its kind
@@ -45,9 +45,9 @@ module _ (v : Version) (setup : SetupValue) where
   ShowsTag f s = (tag : ℕ) × (f ≡ faults.Tag) × (s ≡ tag ∷ []) × (1 < tag)
 
   abbrev pub ShowsBody : Option FileEntry → HoldFileFault → List ℕ → Type 0
-  ShowsBody last f s = (body : List ℕ) × (s ≡ 1 ∷ body) × BodyShows v setup last f body
+  ShowsBody last f s = (body : List ℕ) × (s ≡ 1 ∷ body) × BodyShows v rules last f body
 
-  pub entry_kinds : (last : Option FileEntry) (f : HoldFileFault) (s : List ℕ) → EntryShows v setup last f s → ShowsTag f s ⊎ ShowsBody last f s
+  pub entry_kinds : (last : Option FileEntry) (f : HoldFileFault) (s : List ℕ) → EntryShows v rules last f s → ShowsTag f s ⊎ ShowsBody last f s
   entry_kinds last faults.Tag s shown = inl (shown.0, refl, shown.1, shown.2)
   entry_kinds last faults.TooLong s shown = inr shown
   entry_kinds last faults.NotASlice s shown = inr shown
@@ -62,26 +62,26 @@ module _ (v : Version) (setup : SetupValue) where
   entry_kinds last faults.OtherReel s shown = inr shown
 
   -- an entry that is right shows no fault
-  pub right_none : (last : Option FileEntry) (e : FileEntry) (x y : List ℕ) → IsFileEntryOf v setup e → HasText v e → Follows last e.0 → (f : HoldFileFault)
-      (s : List ℕ) → 1 ∷ (body_text v e ++ x) ≡ s ++ y → EntryShows v setup last f s → ⊥
+  pub right_none : (last : Option FileEntry) (e : FileEntry) (x y : List ℕ) → IsFileEntryOf v rules e → HasText v e → Follows last e.0 → (f : HoldFileFault)
+      (s : List ℕ) → 1 ∷ (body_text v e ++ x) ≡ s ++ y → EntryShows v rules last f s → ⊥
   right_none last e x y is has follows f s same shown = elim (entry_kinds last f s shown) [
     | inl w ↦ no_tag (body_text v e ++ x) y 1 w.0 (same ∙ ap (λ q. q ++ y) w.2) (λ e. let over = w.3 in omega arith)
-    | inr w ↦ body_none v setup last e x y (is.slice, follows, has.0) is.origins f w.0 (rest_same _ _ 1 1 (same ∙ ap (λ q. q ++ y) w.1)) w.2
+    | inr w ↦ body_none v rules last e x y (is.slice, follows, has.0) is.origins f w.0 (rest_same _ _ 1 1 (same ∙ ap (λ q. q ++ y) w.1)) w.2
   ]
 
   -- the end tag shows none
-  end_none : (last : Option FileEntry) (x y : List ℕ) (f : HoldFileFault) (s : List ℕ) → 0 ∷ x ≡ s ++ y → EntryShows v setup last f s → ⊥
+  end_none : (last : Option FileEntry) (x y : List ℕ) (f : HoldFileFault) (s : List ℕ) → 0 ∷ x ≡ s ++ y → EntryShows v rules last f s → ⊥
   end_none last x y f s same shown = grind (arith, entry_kinds, no_tag)
 
   shows_none : (last : Option FileEntry) (es : List FileEntry) (x y : List ℕ) → AreValid last es → AreFitting v es → (fault : HoldFileFault) (s : List ℕ)
-      → entries_text v es ++ 0 ∷ x ≡ s ++ y → EntryShows v setup last fault s → ⊥
+      → entries_text v es ++ 0 ∷ x ≡ s ++ y → EntryShows v rules last fault s → ⊥
   shows_none last [] x y all fit fault s same shown = end_none last x y fault s (sym (none_after v (0 ∷ x)) ∙ same) shown
   shows_none last (e ∷ es) x y all fit fault s same shown =
       right_none last e (entries_text v es ++ 0 ∷ x) y all.0.0 fit.0 all.0.1 fault s (sym (entries_after v e es (0 ∷ x)) ∙ same) shown
 
   -- after entries that both begin with
   entries_none : (last : Option FileEntry) (es fs : List FileEntry) (x y : List ℕ) → AreValid last es → AreFitting v es → AreFitting v fs
-      → (fault : HoldFileFault) (s : List ℕ) → entries_text v es ++ 0 ∷ x ≡ (entries_text v fs ++ s) ++ y → EntryShows v setup (last_from last fs) fault s → ⊥
+      → (fault : HoldFileFault) (s : List ℕ) → entries_text v es ++ 0 ∷ x ≡ (entries_text v fs ++ s) ++ y → EntryShows v rules (last_from last fs) fault s → ⊥
   entries_none last es [] x y all fit fs_fit fault s same shown = shows_none last es x y all fit fault s (same ∙ ap (λ z. z ++ y) (none_after v s)) shown
   entries_none last [] (f ∷ fs) x y all fit fs_fit fault s same shown = grind (arith, no_tag, none_after, entries_after)
   entries_none last (e ∷ es) (f ∷ fs) x y all fit fs_fit fault s same shown =
@@ -90,27 +90,27 @@ module _ (v : Version) (setup : SetupValue) where
       let apart = bodies ∙ append_assoc (body_text v f) (entries_text v fs ++ s) y in
       let one = same_body v e f (entries_text v es ++ 0 ∷ x) ((entries_text v fs ++ s) ++ y) fit.0 fs_fit.0 apart in
       entries_none (Some e) es fs x y all.1 fit.1 fs_fit.1 fault s one.1
-      (subst (λ (g : FileEntry). EntryShows v setup (last_from (Some g) fs) fault s) (sym one.0) shown)
+      (subst (λ (g : FileEntry). EntryShows v rules (last_from (Some g) fs) fault s) (sym one.0) shown)
 
   -- what is after a tag 1 in a part of an entry
-  pub part_after : (last : Option FileEntry) (body : List ℕ) → IsPartOfEntry v setup last (1 ∷ body) → IsPartOfBody v setup last body
+  pub part_after : (last : Option FileEntry) (body : List ℕ) → IsPartOfEntry v rules last (1 ∷ body) → IsPartOfBody v rules last body
   part_after last body (inl none) = let long = ap length none in absurd (omega arith)
-  part_after last body (inr (other, is, part)) = subst (IsPartOfBody v setup last) (sym (rest_same body other 1 1 is)) part
+  part_after last body (inr (other, is, part)) = subst (IsPartOfBody v rules last) (sym (rest_same body other 1 1 is)) part
 
-  pub part_tag : (last : Option FileEntry) (tag : ℕ) (y : List ℕ) → IsPartOfEntry v setup last (tag ∷ y) → tag ≡ 1
+  pub part_tag : (last : Option FileEntry) (tag : ℕ) (y : List ℕ) → IsPartOfEntry v rules last (tag ∷ y) → tag ≡ 1
   part_tag last tag y (inl none) = let long = ap length none in absurd (omega arith)
   part_tag last tag y (inr (body, is, part)) = ap (λ xs. get_or xs 0 0) is
 
   -- entries and the end tag are no part of an entry
-  part_none : (last : Option FileEntry) (es : List FileEntry) (x s : List ℕ) → AreFitting v es → entries_text v es ++ 0 ∷ x ≡ s → IsPartOfEntry v setup last s
+  part_none : (last : Option FileEntry) (es : List FileEntry) (x s : List ℕ) → AreFitting v es → entries_text v es ++ 0 ∷ x ≡ s → IsPartOfEntry v rules last s
       → ⊥
   part_none last [] x s fit same part = grind (arith, part_tag, none_after)
   part_none last (e ∷ es) x s fit same part =
-      body_cut v setup last e (entries_text v es ++ 0 ∷ x) fit.0
-      (part_after last _ (subst (IsPartOfEntry v setup last) (sym same ∙ entries_after v e es (0 ∷ x)) part))
+      body_cut v rules last e (entries_text v es ++ 0 ∷ x) fit.0
+      (part_after last _ (subst (IsPartOfEntry v rules last) (sym same ∙ entries_after v e es (0 ∷ x)) part))
 
   entries_whole : (last : Option FileEntry) (es fs : List FileEntry) (x s : List ℕ) → AreFitting v es → AreFitting v fs
-      → entries_text v es ++ 0 ∷ x ≡ entries_text v fs ++ s → IsPartOfEntry v setup last s → ⊥
+      → entries_text v es ++ 0 ∷ x ≡ entries_text v fs ++ s → IsPartOfEntry v rules last s → ⊥
   entries_whole last es [] x s fit fs_fit same part = part_none last es x s fit (same ∙ none_after v s) part
   entries_whole last [] (f ∷ fs) x s fit fs_fit same part = grind (arith, no_tag, none_after, entries_after)
   entries_whole last (e ∷ es) (f ∷ fs) x s fit fs_fit same part =
@@ -139,7 +139,7 @@ magic_none v z y s faults.OtherReel same shown = shown
 
 module _ (r : Reel) (is : IsFileReel r) (x y : List ℕ) where
   small : (r.setup.width < 2 ^ 32) × (r.setup.height < 2 ^ 32)
-  small = setup_small r.config r.setup.width r.setup.height r.setup is.reel
+  small = reel_small r is.reel
 
   pub reel_none : (fault : HoldFileFault) (s : List ℕ) → sized_record r.config r.setup.width r.setup.height ++ x ≡ s ++ y → ReelShows fault s → ⊥
   reel_none faults.TooLong s same shown = grind (arith, sized_parts, append_assoc, after_number, number_same)
@@ -149,9 +149,10 @@ module _ (r : Reel) (is : IsFileReel r) (x y : List ℕ) where
       let h = shown.2 in
       let parts = same_sized r.config config r.setup.width r.setup.height w h x y is.fits shown.4 small.0 small.1 shown.5 shown.6
       (same ∙ ap (λ z. z ++ y) shown.3) in
+      let own : IsSetupOf r.config r.setup.width r.setup.height r.setup = (profile_reel r is.reel is.profile).0 in
       let moved : IsSetupOf config w h r.setup =
       subst (λ c. IsSetupOf c w h r.setup) parts.config (subst (λ v. IsSetupOf r.config v h r.setup) parts.width
-      (subst (λ k. IsSetupOf r.config r.setup.width k r.setup) parts.height is.reel)) in
+      (subst (λ k. IsSetupOf r.config r.setup.width k r.setup) parts.height own)) in
       no_setup_fault config w h r.setup f moved shown.7
   reel_none faults.Magic s same shown = shown
   reel_none faults.Truncated s same shown = shown
@@ -169,15 +170,16 @@ pub sized_cut : (config : List ℕ) (width height : ℕ) (x : List ℕ) → leng
 sized_cut config width height x fits (inl short) = grind (arith, sized_parts, length-append, length-be4)
 sized_cut config width height x fits (inr part) = grind (arith, sized_parts, append_assoc, after_number, number_same, length-append)
 
-module _ (v : Version) (h : Contents) (is : IsHolding h) (fits : length h.reel.config ≤ record_limit) (stated : IsStated v h) where
+module _ (v : Version) (h : Contents) (is : IsHolding h) (fits : length h.reel.config ≤ record_limit) (profile : h.reel.rules.is_profile ≡ true)
+    (stated : IsStated v h) where
   abbrev es : List FileEntry
   es = file_entries h
 
   file_reel : IsFileReel h.reel
-  file_reel = record { reel = is.reel; fits = fits }
+  file_reel = record { reel = is.reel; profile = profile; fits = fits }
 
-  all_valid : AreValid v h.reel.setup None es
-  all_valid = valid_list v h.reel.setup es (are_entries v h is stated)
+  all_valid : AreValid v h.reel.rules None es
+  all_valid = valid_list v h.reel.rules es (are_entries v h is stated)
 
   all_fit : AreFitting v es
   all_fit = fitting_items v h is stated
@@ -197,15 +199,15 @@ module _ (v : Version) (h : Contents) (is : IsHolding h) (fits : length h.reel.c
       reel_none h.reel file_reel (entries_text v es ++ 0 ∷ z) rest fault s
       (after_magic v w _ _ (sym (from_magic z) ∙ same ∙ ap (λ t. t ++ rest) split ∙ append_assoc (magic w) s rest)) shown
   text_none z seen rest fault same (inr (inr (w, r, s, r_is, split, (fs, t, entries, inner, shown)))) =
-      let heads = same_head v w h.reel r (entries_text v es ++ 0 ∷ z) (s ++ rest) file_reel r_is (sym (text_before z) ∙ same
+      let heads = same_head v w h.reel r (entries_text v es ++ 0 ∷ z) (s ++ rest) (short_reel h.reel file_reel) (short_reel r r_is) (sym (text_before z) ∙ same
       ∙ ap (λ t. t ++ rest) split ∙ append_assoc (head_text w r) s rest) in
-      let setup = ap (λ (x : Reel). x.setup) heads.1 in
-      let entries_v = subst (λ (u : Version). AreEntries u r.setup fs) (sym heads.0) entries in
-      entries_none v h.reel.setup None es fs z rest all_valid all_fit (fitting_all v r r_is.reel fs entries_v.each) fault t
+      let rules = ap (λ (x : Reel). x.rules) heads.1 in
+      let entries_v = subst (λ (u : Version). AreEntries u r.rules fs) (sym heads.0) entries in
+      entries_none v h.reel.rules None es fs z rest all_valid all_fit (fitting_all v r r_is.reel fs entries_v.each) fault t
       (heads.2 ∙ ap (λ t. t ++ rest) inner ∙ ap (λ (u : Version). (entries_text u fs ++ t) ++ rest) (sym heads.0))
-      (subst (λ (l : Option FileEntry). EntryShows v h.reel.setup l fault t) (last_of-none fs)
-      (subst (λ (x : SetupValue). EntryShows v x (last_of fs) fault t) (sym setup)
-      (subst (λ (u : Version). EntryShows u r.setup (last_of fs) fault t) (sym heads.0) shown)))
+      (subst (λ (l : Option FileEntry). EntryShows v h.reel.rules l fault t) (last_of-none fs)
+      (subst (λ (x : TileRules). EntryShows v x (last_of fs) fault t) (sym rules)
+      (subst (λ (u : Version). EntryShows u r.rules (last_of fs) fault t) (sym heads.0) shown)))
 
   -- and no text begins what is unfinished
   pub text_whole : (z : List ℕ) → IsPartOfFile (file_text v h ++ z) → ⊥
@@ -214,8 +216,8 @@ module _ (v : Version) (h : Contents) (is : IsHolding h) (fits : length h.reel.c
       sized_cut h.reel.config h.reel.setup.width h.reel.setup.height (entries_text v es ++ 0 ∷ z) fits
       (subst IsPartOfReel (sym (after_magic v w _ _ (sym (from_magic z) ∙ split))) part)
   text_whole z (inr (inr (w, r, s, r_is, split, (fs, t, entries, inner, part)))) =
-      let heads = same_head v w h.reel r (entries_text v es ++ 0 ∷ z) s file_reel r_is (sym (text_before z) ∙ split) in
-      let entries_v = subst (λ (u : Version). AreEntries u r.setup fs) (sym heads.0) entries in
-      entries_whole v r.setup (last_of fs) es fs z t all_fit (fitting_all v r r_is.reel fs entries_v.each)
+      let heads = same_head v w h.reel r (entries_text v es ++ 0 ∷ z) s (short_reel h.reel file_reel) (short_reel r r_is) (sym (text_before z) ∙ split) in
+      let entries_v = subst (λ (u : Version). AreEntries u r.rules fs) (sym heads.0) entries in
+      entries_whole v r.rules (last_of fs) es fs z t all_fit (fitting_all v r r_is.reel fs entries_v.each)
       (heads.2 ∙ inner ∙ ap (λ (u : Version). entries_text u fs ++ t) (sym heads.0))
-      (subst (λ (u : Version). IsPartOfEntry u r.setup (last_of fs) t) (sym heads.0) part)
+      (subst (λ (u : Version). IsPartOfEntry u r.rules (last_of fs) t) (sym heads.0) part)

@@ -1,5 +1,5 @@
 -- The parts of the size and the record.
-use Rattle.ffv1_hold.proofs.Common.{◌≡◌, ℕ, ◌<◌, ◌≤◌, List, [], ◌∷◌, ◌++◌, length, take, get_or, Option, Result, Ok, Err, IfOk, IfErr, arith, inl, inr, refl, sym, ap, ◌∙◌, subst, append_assoc, append-nil, length-append, length-take-le, take-suc, take-append-le, ◌⊎◌, record_limit, SetupFault, FirstSetupFault, HoldFileFault, Reel, Version, First, Second, name, magic, be4, sized_record, head_text, entries_text, file_entries, IsStated, Contents, IsHolding, ReadLog, Refuses, TakesText, ReadsText, AreEntries, VersionShows, IsFileReel, IsPartOfMagic, IsHoldingText, IsPartOfReel, ReelIsWhole, FileIsWhole, ReelShows, IsPartOfEntries, EntriesShow, IsPartOfFile, MagicShows, FileShows, EntriesAreWhole, IsPartOfHead, HeadIsWhole, HeadShows}
+use Rattle.ffv1_hold.proofs.Common.{◌≡◌, ℕ, ◌<◌, ◌≤◌, List, [], ◌∷◌, ◌++◌, length, take, get_or, Option, Result, Ok, Err, IfOk, IfErr, arith, inl, inr, refl, sym, ap, ◌∙◌, subst, append_assoc, append-nil, length-append, length-take-le, take-suc, take-append-le, ◌⊎◌, record_limit, SetupFault, FirstSetupFault, HoldFileFault, Reel, Version, First, Second, name, magic, be4, sized_record, head_text, entries_text, file_entries, IsStated, Contents, IsHolding, ReadLog, Refuses, TakesText, ReadsText, AreEntries, VersionShows, IsFileReel, IsPartOfMagic, IsHoldingText, IsPartOfReel, ReelIsWhole, FileIsWhole, ReelShows, IsPartOfEntries, EntriesShow, IsPartOfFile, MagicShows, FileShows, EntriesAreWhole, IsPartOfHead, HeadIsWhole, HeadShows, true}
 use Rattle.ffv1_range.specs.declared.fault.SetupFault.TheVariants.{Memory as no_memory}
 use Rattle.ffv1_hold.specs.declared.file_fault.HoldFileFault.TheVariants as faults
 use Rattle.ffv1_hold.proofs.Bodies.{length-be4}
@@ -101,6 +101,7 @@ text_of v r is s (h, tag, holding, stated, reel, same, end) = (
     ap (λ (x : Reel). head_text v x ++ s) (sym reel)
         ∙ ap (λ t. head_text v h.reel ++ t) (same ∙ ap (λ t. entries_text v (file_entries h) ++ t) end)
         ∙ sym (append_assoc (head_text v h.reel) (entries_text v (file_entries h)) (0 ∷ [])),
+    subst (λ (x : Reel). x.rules.is_profile ≡ true) (sym reel) is.profile,
   ),
 )
 
@@ -119,10 +120,10 @@ file_from_whole_entries v r is faults.Memory s w = absurd w.6
 file_from_whole_entries v r is faults.TooLong s w = absurd w.6
 file_from_whole_entries v r is faults.OtherReel s w = absurd w.6
 
-pub file_from_entries_part : (v : Version) (r : Reel) → IsFileReel r → (s : List ℕ) → IsPartOfEntries v r.setup s → IsPartOfFile (head_text v r ++ s)
+pub file_from_entries_part : (v : Version) (r : Reel) → IsFileReel r → (s : List ℕ) → IsPartOfEntries v r.rules s → IsPartOfFile (head_text v r ++ s)
 file_from_entries_part v r i s h = inr (inr (v, r, s, i, refl, h))
 
-pub file_from_entries_fault : (v : Version) (r : Reel) → IsFileReel r → (f : HoldFileFault) (s : List ℕ) → EntriesShow v r.setup f s
+pub file_from_entries_fault : (v : Version) (r : Reel) → IsFileReel r → (f : HoldFileFault) (s : List ℕ) → EntriesShow v r.rules f s
     → FileShows f (head_text v r ++ s)
 file_from_entries_fault v r i f s h = inr (inr (v, r, s, i, refl, h))
 
@@ -130,7 +131,7 @@ file_from_entries_fault v r i f s h = inr (inr (v, r, s, i, refl, h))
 pub head_is_part : (v : Version) (r : Reel) → IsFileReel r → IsPartOfFile (head_text v r)
 unfolding entries_text
 head_is_part v r is =
-    let none : AreEntries v r.setup [] = record { each = tt; rising = λ i j d lt short. absurd (omega arith) } in
+    let none : AreEntries v r.rules [] = record { each = tt; rising = λ i j d lt short. absurd (omega arith) } in
     inr (inr (v, r, [], is, sym (append-nil (head_text v r)), ([], [], none, refl, inl refl)))
 
 -- a size and a record that were read, or refused, after the magic

@@ -109,10 +109,10 @@ module _ (h : Contents) (e : Entry) (ds : List (List ℕ)) where
         apart q held = false_from_ne_true (eq_by_cmp entry_cmp q e) (λ tie. true≢false (sym held ∙ ap (set.contains h.slices) (entry_tie q e tie) ∙ new_slice))
 
   -- it is a holding
-  pub holding-with_entry : IsHolding h → IsEntryOf h.reel.setup e → AllByRecursion IsDigest ds → IsHolding (with_entry h e ds)
+  pub holding-with_entry : IsHolding h → IsEntryOf h.reel.rules e → AllByRecursion IsDigest ds → IsHolding (with_entry h e ds)
   holding-with_entry is entry each = record {
     reel = is.reel;
-    slices = all-insert entries_total entries_antisymmetric (IsEntryOf h.reel.setup) h.slices e is.slices entry;
+    slices = all-insert entries_total entries_antisymmetric (IsEntryOf h.reel.rules) h.slices e is.slices entry;
     origins_held = held_each h.slices h.origins e ds is.origins_held;
     digests_whole = whole_each h.slices h.origins e ds is.digests_whole (at_place IsDigest ds each);
   }
@@ -126,8 +126,8 @@ module _ (h : Contents) (e : Entry) (ds : List (List ℕ)) where
 pub holding-joined : (g h : Contents) → IsSameReel g h → IsHolding g → IsHolding h → IsHolding (joined g h)
 holding-joined g h same g_is h_is = record {
   reel = g_is.reel;
-  slices = all-union entries_total entries_antisymmetric (IsEntryOf g.reel.setup) g.slices h.slices g_is.slices
-      (λ q held. subst (λ (r : Reel). IsEntryOf r.setup q) (sym same) (h_is.slices q held));
+  slices = all-union entries_total entries_antisymmetric (IsEntryOf g.reel.rules) g.slices h.slices g_is.slices
+      (λ q held. subst (λ (r : Reel). IsEntryOf r.rules q) (sym same) (h_is.slices q held));
   origins_held = held_union g.slices h.slices g.origins h.origins g_is.origins_held h_is.origins_held;
   digests_whole = whole_union g.origins h.origins g_is.digests_whole h_is.digests_whole;
 }
@@ -146,7 +146,7 @@ stated_digests First h is was q held = same_digests _ [] (digests_rise h.origins
     (λ d. has-digests_in h.origins q d ∙ ap (λ s. set.contains s (q, d)) was ∙ set.contains-empty origin_cmp (q, d))
 stated_digests Second h is was q held = (origins-digests_of h is q, was q held)
 
-pub are_entries : (v : Version) (h : Contents) → IsHolding h → IsStated v h → AreEntries v h.reel.setup (file_entries h)
+pub are_entries : (v : Version) (h : Contents) → IsHolding h → IsStated v h → AreEntries v h.reel.rules (file_entries h)
 unfolding file_entries
 are_entries v h is was = record {
   each = each (set.items h.slices) (λ i d lt. contains_item entries_total h.slices i d lt);
@@ -160,7 +160,7 @@ are_entries v h is was = record {
 }
   where
     each : (xs : List Entry) → ((i : ℕ) (d : Entry) → i < length xs → set.contains h.slices (get_or xs i d) ≡ true)
-        → AllByRecursion (IsFileEntryOf v h.reel.setup) (map (stated (digests_of h)) xs)
+        → AllByRecursion (IsFileEntryOf v h.reel.rules) (map (stated (digests_of h)) xs)
     each [] held = tt
     each (x ∷ xs) held = (
       record { slice = is.slices x (held 0 x (omega arith)); origins = stated_digests v h is was x (held 0 x (omega arith)) },

@@ -3,7 +3,7 @@ use Rattle.ffv1_hold.proofs.Common.{◌≡◌, ℕ, suc, ◌+◌, ◌<◌, ◌�
 use Rattle.ffv1_holding.specs.Sets as set
 use Rattle.ffv1_hold.proofs.NumberTexts.{no_tag, rest_same}
 use Rattle.ffv1_hold.proofs.BodyTexts.{same_body}
-use Rattle.ffv1_hold.proofs.TextLaws.{entries_after, none_after, AreFitting, fitting_all, fitting_items, same_head, text_parts}
+use Rattle.ffv1_hold.proofs.TextLaws.{short_reel, entries_after, none_after, AreFitting, fitting_all, fitting_items, same_head, text_parts}
 use Rattle.ffv1_hold.proofs.Slots.{entries_text-split, entries_text-cons, entries_text-none}
 use Rattle.ffv1_hold.proofs.Returned.{taken_front}
 use Rattle.ffv1_hold.proofs.TileTexts.{own}
@@ -95,7 +95,7 @@ module _ (v : Version) where
   ends_before : (r : Reel) → IsReel r → (rs : List FileEntry) → AreFitting v rs → (middle : List FileEntry) (first : FileEntry) (after : List FileEntry)
       → rs ≡ middle ++ first ∷ after
       → (more rest : List ℕ) → entries_text v rs ++ 0 ∷ [] ≡ more ++ rest → (more ≡ []) ⊎ ((next : Option FileEntry) × (more ≡ next_text v next)
-      × IfSome next (IsFileEntryOf v r.setup))
+      × IfSome next (IsFileEntryOf v r.rules))
       → length more ≤ length (entries_text v (middle ++ first ∷ []))
   ends_before r is rs fit middle first after split more rest same (inl none) = omega (arith, ap length none)
   ends_before r is rs fit middle first after split more rest same (inr (None, is_end, entry)) = grind (arith, end_before)
@@ -125,7 +125,7 @@ module _ (v w : Version) (h : Contents) (r : Reel) (is : IsFileReel r) (old new 
   front = grind (arith, taken_front)
 
   heads : (v ≡ w) × (h.reel ≡ r) × (entries_text v (file_entries h) ++ 0 ∷ [] ≡ entries_text w (file_entries some) ++ (more ++ front.0))
-  heads = same_head v w h.reel r _ _ (record { reel = file.well_formed.reel; fits = file.fits.record' }) is
+  heads = same_head v w h.reel r _ _ (record { reel = file.well_formed.reel; fits = file.fits.record' }) (short_reel r is)
       (sym (text_parts v h) ∙ front.1 ∙ append_assoc (begun_text w some) more front.0
       ∙ append_assoc (head_text w r) (entries_text w (file_entries some)) (more ++ front.0))
 

@@ -2,7 +2,7 @@
 use Rattle.ffv1_hold.proofs.Common.{◌≡◌, ℕ, ◌<◌, List, [], ◌∷◌, ◌++◌, length, Option, Some, None, Result, Ok, Err, IfErr, OnOk, IsErrOf, rules, refl, sym, ap, ◌∙◌, subst, inl, inr, arith, append_assoc, length-append, ◌⊎◌, Consumes, Appends, Consumes-nil, Appends-nil, file_limit, Version, Reel, Contents, IsSameReel, joined, HoldFileFault, magic, head_text, entries_text, begun_text, file_entries, file_text, holding_text, IsStated, Refuses, StopsIn, IsFileReel, IsPartOfReel, IsOutside, IsPartOfHead, HeadIsWhole, HeadShows, Inputs, IsFileOf, IsFileOfSome, StreamBegins, BeginsWithHead, InputRefuses, ShowsNoFault, BothRefuse, MergeRefuses, EntriesPass, UnionPasses, ReadsPart, ReadsAll, ReadsOtherHeads, WritesUnion, ReturnsUnion, ReturnsOther, WritesNoEnd, StaysInReadLimit, Facts, both, HeadsRefuse, StopsAtWrite, Stops, MergeIsRefused, part}
 use Rattle.ffv1_hold.specs.declared.file_fault.HoldFileFault.TheVariants as faults
 use Rattle.ffv1_hold.proofs.Bodies.{length-be4}
-use Rattle.ffv1_hold.proofs.TextLaws.{same_head, head_parts, after_magic, text_parts, one_file, fitting_items}
+use Rattle.ffv1_hold.proofs.TextLaws.{short_reel, same_head, head_parts, after_magic, text_parts, one_file, fitting_items}
 use Rattle.ffv1_hold.proofs.HeldEntries.{holding-joined}
 use Rattle.ffv1_hold.proofs.FaultLaws.{magic_none, reel_none, sized_cut}
 use Rattle.ffv1_hold.proofs.Returned.{taken_front, taken_all, refused_outside}
@@ -59,7 +59,7 @@ one_head : (input : Option (List ℕ)) (v : Version) (r q : Reel) → IsFileReel
 one_head None v r q is begins head = absurd (cc)
 one_head (Some xs) v r q is begins head =
     let same : xs ≡ head_text head.version q ++ head.rest = cc in
-    (same_head v head.version r q begins.0 head.rest is head.is (sym begins.1 ∙ same)).1
+    (same_head v head.version r q begins.0 head.rest (short_reel r is) (short_reel q head.is) (sym begins.1 ∙ same)).1
 
 head_refused : (old new : Option (List ℕ)) (g : Reel) (f : HoldFileFault) → BeginsWithHead old g
     → Refuses IsPartOfHead HeadIsWhole HeadShows old new 0 f → IsOutside f
@@ -74,7 +74,7 @@ module _ (i : Inputs) (w v : Option (List ℕ)) (g h : Reel) (left : BeginsWithH
       absurd (other (sym (one_head _ s.left_version s.reel g s.is s.left_head left) ∙ one_head _ s.right_version s.reel h s.is s.right_head right))
 
   file_reel : (old new : Option (List ℕ)) (x : Contents) → ReadsAll old new x → IsFileReel x.reel
-  file_reel old new x a = record { reel = a.well_formed.reel; fits = a.file.fits.record' }
+  file_reel old new x a = record { reel = a.well_formed.reel; profile = a.file.fits.profile; fits = a.file.fits.record' }
 
   other_written : WritesUnion i w v → ⊥
   other_written u =
@@ -139,7 +139,7 @@ module _ (i : Inputs) (a b : Option (List ℕ)) (v w : Version) (g h : Contents)
   heads_same : ReadsOtherHeads i → ⊥
   heads_same o =
       let head : (old : Option (List ℕ)) (u : Version) (x : Contents) → IsFileOf old u x → BeginsWithHead old x.reel = λ old u x file. record {
-        is = record { reel = file.well_formed.reel; fits = file.fits.record' };
+        is = record { reel = file.well_formed.reel; profile = file.fits.profile; fits = file.fits.record' };
         version = u;
         rest = entries_text u (file_entries x) ++ 0 ∷ [];
         split = file.text ∙ ap Some (text_parts u x);

@@ -1,5 +1,5 @@
 -- Where joining two files stands before the first entries, and after the last ones.
-use Rattle.ffv1_hold.proofs.Common.{◌≡◌, ℕ, ◌+◌, ◌≤◌, List, [], ◌∷◌, ◌++◌, length, Option, Some, None, IfSome, IfNone, refl, sym, ap, ◌∙◌, subst, inl, inr, arith, append-nil, length-append, Consumes, Appends, IsAtEnd, AllByRecursion, Appends-trans, file_limit, SetupValue, WritesFront, front-append, front-after, entries_total, entries_antisymmetric, origins_total, origins_antisymmetric, Reel, Contents, IsHolding, HoldFileFault, Version, Second, FileEntry, head_text, begun_text, file_text, holding_text, IsStated, Takes, Refuses, last_of, Follows, IsFileEntryOf, next_text, IsFileReel, IsPartOfEntry, EntryShows, EndIsWhole, LiesWhole, AreAllDigests, StreamBegins, InputRefuses, OneRefuses, ShowsNoFault, ReadsAll, ReadsPart, ReadsSoFar, UnionPasses, WritesUnion, WritesAtMost, Start, inputs_from, Facts, part, no_facts, both, FollowsAll, IsPassed, IsReadUpTo, ReadsToNext, IsOpened, Stands, Stops, Ends}
+use Rattle.ffv1_hold.proofs.Common.{◌≡◌, ℕ, ◌+◌, ◌≤◌, List, [], ◌∷◌, ◌++◌, length, Option, Some, None, IfSome, IfNone, refl, sym, ap, ◌∙◌, subst, inl, inr, arith, append-nil, length-append, Consumes, Appends, IsAtEnd, AllByRecursion, Appends-trans, file_limit, TileRules, WritesFront, front-append, front-after, entries_total, entries_antisymmetric, origins_total, origins_antisymmetric, Reel, Contents, IsHolding, HoldFileFault, Version, Second, FileEntry, head_text, begun_text, file_text, holding_text, IsStated, Takes, Refuses, last_of, Follows, IsFileEntryOf, next_text, IsFileReel, IsPartOfEntry, EntryShows, EndIsWhole, LiesWhole, AreAllDigests, StreamBegins, InputRefuses, OneRefuses, ShowsNoFault, ReadsAll, ReadsPart, ReadsSoFar, UnionPasses, WritesUnion, WritesAtMost, Start, inputs_from, Facts, part, no_facts, both, FollowsAll, IsPassed, IsReadUpTo, ReadsToNext, IsOpened, Stands, Stops, Ends}
 use Rattle.ffv1_holding.specs.Sets as set
 use Rattle.ffv1_hold.specs.declared.file_fault.HoldFileFault.TheVariants as faults
 use Rattle.ffv1_hold.proofs.Slots.{entries_text-none, length-head_text}
@@ -30,19 +30,19 @@ first_passed old new v r place is t = record {
 }
 
 -- the head was read, and the first entry or the end after it
-pub head_held : (old now new : Option (List ℕ)) (v w : Version) (r : Reel) (from to : ℕ) (last next : Option FileEntry) (setup : SetupValue) → IsFileReel r
-    → last ≡ None → w ≡ v → setup ≡ r.setup → Takes old now 0 from (head_text v r) → Takes now new from to (next_text w next)
-    → IfSome next (IsFileEntryOf w setup) → IfSome next (λ e. Follows last e.0) → IfNone next (IsAtEnd new) → IsReadUpTo old new v r no_facts to next
-head_held old now new v w r from to last next setup is none version same head text entry follows end =
+pub head_held : (old now new : Option (List ℕ)) (v w : Version) (r : Reel) (from to : ℕ) (last next : Option FileEntry) (rules : TileRules) → IsFileReel r
+    → last ≡ None → w ≡ v → rules ≡ r.rules → Takes old now 0 from (head_text v r) → Takes now new from to (next_text w next)
+    → IfSome next (IsFileEntryOf w rules) → IfSome next (λ e. Follows last e.0) → IfNone next (IsAtEnd new) → IsReadUpTo old new v r no_facts to next
+head_held old now new v w r from to last next rules is none version same head text entry follows end =
     let p = subst (λ (l : Option FileEntry). IsPassed old now v r no_facts from l) (sym none) (first_passed old now v r from is head) in
-    advanced old now new v w r no_facts from to last next setup version same p text entry follows end
+    advanced old now new v w r no_facts from to last next rules version same p text entry follows end
 
 -- the first entry is refused
-pub first_refuses : (old now new : Option (List ℕ)) (v w : Version) (r : Reel) (from : ℕ) (last : Option FileEntry) (setup : SetupValue) (f : HoldFileFault)
-    → last ≡ None → w ≡ v → setup ≡ r.setup → IsFileReel r → Takes old now 0 from (head_text v r)
-    → Refuses (IsPartOfEntry w setup last) EndIsWhole (EntryShows w setup last) now new from f → InputRefuses old new f
-first_refuses old now new v w r from last setup f none version same is head refused =
-    input_refuses old now new v w r no_facts from last setup f version same is
+pub first_refuses : (old now new : Option (List ℕ)) (v w : Version) (r : Reel) (from : ℕ) (last : Option FileEntry) (rules : TileRules) (f : HoldFileFault)
+    → last ≡ None → w ≡ v → rules ≡ r.rules → IsFileReel r → Takes old now 0 from (head_text v r)
+    → Refuses (IsPartOfEntry w rules last) EndIsWhole (EntryShows w rules last) now new from f → InputRefuses old new f
+first_refuses old now new v w r from last rules f none version same is head refused =
+    input_refuses old now new v w r no_facts from last rules f version same is
     (subst (λ (l : Option FileEntry). IsPassed old now v r no_facts from l) (sym none) (first_passed old now v r from is head)) refused
 
 after_none : (r : Reel) (next : Option FileEntry) → FollowsAll r no_facts next
@@ -104,23 +104,23 @@ module _ (s : Start) (q : Reel) (l0 r0 w0 : Option (List ℕ)) (lp rp : ℕ) (o 
   right_shows_none : ShowsNoFault s.right r0
   right_shows_none = passed_shows_none _ _ s.right_version s.reel no_facts rp None o.reel right_first
 
-  setup_is : (setup : SetupValue) → setup ≡ q.setup → setup ≡ s.reel.setup
-  setup_is setup same = same ∙ ap (λ (x : Reel). x.setup) o.same
+  setup_is : (rules : TileRules) → rules ≡ q.rules → rules ≡ s.reel.rules
+  setup_is rules same = same ∙ ap (λ (x : Reel). x.rules) o.same
 
   head_written : (new : Option (List ℕ)) → Appends w0 new (head_text Second q) → Appends s.sink new (head_text Second s.reel)
   head_written new wrote = grind arith
 
-  pub left_held : (l : Option (List ℕ)) (to : ℕ) (last next : Option FileEntry) (w : Version) (setup : SetupValue) → last ≡ None → w ≡ s.left_version
-      → setup ≡ q.setup → Takes l0 l lp to (next_text w next) → IfSome next (IsFileEntryOf w setup) → IfSome next (λ e. Follows last e.0)
+  pub left_held : (l : Option (List ℕ)) (to : ℕ) (last next : Option FileEntry) (w : Version) (rules : TileRules) → last ≡ None → w ≡ s.left_version
+      → rules ≡ q.rules → Takes l0 l lp to (next_text w next) → IfSome next (IsFileEntryOf w rules) → IfSome next (λ e. Follows last e.0)
       → IfNone next (IsAtEnd l) → IsReadUpTo s.left l s.left_version s.reel no_facts to next
-  left_held l to last next w setup none version same text entry follows end =
-      head_held _ _ _ s.left_version w s.reel lp to last next setup o.reel none version (setup_is setup same) o.left_head text entry follows end
+  left_held l to last next w rules none version same text entry follows end =
+      head_held _ _ _ s.left_version w s.reel lp to last next rules o.reel none version (setup_is rules same) o.left_head text entry follows end
 
-  pub right_held : (r : Option (List ℕ)) (to : ℕ) (last next : Option FileEntry) (w : Version) (setup : SetupValue) → last ≡ None → w ≡ s.right_version
-      → setup ≡ q.setup → Takes r0 r rp to (next_text w next) → IfSome next (IsFileEntryOf w setup) → IfSome next (λ e. Follows last e.0)
+  pub right_held : (r : Option (List ℕ)) (to : ℕ) (last next : Option FileEntry) (w : Version) (rules : TileRules) → last ≡ None → w ≡ s.right_version
+      → rules ≡ q.rules → Takes r0 r rp to (next_text w next) → IfSome next (IsFileEntryOf w rules) → IfSome next (λ e. Follows last e.0)
       → IfNone next (IsAtEnd r) → IsReadUpTo s.right r s.right_version s.reel no_facts to next
-  right_held r to last next w setup none version same text entry follows end =
-      head_held _ _ _ s.right_version w s.reel rp to last next setup o.reel none version (setup_is setup same) o.right_head text entry follows end
+  right_held r to last next w rules none version same text entry follows end =
+      head_held _ _ _ s.right_version w s.reel rp to last next rules o.reel none version (setup_is rules same) o.right_head text entry follows end
 
   pub opened_stands : (l r new : Option (List ℕ)) (left_place right_place room : ℕ) (ln rn : Option FileEntry)
       → IsReadUpTo s.left l s.left_version s.reel no_facts left_place ln → IsReadUpTo s.right r s.right_version s.reel no_facts right_place rn
@@ -152,18 +152,18 @@ module _ (s : Start) (q : Reel) (l0 r0 w0 : Option (List ℕ)) (lp rp : ℕ) (o 
       (part_begins _ _ _ left_part) (part_begins _ _ _ right_part) (subst (Appends s.sink new) (sym text) (head_written new wrote))
       (omega (arith, o.reel.fits, ap length text, length-head_text Second s.reel)) f fault
 
-  pub first_left_stops : (l new : Option (List ℕ)) (last : Option FileEntry) (w : Version) (setup : SetupValue) (f : HoldFileFault) → last ≡ None
-      → w ≡ s.left_version → setup ≡ q.setup → Refuses (IsPartOfEntry w setup last) EndIsWhole (EntryShows w setup last) l0 l lp f
+  pub first_left_stops : (l new : Option (List ℕ)) (last : Option FileEntry) (w : Version) (rules : TileRules) (f : HoldFileFault) → last ≡ None
+      → w ≡ s.left_version → rules ≡ q.rules → Refuses (IsPartOfEntry w rules last) EndIsWhole (EntryShows w rules last) l0 l lp f
       → Appends w0 new (head_text Second q) → Stops (inputs_from s l r0) s.sink new f
-  first_left_stops l new last w setup f none version same refused wrote =
-      let input = first_refuses _ _ _ s.left_version w s.reel lp last setup f none version (setup_is setup same) o.reel o.left_head refused in
+  first_left_stops l new last w rules f none version same refused wrote =
+      let input = first_refuses _ _ _ s.left_version w s.reel lp last rules f none version (setup_is rules same) o.reel o.left_head refused in
       first_stops l r0 new f (inl (input, right_shows_none)) wrote
 
-  pub first_right_stops : (l r new : Option (List ℕ)) (to : ℕ) (ln last : Option FileEntry) (w : Version) (setup : SetupValue) (f : HoldFileFault)
-      → last ≡ None → w ≡ s.right_version → setup ≡ q.setup → Refuses (IsPartOfEntry w setup last) EndIsWhole (EntryShows w setup last) r0 r rp f
+  pub first_right_stops : (l r new : Option (List ℕ)) (to : ℕ) (ln last : Option FileEntry) (w : Version) (rules : TileRules) (f : HoldFileFault)
+      → last ≡ None → w ≡ s.right_version → rules ≡ q.rules → Refuses (IsPartOfEntry w rules last) EndIsWhole (EntryShows w rules last) r0 r rp f
       → IsReadUpTo s.left l s.left_version s.reel no_facts to ln → Appends w0 new (head_text Second q) → Stops (inputs_from s l r) s.sink new f
-  first_right_stops l r new to ln last w setup f none version same refused held wrote =
-      let input = first_refuses _ _ _ s.right_version w s.reel rp last setup f none version (setup_is setup same) o.reel o.right_head refused in
+  first_right_stops l r new to ln last w rules f none version same refused held wrote =
+      let input = first_refuses _ _ _ s.right_version w s.reel rp last rules f none version (setup_is rules same) o.reel o.right_head refused in
       first_stops l r new f (inr (input, held_shows_none _ _ s.left_version s.reel no_facts to ln o.reel held)) wrote
 
 -- ---- after the last entries
@@ -200,7 +200,7 @@ module _ (s : Start) (left right sink : Option (List ℕ)) (room : ℕ) (e : End
   whole_shows_none old new x a = record {
     seen = file_text a.file.version (part s.reel x);
     taken = a.file.taken;
-    well_formed = inr (part s.reel x, a.well_formed, a.file.fits.record', (a.file.version, a.file.fits.stated, refl));
+    well_formed = inr (part s.reel x, a.well_formed, a.file.fits.record', (a.file.version, a.file.fits.stated, refl, a.file.fits.profile));
   }
 
   -- there is no room for the end tag
@@ -241,7 +241,7 @@ module _ (s : Start) (left right sink : Option (List ℕ)) (room : ℕ) (e : End
     left = part s.reel e.lefts;
     right = part s.reel e.rights;
     read = e.read;
-    fits = fits_within (part s.reel all) all_well_formed (e.is.fits, omega (arith, e.room_left, some, union_length));
+    fits = fits_within (part s.reel all) all_well_formed e.is.profile (e.is.fits, omega (arith, e.room_left, some, union_length));
     written = Appends-trans s.sink sink new (begun_text Second (part s.reel all)) (0 ∷ []) e.written w;
   }
 

@@ -1,5 +1,5 @@
 -- What one entry more does to where joining two files stands.
-use Rattle.ffv1_hold.proofs.Common.{◌≡◌, ℕ, ◌+◌, ◌<◌, ◌≤◌, List, [], ◌∷◌, ◌++◌, length, Option, Some, None, IfSome, IfNone, refl, sym, ap, ◌∙◌, subst, inl, inr, arith, append_assoc, append-nil, length-append, Ordering, Less, Equal, Greater, Consumes, Appends, IsAtEnd, Appends-trans, record_limit, file_limit, SetupValue, WritesFront, front-append, front-after, Reel, Contents, IsHolding, AreDigests, HoldFileFault, Version, Second, FileEntry, head_text, entry_text, entries_text, begun_text, file_entries, IsStated, Takes, Refuses, last_of, Follows, IsFileEntryOf, next_text, IsFileReel, IsPartOfFile, FileIsWhole, FileShows, IsPartOfEntry, EntryShows, EndIsWhole, ReadsPart, ReadsAll, ReadsSoFar, EntriesPass, InputRefuses, ShowsNoFault, OneRefuses, MergeRefuses, StreamBegins, BeginsWithPart, WritesFrontSoFar, Inputs, WritesNoEnd, WritesAtMost, Start, AreVersions, inputs_from, Facts, part, with_file_entry, both, IsPassed, IsReadUpTo, ReadsToNext, FollowsAll, Stands, Stops, Ends, with_digests, IsTurn, EntryStops, StopsAtWrite}
+use Rattle.ffv1_hold.proofs.Common.{◌≡◌, ℕ, ◌+◌, ◌<◌, ◌≤◌, List, [], ◌∷◌, ◌++◌, length, Option, Some, None, IfSome, IfNone, refl, sym, ap, ◌∙◌, subst, inl, inr, arith, append_assoc, append-nil, length-append, Ordering, Less, Equal, Greater, Consumes, Appends, IsAtEnd, Appends-trans, record_limit, file_limit, TileRules, WritesFront, front-append, front-after, Reel, Contents, IsHolding, AreDigests, HoldFileFault, Version, Second, FileEntry, head_text, entry_text, entries_text, begun_text, file_entries, IsStated, Takes, Refuses, last_of, Follows, IsFileEntryOf, next_text, IsFileReel, IsPartOfFile, FileIsWhole, FileShows, IsPartOfEntry, EntryShows, EndIsWhole, ReadsPart, ReadsAll, ReadsSoFar, EntriesPass, InputRefuses, ShowsNoFault, OneRefuses, MergeRefuses, StreamBegins, BeginsWithPart, WritesFrontSoFar, Inputs, WritesNoEnd, WritesAtMost, Start, AreVersions, inputs_from, Facts, part, with_file_entry, both, IsPassed, IsReadUpTo, ReadsToNext, FollowsAll, Stands, Stops, Ends, with_digests, IsTurn, EntryStops, StopsAtWrite}
 use Rattle.ffv1_hold.specs.declared.file_fault.HoldFileFault.TheVariants as faults
 use Rattle.ffv1_hold.proofs.ReadRefusals.{Takes-trans, Refuses-after}
 use Rattle.ffv1_hold.proofs.Entries.{part_of_entries, entries_show}
@@ -30,14 +30,14 @@ passed old new v r f place e h =
       last' = sym (last-with v r f e h.well_formed digests.rising h.after);
     }
 
-pub advanced : (old now new : Option (List ℕ)) (v w : Version) (r : Reel) (f : Facts) (from to : ℕ) (last next : Option FileEntry) (setup : SetupValue)
-    → w ≡ v → setup ≡ r.setup → IsPassed old now v r f from last → Takes now new from to (next_text w next) → IfSome next (IsFileEntryOf w setup)
+pub advanced : (old now new : Option (List ℕ)) (v w : Version) (r : Reel) (f : Facts) (from to : ℕ) (last next : Option FileEntry) (rules : TileRules)
+    → w ≡ v → rules ≡ r.rules → IsPassed old now v r f from last → Takes now new from to (next_text w next) → IfSome next (IsFileEntryOf w rules)
     → IfSome next (λ e. Follows last e.0) → IfNone next (IsAtEnd new) → IsReadUpTo old new v r f to next
-advanced old now new v w r f from to last next setup version same p text entry follows end = record {
+advanced old now new v w r f from to last next rules version same p text entry follows end = record {
   well_formed = p.well_formed;
   stated = p.stated;
   text = Takes-trans _ _ _ _ _ _ _ _ p.text (subst (λ (u : Version). Takes now new from to (next_text u next)) version text);
-  entry = subst (λ (x : SetupValue). IfSome next (IsFileEntryOf v x)) same (subst (λ (u : Version). IfSome next (IsFileEntryOf u setup)) version entry);
+  entry = subst (λ (x : TileRules). IfSome next (IsFileEntryOf v x)) same (subst (λ (u : Version). IfSome next (IsFileEntryOf u rules)) version entry);
   after = subst (λ (l : Option FileEntry). IfSome next (λ e. Follows l e.0)) p.last' follows;
   at_end = end;
 }
@@ -54,21 +54,21 @@ begun-is_part : (v : Version) (r : Reel) (f : Facts) → IsFileReel r → IsHold
 begun-is_part v r f is well_formed stated = grind (arith, begun-split, append-nil, file_from_entries_part, part_of_entries, are_entries)
 
 -- an entry that is refused is a fault of the file
-pub input_refuses : (old now new : Option (List ℕ)) (v w : Version) (r : Reel) (f : Facts) (place : ℕ) (last : Option FileEntry) (setup : SetupValue)
-    (fault : HoldFileFault) → w ≡ v → setup ≡ r.setup → IsFileReel r → IsPassed old now v r f place last
-    → Refuses (IsPartOfEntry w setup last) EndIsWhole (EntryShows w setup last) now new place fault → InputRefuses old new fault
-input_refuses old now new v w r f place last setup fault version same is p refused =
+pub input_refuses : (old now new : Option (List ℕ)) (v w : Version) (r : Reel) (f : Facts) (place : ℕ) (last : Option FileEntry) (rules : TileRules)
+    (fault : HoldFileFault) → w ≡ v → rules ≡ r.rules → IsFileReel r → IsPassed old now v r f place last
+    → Refuses (IsPartOfEntry w rules last) EndIsWhole (EntryShows w rules last) now new place fault → InputRefuses old new fault
+input_refuses old now new v w r f place last rules fault version same is p refused =
     let es = file_entries (part r f) in
     let entries = are_entries v (part r f) p.well_formed p.stated in
-    Refuses-after (IsPartOfEntry w setup last) IsPartOfFile EndIsWhole FileIsWhole (EntryShows w setup last) FileShows old now new 0 place
+    Refuses-after (IsPartOfEntry w rules last) IsPartOfFile EndIsWhole FileIsWhole (EntryShows w rules last) FileShows old now new 0 place
     (begun_text v (part r f)) fault p.text refused
-    (λ x h. subst IsPartOfFile (sym (begun-split v r f x)) (file_from_entries_part v r is _ (part_of_entries v r.setup es entries x
-    (subst (λ (l : Option FileEntry). IsPartOfEntry v r.setup l x) p.last' (subst (λ (y : SetupValue). IsPartOfEntry v y last x) same
-    (subst (λ (u : Version). IsPartOfEntry u setup last x) version h))))))
+    (λ x h. subst IsPartOfFile (sym (begun-split v r f x)) (file_from_entries_part v r is _ (part_of_entries v r.rules es entries x
+    (subst (λ (l : Option FileEntry). IsPartOfEntry v r.rules l x) p.last' (subst (λ (y : TileRules). IsPartOfEntry v y last x) same
+    (subst (λ (u : Version). IsPartOfEntry u rules last x) version h))))))
     (λ g x h. subst (FileIsWhole g) (sym (begun-split v r f x)) (file_from_whole_entries v r is g _ (part r f, x, p.well_formed, p.stated, refl, refl, h)))
     (λ g x h. subst (FileShows g) (sym (begun-split v r f x)) (file_from_entries_fault v r is g _
-    (entries_show v r.setup es entries g x (subst (λ (l : Option FileEntry). EntryShows v r.setup l g x) p.last'
-    (subst (λ (y : SetupValue). EntryShows v y last g x) same (subst (λ (u : Version). EntryShows u setup last g x) version h))))))
+    (entries_show v r.rules es entries g x (subst (λ (l : Option FileEntry). EntryShows v r.rules l g x) p.last'
+    (subst (λ (y : TileRules). EntryShows v y last g x) same (subst (λ (u : Version). EntryShows u rules last g x) version h))))))
 
 pub passed_shows_none : (old new : Option (List ℕ)) (v : Version) (r : Reel) (f : Facts) (place : ℕ) (last : Option FileEntry) → IsFileReel r
     → IsPassed old new v r f place last → ShowsNoFault old new
@@ -79,7 +79,7 @@ pub held_shows_none : (old new : Option (List ℕ)) (v : Version) (r : Reel) (f 
 held_shows_none old new v r f place None is h = record {
   seen = begun_text v (part r f) ++ 0 ∷ [];
   taken = h.text.taken;
-  well_formed = inr (part r f, h.well_formed, is.fits, (v, h.stated, refl));
+  well_formed = inr (part r f, h.well_formed, is.fits, (v, h.stated, refl, is.profile));
 }
 held_shows_none old new v r f place (Some e) is h = passed_shows_none old new v r (with_file_entry f e) place (Some e) is (passed old new v r f place e h)
 
@@ -352,22 +352,22 @@ module _ (s : Start) (left right sink : Option (List ℕ)) (lp rp room : ℕ) (l
 
   -- ---- reading on after it
   module _ (e : FileEntry) (others : List (List ℕ)) (new : Option (List ℕ)) (room' : ℕ) (wrote : Appends sink new (entry_text Second (with_digests e others)))
-      (less : room' + length (entry_text Second (with_digests e others)) ≡ room) (v w : Version) (versions : AreVersions s v w) (setup : SetupValue)
-      (same : setup ≡ s.reel.setup) where
+      (less : room' + length (entry_text Second (with_digests e others)) ≡ room) (v w : Version) (versions : AreVersions s v w) (rules : TileRules)
+      (same : rules ≡ s.reel.rules) where
     left_on : ln ≡ Some e → (l : Option (List ℕ)) (to : ℕ) (next : Option FileEntry) → Takes left l lp to (next_text v next)
-        → IfSome next (IsFileEntryOf v setup) → IfSome next (λ n. Follows ln n.0) → IfNone next (IsAtEnd l)
+        → IfSome next (IsFileEntryOf v rules) → IfSome next (λ n. Follows ln n.0) → IfNone next (IsAtEnd l)
         → IsReadUpTo s.left l s.left_version s.reel (with_file_entry st.lefts e) to next
     left_on is l to next text entry follows end =
-        advanced _ _ _ s.left_version v s.reel _ lp to ln next setup versions.left_is same (left_passed e is) text entry follows end
+        advanced _ _ _ s.left_version v s.reel _ lp to ln next rules versions.left_is same (left_passed e is) text entry follows end
 
     right_on : (own : FileEntry) → rn ≡ Some own → (r : Option (List ℕ)) (to : ℕ) (next : Option FileEntry) → Takes right r rp to (next_text w next)
-        → IfSome next (IsFileEntryOf w setup) → IfSome next (λ n. Follows rn n.0) → IfNone next (IsAtEnd r)
+        → IfSome next (IsFileEntryOf w rules) → IfSome next (λ n. Follows rn n.0) → IfNone next (IsAtEnd r)
         → IsReadUpTo s.right r s.right_version s.reel (with_file_entry st.rights own) to next
     right_on own is r to next text entry follows end =
-        advanced _ _ _ s.right_version w s.reel _ rp to rn next setup versions.right_is same (right_passed own is) text entry follows end
+        advanced _ _ _ s.right_version w s.reel _ rp to rn next rules versions.right_is same (right_passed own is) text entry follows end
 
     pub less_stands : IsTurn ln rn e others Less → (l : Option (List ℕ)) (to : ℕ) (next : Option FileEntry) (u : Version) → u ≡ v
-        → Takes left l lp to (next_text v next) → IfSome next (IsFileEntryOf v setup) → IfSome next (λ n. Follows ln n.0) → IfNone next (IsAtEnd l)
+        → Takes left l lp to (next_text v next) → IfSome next (IsFileEntryOf v rules) → IfSome next (λ n. Follows ln n.0) → IfNone next (IsAtEnd l)
         → AreVersions s u w × Stands s l right new to rp room' next rn
     less_stands turn l to next u kept text entry follows end = (
       record { left_is = kept ∙ versions.left_is; right_is = versions.right_is },
@@ -376,7 +376,7 @@ module _ (s : Start) (left right sink : Option (List ℕ)) (lp rp room : ℕ) (l
     )
 
     pub greater_stands : IsTurn ln rn e others Greater → (r : Option (List ℕ)) (to : ℕ) (next : Option FileEntry) (u : Version) → u ≡ w
-        → Takes right r rp to (next_text w next) → IfSome next (IsFileEntryOf w setup) → IfSome next (λ n. Follows rn n.0) → IfNone next (IsAtEnd r)
+        → Takes right r rp to (next_text w next) → IfSome next (IsFileEntryOf w rules) → IfSome next (λ n. Follows rn n.0) → IfNone next (IsAtEnd r)
         → AreVersions s v u × Stands s left r new lp to room' ln next
     greater_stands turn r to next u kept text entry follows end = (
       record { left_is = versions.left_is; right_is = kept ∙ versions.right_is },
@@ -386,7 +386,7 @@ module _ (s : Start) (left right sink : Option (List ℕ)) (lp rp room : ℕ) (l
 
     -- where both have the slice, the left input is read on first
     module _ (turn : IsTurn ln rn e others Equal) (l : Option (List ℕ)) (lp' : ℕ) (ln' : Option FileEntry) (text : Takes left l lp lp' (next_text v ln'))
-        (entry : IfSome ln' (IsFileEntryOf v setup)) (follows : IfSome ln' (λ n. Follows ln n.0)) (end : IfNone ln' (IsAtEnd l)) where
+        (entry : IfSome ln' (IsFileEntryOf v rules)) (follows : IfSome ln' (λ n. Follows ln n.0)) (end : IfNone ln' (IsAtEnd l)) where
       left_now : IsReadUpTo s.left l s.left_version s.reel (with_file_entry st.lefts e) lp' ln'
       left_now = left_on turn.0 l lp' ln' text entry follows end
 
@@ -394,7 +394,7 @@ module _ (s : Start) (left right sink : Option (List ℕ)) (lp rp room : ℕ) (l
       left_now_shows_none = held_shows_none _ _ s.left_version s.reel _ lp' ln' st.reel left_now
 
       pub equal_stands : (r : Option (List ℕ)) (to : ℕ) (next : Option FileEntry) (u x : Version) → u ≡ v → x ≡ w → Takes right r rp to (next_text w next)
-          → IfSome next (IsFileEntryOf w setup) → IfSome next (λ n. Follows rn n.0) → IfNone next (IsAtEnd r)
+          → IfSome next (IsFileEntryOf w rules) → IfSome next (λ n. Follows rn n.0) → IfNone next (IsAtEnd r)
           → AreVersions s u x × Stands s l r new lp' to room' ln' next
       equal_stands r to next u x left_kept right_kept right_text right_entry right_follows right_end = (
         record { left_is = left_kept ∙ versions.left_is; right_is = right_kept ∙ versions.right_is },
@@ -405,17 +405,17 @@ module _ (s : Start) (left right sink : Option (List ℕ)) (lp rp room : ℕ) (l
 
     -- reading the left input on failed
     pub left_refused : (o : Ordering) → IsTurn ln rn e others o → ln ≡ Some e → (l : Option (List ℕ)) (f : HoldFileFault)
-        → Refuses (IsPartOfEntry v setup ln) EndIsWhole (EntryShows v setup ln) left l lp f → Stops (inputs_from s l right) s.sink new f
+        → Refuses (IsPartOfEntry v rules ln) EndIsWhole (EntryShows v rules ln) left l lp f → Stops (inputs_from s l right) s.sink new f
     left_refused o turn is l f refused =
-        let input = input_refuses _ _ _ s.left_version v s.reel _ lp ln setup f versions.left_is same st.reel (left_passed e is) refused in
+        let input = input_refuses _ _ _ s.left_version v s.reel _ lp ln rules f versions.left_is same st.reel (left_passed e is) refused in
         stops_after e others o turn new room' wrote less l right f (inl (input, right_shows_none))
 
     -- reading the right one on failed
     pub right_refused : (o : Ordering) → IsTurn ln rn e others o → (own : FileEntry) → rn ≡ Some own → (l r : Option (List ℕ)) → ShowsNoFault s.left l
-        → (f : HoldFileFault) → Refuses (IsPartOfEntry w setup rn) EndIsWhole (EntryShows w setup rn) right r rp f
+        → (f : HoldFileFault) → Refuses (IsPartOfEntry w rules rn) EndIsWhole (EntryShows w rules rn) right r rp f
         → Stops (inputs_from s l r) s.sink new f
     right_refused o turn own is l r shown f refused =
-        let input = input_refuses _ _ _ s.right_version w s.reel _ rp rn setup f versions.right_is same st.reel (right_passed own is) refused in
+        let input = input_refuses _ _ _ s.right_version w s.reel _ rp rn rules f versions.right_is same st.reel (right_passed own is) refused in
         stops_after e others o turn new room' wrote less l r f (inr (input, shown))
 
 -- both inputs ended
@@ -440,6 +440,6 @@ ends s left right sink lp rp room ln rn l r st =
 -- ---- what can be written
 
 -- the version of a reader stays
-pub same_version_entry : (v w : Version) (setup : SetupValue) (next : Option FileEntry) → w ≡ v → IfSome next (IsFileEntryOf v setup)
-    → IfSome next (IsFileEntryOf w setup)
-same_version_entry v w setup next same is = subst (λ (u : Version). IfSome next (IsFileEntryOf u setup)) (sym same) is
+pub same_version_entry : (v w : Version) (rules : TileRules) (next : Option FileEntry) → w ≡ v → IfSome next (IsFileEntryOf v rules)
+    → IfSome next (IsFileEntryOf w rules)
+same_version_entry v w rules next same is = subst (λ (u : Version). IfSome next (IsFileEntryOf u rules)) (sym same) is

@@ -1,40 +1,40 @@
 -- No two faults are shown by beginnings of one input.
-use Rattle.ffv1_hold.proofs.Common.{◌≡◌, ℕ, ◌<◌, ◌≤◌, ◌^◌, List, [], ◌∷◌, ◌++◌, length, Option, Some, None, refl, sym, ap, ◌∙◌, subst, inl, inr, arith, append_assoc, ◌⊎◌, record_limit, SetupFault, SetupValue, FirstSetupFault, one_setup_fault, HoldFileFault, Version, Reel, FileEntry, be4, magic, sized_record, head_text, body_text, entries_text, last_of, AreEntries, EntryShows, ReelShows, MagicShows, FileShows}
+use Rattle.ffv1_hold.proofs.Common.{◌≡◌, ℕ, ◌<◌, ◌≤◌, ◌^◌, List, [], ◌∷◌, ◌++◌, length, Option, Some, None, refl, sym, ap, ◌∙◌, subst, inl, inr, arith, append_assoc, ◌⊎◌, record_limit, SetupFault, TileRules, FirstSetupFault, one_setup_fault, HoldFileFault, Version, Reel, FileEntry, be4, magic, sized_record, head_text, body_text, entries_text, last_of, AreEntries, EntryShows, ReelShows, MagicShows, FileShows}
 use Rattle.ffv1_hold.specs.declared.file_fault.HoldFileFault.TheVariants as faults
 use Rattle.ffv1_hold.proofs.NumberTexts.{no_tag, rest_same, number_same, after_number}
 use Rattle.ffv1_hold.proofs.BodyTexts.{same_body, body_one}
-use Rattle.ffv1_hold.proofs.TextLaws.{entries_after, none_after, AreFitting, fitting_all, same_sized, same_head, after_magic, head_parts, sized_parts}
+use Rattle.ffv1_hold.proofs.TextLaws.{short_reel, entries_after, none_after, AreFitting, fitting_all, same_sized, same_head, after_magic, head_parts, sized_parts}
 use Rattle.ffv1_hold.proofs.FaultLaws.{last_from, last_of-none, AreValid, valid_list, entry_kinds, right_none, magic_none, reel_none}
 
-module _ (v : Version) (setup : SetupValue) where
+module _ (v : Version) (rules : TileRules) where
   -- two faults of one entry
-  entry_one : (last : Option FileEntry) (f g : HoldFileFault) (s t y z : List ℕ) → s ++ y ≡ t ++ z → EntryShows v setup last f s
-      → EntryShows v setup last g t → f ≡ g
-  entry_one last f g s t y z same a b = elim (entry_kinds v setup last f s a) [
+  entry_one : (last : Option FileEntry) (f g : HoldFileFault) (s t y z : List ℕ) → s ++ y ≡ t ++ z → EntryShows v rules last f s
+      → EntryShows v rules last g t → f ≡ g
+  entry_one last f g s t y z same a b = elim (entry_kinds v rules last f s a) [
     | inl x ↦ grind (arith, entry_kinds, no_tag)
-    | inr x ↦ elim (entry_kinds v setup last g t b) [
+    | inr x ↦ elim (entry_kinds v rules last g t b) [
       | inl w ↦ absurd (no_tag (x.0 ++ y) z 1 w.0 (sym (ap (λ q. q ++ y) x.1) ∙ same ∙ ap (λ q. q ++ z) w.2) (λ e. let over = w.3 in omega arith))
-      | inr w ↦ body_one v setup last f g x.0 w.0 y z (rest_same _ _ 1 1 (sym (ap (λ q. q ++ y) x.1) ∙ same ∙ ap (λ q. q ++ z) w.1)) x.2 w.2
+      | inr w ↦ body_one v rules last f g x.0 w.0 y z (rest_same _ _ 1 1 (sym (ap (λ q. q ++ y) x.1) ∙ same ∙ ap (λ q. q ++ z) w.1)) x.2 w.2
     ]
   ]
 
-  entries_one : (last : Option FileEntry) (fs gs : List FileEntry) → AreValid v setup last fs → AreValid v setup last gs → AreFitting v fs → AreFitting v gs
+  entries_one : (last : Option FileEntry) (fs gs : List FileEntry) → AreValid v rules last fs → AreValid v rules last gs → AreFitting v fs → AreFitting v gs
       → (f g : HoldFileFault) (s t y z : List ℕ) → (entries_text v fs ++ s) ++ y ≡ (entries_text v gs ++ t) ++ z
-      → EntryShows v setup (last_from last fs) f s → EntryShows v setup (last_from last gs) g t → f ≡ g
+      → EntryShows v rules (last_from last fs) f s → EntryShows v rules (last_from last gs) g t → f ≡ g
   entries_one last [] [] a b c d f g s t y z same p q = grind (arith, entry_one, none_after)
   entries_one last [] (e ∷ gs) a b c d f g s t y z same p q =
-      absurd (right_none v setup last e ((entries_text v gs ++ t) ++ z) y b.0.0 d.0 b.0.1 f s
+      absurd (right_none v rules last e ((entries_text v gs ++ t) ++ z) y b.0.0 d.0 b.0.1 f s
       (ap (λ w. 1 ∷ w) (sym (append_assoc (body_text v e) (entries_text v gs ++ t) z)) ∙ sym (ap (λ x. x ++ z) (entries_after v e gs t)) ∙ sym same
       ∙ ap (λ x. x ++ y) (none_after v s)) p)
   entries_one last (e ∷ fs) [] a b c d f g s t y z same p q =
-      absurd (right_none v setup last e ((entries_text v fs ++ s) ++ y) z a.0.0 c.0 a.0.1 g t
+      absurd (right_none v rules last e ((entries_text v fs ++ s) ++ y) z a.0.0 c.0 a.0.1 g t
       (ap (λ w. 1 ∷ w) (sym (append_assoc (body_text v e) (entries_text v fs ++ s) y)) ∙ sym (ap (λ x. x ++ y) (entries_after v e fs s)) ∙ same
       ∙ ap (λ x. x ++ z) (none_after v t)) q)
   entries_one last (e ∷ fs) (h ∷ gs) a b c d f g s t y z same p q =
       let bodies = rest_same _ _ 1 1 (sym (ap (λ x. x ++ y) (entries_after v e fs s)) ∙ same ∙ ap (λ x. x ++ z) (entries_after v h gs t)) in
       let apart = sym (append_assoc (body_text v e) (entries_text v fs ++ s) y) ∙ bodies ∙ append_assoc (body_text v h) (entries_text v gs ++ t) z in
       let one = same_body v e h ((entries_text v fs ++ s) ++ y) ((entries_text v gs ++ t) ++ z) c.0 d.0 apart in
-      cc (entries_one (Some h) fs gs (subst (λ (x : FileEntry). AreValid v setup (Some x) fs) one.0 a.1) b.1 c.1 d.1 f g s t y z one.1 (subst (λ (x : FileEntry). EntryShows v setup (last_from (Some x) fs) f s) one.0 p) q)
+      cc (entries_one (Some h) fs gs (subst (λ (x : FileEntry). AreValid v rules (Some x) fs) one.0 a.1) b.1 c.1 d.1 f g s t y z one.1 (subst (λ (x : FileEntry). EntryShows v rules (last_from (Some x) fs) f s) one.0 p) q)
 
 -- ---- the head
 
@@ -98,8 +98,8 @@ one_fault f g s t y z same (inr (inr (w, r, u, r_is, u_split, a))) (inr (inl (x,
     absurd (reel_none r r_is (u ++ y) z g v (after_magic w x _ _ (sym (head_on w r u y)
     ∙ sym (ap (λ q. q ++ y) u_split) ∙ same ∙ ap (λ q. q ++ z) v_split ∙ append_assoc (magic x) v z)) b)
 one_fault f g s t y z same (inr (inr (w, r, u, r_is, u_split, (fs, p, f_all, f_inner, a)))) (inr (inr (x, q, v, q_is, v_split, (gs, o, g_all, g_inner, b)))) =
-    let heads = same_head w x r q (u ++ y) (v ++ z) r_is q_is (sym (append_assoc (head_text w r) u y)
+    let heads = same_head w x r q (u ++ y) (v ++ z) (short_reel r r_is) (short_reel q q_is) (sym (append_assoc (head_text w r) u y)
     ∙ sym (ap (λ k. k ++ y) u_split) ∙ same ∙ ap (λ k. k ++ z) v_split ∙ append_assoc (head_text x q) v z) in
-    let setup = ap (λ (k : Reel). k.setup) heads.1 in
-    let fs_all = subst (λ (k : Version). AreEntries k r.setup fs) heads.0 f_all in
-    cc (entries_one x q.setup None fs gs (subst (λ (k : SetupValue). AreValid x k None fs) setup (valid_list x r.setup fs fs_all)) (valid_list x q.setup gs g_all) (fitting_all x r r_is.reel fs fs_all.each) (fitting_all x q q_is.reel gs g_all.each) f g p o y z (sym (ap (λ k. k ++ y) (f_inner ∙ ap (λ (n : Version). entries_text n fs ++ p) heads.0)) ∙ heads.2 ∙ ap (λ k. k ++ z) g_inner) (subst (λ (l : Option FileEntry). EntryShows x q.setup l f p) (last_of-none fs) (subst (λ (k : SetupValue). EntryShows x k (last_of fs) f p) setup (subst (λ (k : Version). EntryShows k r.setup (last_of fs) f p) heads.0 a))) (subst (λ (l : Option FileEntry). EntryShows x q.setup l g o) (last_of-none gs) b))
+    let rules = ap (λ (k : Reel). k.rules) heads.1 in
+    let fs_all = subst (λ (k : Version). AreEntries k r.rules fs) heads.0 f_all in
+    cc (entries_one x q.rules None fs gs (subst (λ (k : TileRules). AreValid x k None fs) rules (valid_list x r.rules fs fs_all)) (valid_list x q.rules gs g_all) (fitting_all x r r_is.reel fs fs_all.each) (fitting_all x q q_is.reel gs g_all.each) f g p o y z (sym (ap (λ k. k ++ y) (f_inner ∙ ap (λ (n : Version). entries_text n fs ++ p) heads.0)) ∙ heads.2 ∙ ap (λ k. k ++ z) g_inner) (subst (λ (l : Option FileEntry). EntryShows x q.rules l f p) (last_of-none fs) (subst (λ (k : TileRules). EntryShows x k (last_of fs) f p) rules (subst (λ (k : Version). EntryShows k r.rules (last_of fs) f p) heads.0 a))) (subst (λ (l : Option FileEntry). EntryShows x q.rules l g o) (last_of-none gs) b))

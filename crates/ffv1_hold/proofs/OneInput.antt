@@ -77,7 +77,7 @@ begins a b x y same few = cc (take-append-drop (length a) b, take-append-le (len
 
 -- no text begins what is unfinished
 text_apart : (text s z : List ℕ) → IsHoldingText text → s ≡ text ++ z → IsPartOfFile s → ⊥
-text_apart text s z (h, is, fits, (v, stated, spelled)) same part = text_whole v h is fits stated z (subst IsPartOfFile (same ∙ ap (λ q. q ++ z) spelled) part)
+text_apart text s z (h, is, fits, (v, stated, spelled, profile)) same part = text_whole v h is fits profile stated z (subst IsPartOfFile (same ∙ ap (λ q. q ++ z) spelled) part)
 
 module _ (input : List ℕ) (f g : HoldFileFault) where
   shown_both : IsShown input f → IsShown input g → f ≡ g
@@ -95,7 +95,7 @@ module _ (input : List ℕ) (f g : HoldFileFault) where
   shown_before : IsShown input f → IsAfterText input g → ⊥
   shown_before a b =
       let h = b.whole in
-      text_none h.3.0 h.0 h.1 h.2 h.3.1 b.rest a.seen a.rest f (sym (ap (λ q. q ++ b.rest) h.3.2) ∙ sym b.split ∙ a.split) a.shown
+      text_none h.3.0 h.0 h.1 h.2 h.3.3 h.3.1 b.rest a.seen a.rest f (sym (ap (λ q. q ++ b.rest) h.3.2) ∙ sym b.split ∙ a.split) a.shown
 
   cut_within : FooterGivesOff input f → IsOverLimit input g → ⊥
   cut_within a b = omega (arith, a.within, b.at_limit, ap length b.split, length-append b.seen (b.more ∷ b.rest))

@@ -1,5 +1,5 @@
 -- One step of a plan.
-use Rattle.ffv1_hold.proofs.Common.{◌≡◌, ℕ, Result, Ok, Err, IfOk, OnOk, List, [], ◌∷◌, ◌++◌, sym, ap, ◌∙◌, subst, arith, IfOk-weaker, one_setup, Reel, IsReelOf, AreNear, HoldsExactly, near_exact, AreShort, contents, IsKept, Contents, IsHolding, IsSameReel, with_found, with_copies, joined, holding_of, with_found-holding_of, with_copies-holding_of, joined-holding_of}
+use Rattle.ffv1_hold.proofs.Common.{◌≡◌, ℕ, Result, Ok, Err, IfOk, OnOk, List, [], ◌∷◌, ◌++◌, sym, ap, ◌∙◌, subst, arith, IfOk-weaker, Reel, IsReelOf, AreNear, HoldsExactly, near_exact, AreShort, contents, IsKept, Contents, IsHolding, IsSameReel, with_found, with_copies, joined, holding_of, with_found-holding_of, with_copies-holding_of, joined-holding_of, Recordings, one_record, reel_of}
 use Rattle.ffv1_holding.specs.declared.holding.Holding.TheInside.{Inside}
 
 pub AreShort-both : (xs ys : List (List ℕ)) → AreShort xs → AreShort ys → AreShort (xs ++ ys)
@@ -24,14 +24,14 @@ module _ (before after : Contents) (copies : List (List ℕ)) (is : before ≡ h
   after_same same = same ∙ is ∙ own_reel copies (sym (ap (λ (h : Contents). h.reel) same))
 
 -- a record and a size are those of one reel
-pub one_reel : (config : List ℕ) (width height : ℕ) (r s : Reel) → IsReelOf config width height r → IsReelOf config width height s → r ≡ s
-one_reel config width height r s is also =
-    let setup = one_setup config width height r.setup s.setup is.1 also.1 in
-    λ i. record { config = (is.0 ∙ sym also.0) i; setup = setup i }
+pub one_reel : (recordings : Recordings) (config : List ℕ) (width height : ℕ) (r s : Reel) → IsReelOf recordings config width height r
+    → IsReelOf recordings config width height s → r ≡ s
+one_reel recordings config width height r s is also =
+    is.2 ∙ ap (reel_of config) (one_record recordings config width height is.0 also.0 is.1 also.1) ∙ sym also.2
 
 -- what is held of near copies is the original's slices, where a holding is returned that is exactly what the copies give
 pub near_of_meaning : {E : Type 0} (r : Result Contents E) (original : List ℕ) (slices copies : List (List ℕ))
-    → IfOk r (λ h. h ≡ holding_of h.reel copies) → IfOk r (λ h. AreNear h.reel.setup original slices copies → HoldsExactly h slices)
+    → IfOk r (λ h. h ≡ holding_of h.reel copies) → IfOk r (λ h. AreNear h.reel.rules original slices copies → HoldsExactly h slices)
 near_of_meaning r original slices copies meaning = grind (arith, IfOk-weaker, near_exact)
 
 -- what holds of the reel before a step that keeps it holds of the reel after
@@ -46,5 +46,5 @@ reel_on_same (Ok h) before Q P holds same known = subst P (sym (ap (λ (k : Cont
 reel_on_same (Err e) before Q P holds same known = tt
 
 -- what is kept of a holding makes it one
-pub kept_is_holding : (a : Inside) (h : Contents) → contents a ≡ h → IsKept a → IsHolding h
+pub kept_is_holding : {S : Type 0} (a : Inside S) (h : Contents) → contents a ≡ h → IsKept a → IsHolding h
 kept_is_holding a h is kept = grind arith

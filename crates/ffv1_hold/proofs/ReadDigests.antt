@@ -62,7 +62,7 @@ rising_back (x ∷ xs) rest up = rising_back xs rest (rising_rest file_entry_cmp
 pub record IsReadTo (old new : Option (List ℕ)) (v : Version) (r : Reel) (f : Facts) (next : Option FileEntry) : Type 0 where
   pub well_formed : IsHolding (part r f)
   pub stated : IsStated v (part r f)
-  pub entry : IfSome next (IsFileEntryOf v r.setup)
+  pub entry : IfSome next (IsFileEntryOf v r.rules)
   pub taken : Consumes old new (begun_text v (part r f) ++ next_text v next)
 
 pub held_read : (old new : Option (List ℕ)) (v : Version) (r : Reel) (f : Facts) (place : ℕ) (next : Option FileEntry) → IsReadUpTo old new v r f place next
@@ -74,7 +74,7 @@ all_read_to old new r f a = record { well_formed = a.well_formed; stated = a.fil
 
 -- what follows the entries that were read, the next one and others, gives no digests of a slice before it
 rest_states_none : (w : Version) (r : Reel) → IsFileReel r → (e : Entry) (rest : List FileEntry) (bytes : List ℕ) (next : Option FileEntry)
-    → IfSome next (IsFileEntryOf w r.setup) → IfSome next (λ n. entry_cmp e n.0 ≡ Less) → AreFitting w rest → IsRising file_entry_cmp rest
+    → IfSome next (IsFileEntryOf w r.rules) → IfSome next (λ n. entry_cmp e n.0 ≡ Less) → AreFitting w rest → IsRising file_entry_cmp rest
     → entries_text w rest ++ 0 ∷ [] ≡ next_text w next ++ bytes → stated_in rest e ≡ []
 rest_states_none w r is e [] bytes None entry below fit up same = refl
 rest_states_none w r is e (g ∷ gs) bytes None entry below fit up same = grind (arith, no_tag, entries_after)

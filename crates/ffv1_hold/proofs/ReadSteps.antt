@@ -1,5 +1,5 @@
 -- How reading the entries of a file goes on after those that were read.
-use Rattle.ffv1_hold.proofs.Common.{◌≡◌, ℕ, ◌≤◌, List, ◌++◌, Option, Some, None, IfSome, refl, sym, ap, ◌∙◌, subst, append-nil, arith, true≢false, file_limit, SetupValue, HoldFileFault, Version, First, Second, Reel, IsReel, entry_cmp, origin_cmp, Contents, IsHolding, no_slices, with_entry, FileEntry, entries_text, file_entries, IsStated, ReadLog, TakesText, StopsAt, last_of, Follows, AreOrigins, AreEntries, AreDigestsIn, IsFileEntryOf, next_text, IsPartOfEntry, EntryShows, IsPartOfEntries, EntriesShow, EndIsWhole, EntriesAreWhole}
+use Rattle.ffv1_hold.proofs.Common.{◌≡◌, ℕ, ◌≤◌, List, ◌++◌, Option, Some, None, IfSome, refl, sym, ap, ◌∙◌, subst, append-nil, arith, true≢false, file_limit, TileRules, HoldFileFault, Version, First, Second, Reel, IsReel, entry_cmp, origin_cmp, Contents, IsHolding, no_slices, with_entry, FileEntry, entries_text, file_entries, IsStated, ReadLog, TakesText, StopsAt, last_of, Follows, AreOrigins, AreEntries, AreDigestsIn, IsFileEntryOf, next_text, IsPartOfEntry, EntryShows, IsPartOfEntries, EntriesShow, EndIsWhole, EntriesAreWhole}
 use Rattle.ffv1_hold.specs.declared.file_fault.HoldFileFault.TheVariants as faults
 use Rattle.ffv1_holding.specs.Sets as set
 use Rattle.ffv1_hold.proofs.TextReads.{TakesText-nil, TakesText-trans, StopsAt-after, memory_stops}
@@ -48,9 +48,9 @@ none_read v a i h last within is none at =
     }
 
 module _ (v : Version) (reel : Reel) (a b : ReadLog) (i j : ℕ) (h grown : Contents) (e : FileEntry) (is : IsHolding h) (stated : IsStated v h)
-    (same : h.reel ≡ reel) (entry : IsFileEntryOf v reel.setup e) (follows : Follows (last_of (file_entries h)) e.0) where
-  own : IsFileEntryOf v h.reel.setup e
-  own = subst (λ (r : Reel). IsFileEntryOf v r.setup e) (sym same) entry
+    (same : h.reel ≡ reel) (entry : IsFileEntryOf v reel.rules e) (follows : Follows (last_of (file_entries h)) e.0) where
+  own : IsFileEntryOf v h.reel.rules e
+  own = subst (λ (r : Reel). IsFileEntryOf v r.rules e) (sym same) entry
 
   digests : AreOrigins e.1
   digests = digests_in_version v e.1 entry.origins
@@ -69,25 +69,25 @@ module _ (v : Version) (reel : Reel) (a b : ReadLog) (i j : ℕ) (h grown : Cont
       }
 
 module _ (v : Version) (reel : Reel) (a b : ReadLog) (i j : ℕ) (h : Contents) (last : Option FileEntry) (read : AreRead v reel a b i j h last) where
-  entries : AreEntries v reel.setup (file_entries h)
-  entries = subst (λ (r : Reel). AreEntries v r.setup (file_entries h)) read.reel' (are_entries v h read.well_formed read.stated)
+  entries : AreEntries v reel.rules (file_entries h)
+  entries = subst (λ (r : Reel). AreEntries v r.rules (file_entries h)) read.reel' (are_entries v h read.well_formed read.stated)
 
-  -- what comes after them is refused, under the same version and setup
-  pub next_refused : (w : Version) (x : SetupValue) → w ≡ v → x ≡ reel.setup → (c : ReadLog) (f : HoldFileFault)
+  -- what comes after them is refused, under the same version and rules
+  pub next_refused : (w : Version) (x : TileRules) → w ≡ v → x ≡ reel.rules → (c : ReadLog) (f : HoldFileFault)
       → StopsAt (IsPartOfEntry w x last) EndIsWhole (EntryShows w x last) b c j f
-      → StopsAt (IsPartOfEntries v reel.setup) (EntriesAreWhole v reel) (EntriesShow v reel.setup) a c i f
+      → StopsAt (IsPartOfEntries v reel.rules) (EntriesAreWhole v reel) (EntriesShow v reel.rules) a c i f
   next_refused w x version same c f refused =
       let es = file_entries h in
-      StopsAt-after (IsPartOfEntry w x last) (IsPartOfEntries v reel.setup) EndIsWhole (EntriesAreWhole v reel) (EntryShows w x last)
-      (EntriesShow v reel.setup) a b c i j (entries_text v es) read.text f refused
-      (λ s part. part_of_entries v reel.setup es entries s (subst (λ (l : Option FileEntry). IsPartOfEntry v reel.setup l s) read.last'
-      (subst (λ (y : SetupValue). IsPartOfEntry v y last s) same (subst (λ (u : Version). IsPartOfEntry u x last s) version part))))
+      StopsAt-after (IsPartOfEntry w x last) (IsPartOfEntries v reel.rules) EndIsWhole (EntriesAreWhole v reel) (EntryShows w x last)
+      (EntriesShow v reel.rules) a b c i j (entries_text v es) read.text f refused
+      (λ s part. part_of_entries v reel.rules es entries s (subst (λ (l : Option FileEntry). IsPartOfEntry v reel.rules l s) read.last'
+      (subst (λ (y : TileRules). IsPartOfEntry v y last s) same (subst (λ (u : Version). IsPartOfEntry u x last s) version part))))
       (λ f s whole. (h, s, read.well_formed, read.stated, read.reel', refl, whole))
-      (λ f s shown. entries_show v reel.setup es entries f s (subst (λ (l : Option FileEntry). EntryShows v reel.setup l f s) read.last'
-      (subst (λ (y : SetupValue). EntryShows v y last f s) same (subst (λ (u : Version). EntryShows u x last f s) version shown))))
+      (λ f s shown. entries_show v reel.rules es entries f s (subst (λ (l : Option FileEntry). EntryShows v reel.rules l f s) read.last'
+      (subst (λ (y : TileRules). EntryShows v y last f s) same (subst (λ (u : Version). EntryShows u x last f s) version shown))))
 
   -- memory for the last of them is refused
-  pub memory_refused : StopsAt (IsPartOfEntries v reel.setup) (EntriesAreWhole v reel) (EntriesShow v reel.setup) a b i faults.Memory
+  pub memory_refused : StopsAt (IsPartOfEntries v reel.rules) (EntriesAreWhole v reel) (EntriesShow v reel.rules) a b i faults.Memory
   memory_refused = grind (arith, memory_stops, append-nil, part_of_entries, entries)
 
   -- what was read after them stands after the last one

@@ -31,7 +31,7 @@ module _ (v : Version) (h : Contents) (is : IsHolding h) (fits : FitsInFile v h)
 
   shows_none : (fault : HoldFileFault) (new : Option (List ℕ)) → StopsIn (FileShows fault) (Some (file_text v h)) new 0 → ⊥
   shows_none fault new r = let front = taken_front (file_text v h) r.seen new r.taken in
-      text_none v h is fits.record' fits.stated [] r.seen front.0 fault (append-nil (file_text v h) ∙ front.1) r.is
+      text_none v h is fits.record' fits.profile fits.stated [] r.seen front.0 fault (append-nil (file_text v h) ∙ front.1) r.is
 
   -- a refusal of a text is the device's or memory's
   pub refused_outside : (f : HoldFileFault) (new : Option (List ℕ)) → Refuses IsPartOfFile FileIsWhole FileShows (Some (file_text v h)) new 0 f → IsOutside f
@@ -39,7 +39,7 @@ module _ (v : Version) (h : Contents) (is : IsHolding h) (fits : FitsInFile v h)
   refused_outside faults.Memory new r = tt
   refused_outside faults.Write new r = r
   refused_outside faults.OtherReel new r = r
-  refused_outside faults.Truncated new r = text_whole v h is fits.record' fits.stated []
+  refused_outside faults.Truncated new r = text_whole v h is fits.record' fits.profile fits.stated []
       (subst IsPartOfFile (sym (append-nil (file_text v h) ∙ taken_all (file_text v h) r.seen new r.taken r.at_end)) r.unfinished)
   refused_outside faults.TooLong new (inl r) = shows_none faults.TooLong new r
   refused_outside faults.TooLong new (inr r) = grind (arith, taken_front, length-append)

@@ -1,5 +1,5 @@
 -- Texts of holdings are read in one way only.
-use Rattle.ffv1_hold.proofs.Common.{◌≡◌, ℕ, ◌<◌, ◌≤◌, ◌^◌, ◌==◌, List, [], ◌∷◌, ◌++◌, length, get_or, refl, sym, ap, ◌∙◌, subst, arith, append_assoc, AllByRecursion, record_limit, setup_small, setup_tiles, slice_in_grid, Reel, IsReel, Contents, IsHolding, Version, First, Second, FileEntry, be4, magic, version_number, sized_record, head_text, body_text, entry_text, entries_text, file_entries, file_text, IsStated, IsTextOf, HasText, IsFileEntryOf, IsFileReel, same_reel}
+use Rattle.ffv1_hold.proofs.Common.{◌≡◌, ℕ, ◌<◌, ◌≤◌, ◌^◌, ◌==◌, List, [], ◌∷◌, ◌++◌, length, get_or, refl, sym, ap, ◌∙◌, subst, arith, append_assoc, AllByRecursion, record_limit, reel_small, HeadLimits, reel_limits, reel_tiles_few, slice_in_grid, Reel, IsReel, Contents, IsHolding, Version, First, Second, FileEntry, be4, magic, version_number, sized_record, head_text, body_text, entry_text, entries_text, file_entries, file_text, IsStated, IsTextOf, HasText, IsFileEntryOf, IsFileReel, same_reel, ◌*◌}
 use Rattle.ffv1_hold.proofs.NumberTexts.{same_front, same_back, no_tag, rest_same, number_same, after_number}
 use Rattle.ffv1_hold.proofs.DigestTexts.{has_text_after}
 use Rattle.ffv1_hold.proofs.BodyTexts.{same_body}
@@ -34,13 +34,14 @@ module _ (v : Version) where
       λ i. one.0 i ∷ others i
 
   -- an entry of a reel has a text
-  pub entry_has_text : (r : Reel) → IsReel r → (e : FileEntry) → IsFileEntryOf v r.setup e → HasText v e
+  pub entry_has_text : (r : Reel) → IsReel r → (e : FileEntry) → IsFileEntryOf v r.rules e → HasText v e
   entry_has_text r is e entry =
-      let grid = slice_in_grid r.setup e.0.1 (e.0.0 == 0) e.0.0 entry.slice.slice in
-      let few = setup_tiles r.config r.setup.width r.setup.height r.setup is in
+      let grid = slice_in_grid r.rules e.0.1 (e.0.0 == 0) e.0.0 entry.slice.slice in
+      let few = reel_tiles_few r is in
+      let limits = ap (λ (limits : HeadLimits). limits.across * limits.down) (reel_limits r is) in
       (omega arith, entry.slice.fits, has_text_after v e.1 entry.origins)
 
-  pub fitting_all : (r : Reel) → IsReel r → (es : List FileEntry) → AllByRecursion (IsFileEntryOf v r.setup) es → AreFitting v es
+  pub fitting_all : (r : Reel) → IsReel r → (es : List FileEntry) → AllByRecursion (IsFileEntryOf v r.rules) es → AreFitting v es
   fitting_all r is [] each = tt
   fitting_all r is (e ∷ es) each = (entry_has_text r is e each.0, fitting_all r is es each.1)
 
@@ -77,10 +78,18 @@ same_version v w x y e = same_number v w (ap (λ z. get_or z 7 0) e)
 pub after_magic : (v w : Version) (x y : List ℕ) → magic v ++ x ≡ magic w ++ y → x ≡ y
 after_magic v w x y e = same_back (magic v) (magic w) x y refl e
 
+-- a reel whose record is within its limit
+pub record IsShortReel (r : Reel) : Type 0 where
+  pub reel : IsReel r
+  pub fits : length r.config ≤ record_limit
+
+pub short_reel : (r : Reel) → IsFileReel r → IsShortReel r
+short_reel r is = record { reel = is.reel; fits = is.fits }
+
 -- two heads that begin the same bytes are the same
-pub same_head : (v w : Version) (r s : Reel) (x y : List ℕ) → IsFileReel r → IsFileReel s → head_text v r ++ x ≡ head_text w s ++ y
+pub same_head : (v w : Version) (r s : Reel) (x y : List ℕ) → IsShortReel r → IsShortReel s → head_text v r ++ x ≡ head_text w s ++ y
     → (v ≡ w) × (r ≡ s) × (x ≡ y)
-same_head v w r s x y r_is s_is e = grind (arith, setup_small, head_parts, after_magic, same_sized, same_version, same_reel)
+same_head v w r s x y r_is s_is e = grind (arith, reel_small, head_parts, after_magic, same_sized, same_version, same_reel)
 
 -- ---- whole texts
 
@@ -99,4 +108,4 @@ one_file v w g h g_is h_is g_fits h_fits g_stated h_stated e =
 
 pub one_text : (g h : Contents) (text : List ℕ) → IsHolding g → IsHolding h → length g.reel.config ≤ record_limit → length h.reel.config ≤ record_limit
     → IsTextOf text g → IsTextOf text h → g ≡ h
-one_text g h text g_is h_is g_fits h_fits (v, g_stated, e) (w, h_stated, f) = one_file v w g h g_is h_is g_fits h_fits g_stated h_stated (sym e ∙ f)
+one_text g h text g_is h_is g_fits h_fits (v, g_stated, e, _) (w, h_stated, f, _) = one_file v w g h g_is h_is g_fits h_fits g_stated h_stated (sym e ∙ f)

@@ -4,7 +4,7 @@ use Rattle.std.specs.List.{AllByRecursion}
 use Rattle.std.specs.declared.cmp.Ordering.{Ordering}
 use Rattle.std.specs.declared.cmp.Ordering.TheVariants.{Less}
 use Rattle.ffv1_bits.specs.Limits.{slice_limit}
-use Rattle.ffv1_range.specs.Setup.{SetupValue}
+use Rattle.ffv1_range.specs.TileHeaders.{TileRules}
 use Rattle.ffv1_holding.specs.SliceOrder.{Entry, entry_cmp, bytes_cmp}
 use Rattle.ffv1_holding.specs.Rising.{IsRising}
 use Rattle.ffv1_holding.specs.Contents.{IsEntryOf, AreDigests}
@@ -43,16 +43,16 @@ AreDigestsIn First digests = digests ≡ []
 AreDigestsIn Second digests = AreOrigins digests × (length digests ≤ origins_limit)
 
 -- A slice of its tile, and what can stand after it.
-pub record IsFileEntryOf (v : Version) (setup : SetupValue) (e : FileEntry) : Type 0 where
-  pub slice : IsEntryOf setup e.0
+pub record IsFileEntryOf (v : Version) (rules : TileRules) (e : FileEntry) : Type 0 where
+  pub slice : IsEntryOf rules e.0
   pub origins : AreDigestsIn v e.1
 
 abbrev pub file_entry_cmp : FileEntry → FileEntry → Ordering
 file_entry_cmp a b = entry_cmp a.0 b.0
 
 -- slices of their tiles, in rising order of tile and bytes
-pub record AreEntries (v : Version) (setup : SetupValue) (es : List FileEntry) : Type 0 where
-  pub each : AllByRecursion (IsFileEntryOf v setup) es
+pub record AreEntries (v : Version) (rules : TileRules) (es : List FileEntry) : Type 0 where
+  pub each : AllByRecursion (IsFileEntryOf v rules) es
   pub rising : IsRising file_entry_cmp es
 
 -- what has a text after a slice, in whatever order

@@ -1,12 +1,12 @@
 -- Which bytes begin a holding file, and which show a fault in it. Judged are, in byte order: the magic, which gives the version; the
 -- record's length; the setup, after the record; each tag; each slice's length; after a slice's bytes whether they are a slice of its
 -- tile, and then whether it stands in order; and in version 2 the count of its digests, and each digest, whether it stands in order.
-use Rattle.std.specs.Prelude.{ℕ, ◌≡◌, ◌≢◌, ◌==◌, ◌+◌, ◌^◌, ◌<◌, ◌≤◌, ◌⊎◌, List, [], ◌∷◌, ◌++◌, length, take, Option, Some, Result, Ok, Err}
+use Rattle.std.specs.Prelude.{ℕ, true, ◌≡◌, ◌≢◌, ◌==◌, ◌+◌, ◌^◌, ◌<◌, ◌≤◌, ◌⊎◌, List, [], ◌∷◌, ◌++◌, length, take, Option, Some, Result, Ok, Err}
 use Rattle.std.specs.List.{flat_map}
 use Rattle.std.specs.Io.KnownBytes.{IsAtEnd}
 use Rattle.ffv1_bits.specs.Limits.{slice_limit, record_limit, file_limit}
 use Rattle.ffv1_devices.specs.Logs.{ReadLog, GoesOn}
-use Rattle.ffv1_range.specs.Setup.{SetupValue}
+use Rattle.ffv1_range.specs.TileHeaders.{TileRules}
 use Rattle.ffv1_range.specs.SetupFaults.{FirstSetupFault}
 use Rattle.ffv1_slice.specs.Slices.{IsSliceOf}
 use Rattle.ffv1_hold.specs.declared.file_fault.HoldFileFault.{HoldFileFault}
@@ -15,6 +15,7 @@ use Rattle.ffv1_hold.specs.declared.version.Version.{Version}
 use Rattle.ffv1_hold.specs.declared.version.Version.TheVariants.{First, Second}
 use Rattle.ffv1_holding.specs.SliceOrder.{Entry}
 use Rattle.ffv1_holding.specs.Reels.{Reel, IsReel, WantsMemory}
+use Rattle.ffv1_holding.specs.declared.recordings.Recordings.TheVariants.{Profile}
 use Rattle.ffv1_holding.specs.Contents.{Contents, IsHolding, IsEntryOf}
 use Rattle.ffv1_hold.specs.HoldingText.{TakesFile, FileEntry, origins_limit, magic, be2, be4, sized_record, head_text, slice_text, entries_text, IsTextOf}
 use Rattle.ffv1_hold.specs.Reading.{Refuses, StopsAt}
@@ -30,14 +31,14 @@ SliceIsTooLong faults.TooLong s = (tile n : ℕ) × (s ≡ be2 tile ++ be4 n) ×
 SliceIsTooLong _ s = ⊥
 
 -- an entry after the last one is no slice of its tile, or it is one in the wrong place
-abbrev pub IsWrong : SetupValue → Option FileEntry → Entry → HoldFileFault → Type 0
-IsWrong setup last e faults.NotASlice = ¬ IsSliceOf setup e.1 (e.0 == 0) e.0
-IsWrong setup last e faults.Order = IsSliceOf setup e.1 (e.0 == 0) e.0 × (¬ Follows last e)
-IsWrong setup last e _ = ⊥
+abbrev pub IsWrong : TileRules → Option FileEntry → Entry → HoldFileFault → Type 0
+IsWrong rules last e faults.NotASlice = ¬ IsSliceOf rules e.1 (e.0 == 0) e.0
+IsWrong rules last e faults.Order = IsSliceOf rules e.1 (e.0 == 0) e.0 × (¬ Follows last e)
+IsWrong rules last e _ = ⊥
 
-abbrev pub SliceShows : SetupValue → Option FileEntry → HoldFileFault → List ℕ → Type 0
-SliceShows setup last faults.TooLong s = SliceIsTooLong faults.TooLong s
-SliceShows setup last f s = (e : Entry) × (s ≡ slice_text e) × (e.0 < 2 ^ 16) × (length e.1 ≤ slice_limit) × IsWrong setup last e f
+abbrev pub SliceShows : TileRules → Option FileEntry → HoldFileFault → List ℕ → Type 0
+SliceShows rules last faults.TooLong s = SliceIsTooLong faults.TooLong s
+SliceShows rules last f s = (e : Entry) × (s ≡ slice_text e) × (e.0 < 2 ^ 16) × (length e.1 ≤ slice_limit) × IsWrong rules last e f
 
 -- ---- the digests after a slice
 
@@ -65,39 +66,40 @@ ShowsAfter Second f s = OriginsShow f s
 -- ---- an entry after its tag
 
 -- a slice of its tile, in its place
-abbrev pub IsEntryInPlace : SetupValue → Option FileEntry → Entry → Type 0
-IsEntryInPlace setup last e = IsEntryOf setup e × Follows last e × (e.0 < 2 ^ 16)
+abbrev pub IsEntryInPlace : TileRules → Option FileEntry → Entry → Type 0
+IsEntryInPlace rules last e = IsEntryOf rules e × Follows last e × (e.0 < 2 ^ 16)
 
 -- a beginning of its slice, or the slice, which is right, and a beginning of what stands after it
-abbrev pub IsPartOfBody : Version → SetupValue → Option FileEntry → List ℕ → Type 0
-IsPartOfBody v setup last s = IsPartOfSlice s
-    ⊎ ((e : Entry) × (part : List ℕ) × (s ≡ slice_text e ++ part) × IsEntryInPlace setup last e × IsPartAfter v part)
+abbrev pub IsPartOfBody : Version → TileRules → Option FileEntry → List ℕ → Type 0
+IsPartOfBody v rules last s = IsPartOfSlice s
+    ⊎ ((e : Entry) × (part : List ℕ) × (s ≡ slice_text e ++ part) × IsEntryInPlace rules last e × IsPartAfter v part)
 
-abbrev pub BodyShows : Version → SetupValue → Option FileEntry → HoldFileFault → List ℕ → Type 0
-BodyShows v setup last f s = SliceShows setup last f s
-    ⊎ ((e : Entry) × (seen : List ℕ) × (s ≡ slice_text e ++ seen) × IsEntryInPlace setup last e × ShowsAfter v f seen)
+abbrev pub BodyShows : Version → TileRules → Option FileEntry → HoldFileFault → List ℕ → Type 0
+BodyShows v rules last f s = SliceShows rules last f s
+    ⊎ ((e : Entry) × (seen : List ℕ) × (s ≡ slice_text e ++ seen) × IsEntryInPlace rules last e × ShowsAfter v f seen)
 
 -- ---- entries in rising order
 
-abbrev pub IsPartOfEntry : Version → SetupValue → Option FileEntry → List ℕ → Type 0
-IsPartOfEntry v setup last s = (s ≡ []) ⊎ ((body : List ℕ) × (s ≡ 1 ∷ body) × IsPartOfBody v setup last body)
+abbrev pub IsPartOfEntry : Version → TileRules → Option FileEntry → List ℕ → Type 0
+IsPartOfEntry v rules last s = (s ≡ []) ⊎ ((body : List ℕ) × (s ≡ 1 ∷ body) × IsPartOfBody v rules last body)
 
-abbrev pub EntryShows : Version → SetupValue → Option FileEntry → HoldFileFault → List ℕ → Type 0
-EntryShows v setup last faults.Tag s = (tag : ℕ) × (s ≡ tag ∷ []) × (1 < tag)
-EntryShows v setup last f s = (body : List ℕ) × (s ≡ 1 ∷ body) × BodyShows v setup last f body
+abbrev pub EntryShows : Version → TileRules → Option FileEntry → HoldFileFault → List ℕ → Type 0
+EntryShows v rules last faults.Tag s = (tag : ℕ) × (s ≡ tag ∷ []) × (1 < tag)
+EntryShows v rules last f s = (body : List ℕ) × (s ≡ 1 ∷ body) × BodyShows v rules last f body
 
 -- entries, and a beginning of the next, or of the end
-abbrev pub IsPartOfEntries : Version → SetupValue → List ℕ → Type 0
-IsPartOfEntries v setup s = (es : List FileEntry) × (part : List ℕ) × AreEntries v setup es × (s ≡ entries_text v es ++ part)
-    × IsPartOfEntry v setup (last_of es) part
+abbrev pub IsPartOfEntries : Version → TileRules → List ℕ → Type 0
+IsPartOfEntries v rules s = (es : List FileEntry) × (part : List ℕ) × AreEntries v rules es × (s ≡ entries_text v es ++ part)
+    × IsPartOfEntry v rules (last_of es) part
 
-abbrev pub EntriesShow : Version → SetupValue → HoldFileFault → List ℕ → Type 0
-EntriesShow v setup f s = (es : List FileEntry) × (seen : List ℕ) × AreEntries v setup es × (s ≡ entries_text v es ++ seen)
-    × EntryShows v setup (last_of es) f seen
+abbrev pub EntriesShow : Version → TileRules → HoldFileFault → List ℕ → Type 0
+EntriesShow v rules f s = (es : List FileEntry) × (seen : List ℕ) × AreEntries v rules es × (s ≡ entries_text v es ++ seen)
+    × EntryShows v rules (last_of es) f seen
 
--- the record is one of a setup at the reel's size, and within its limit
+-- the record is one of the profile at the reel's size, and within its limit
 pub record IsFileReel (r : Reel) : Type 0 where
   pub reel : IsReel r
+  pub profile : r.rules.is_profile ≡ true
   pub fits : length r.config ≤ record_limit
 
 -- a beginning of the size and the record
@@ -113,7 +115,7 @@ ReelShows _ s = ⊥
 -- the size and the record are whole, after which memory for the setup is wanted
 abbrev pub ReelIsWhole : HoldFileFault → List ℕ → Type 0
 ReelIsWhole faults.Memory s = (config : List ℕ) × (w h : ℕ) × (s ≡ sized_record config w h) × (length config ≤ record_limit) × (w < 2 ^ 32) × (h < 2 ^ 32)
-    × WantsMemory config w h
+    × WantsMemory Profile config w h
 ReelIsWhole _ s = ⊥
 
 -- a beginning of the magic, before its version
@@ -131,13 +133,13 @@ MagicShows _ s = ⊥
 abbrev pub IsPartOfFile : List ℕ → Type 0
 IsPartOfFile s = IsPartOfMagic s
     ⊎ ((v : Version) × (part : List ℕ) × (s ≡ magic v ++ part) × IsPartOfReel part)
-    ⊎ ((v : Version) × (r : Reel) × (part : List ℕ) × IsFileReel r × (s ≡ head_text v r ++ part) × IsPartOfEntries v r.setup part)
+    ⊎ ((v : Version) × (r : Reel) × (part : List ℕ) × IsFileReel r × (s ≡ head_text v r ++ part) × IsPartOfEntries v r.rules part)
 
 -- the beginning of a file whose last byte shows the fault
 abbrev pub FileShows : HoldFileFault → List ℕ → Type 0
 FileShows f s = MagicShows f s
     ⊎ ((v : Version) × (seen : List ℕ) × (s ≡ magic v ++ seen) × ReelShows f seen)
-    ⊎ ((v : Version) × (r : Reel) × (seen : List ℕ) × IsFileReel r × (s ≡ head_text v r ++ seen) × EntriesShow v r.setup f seen)
+    ⊎ ((v : Version) × (r : Reel) × (seen : List ℕ) × IsFileReel r × (s ≡ head_text v r ++ seen) × EntriesShow v r.rules f seen)
 
 -- a text of a holding whose record is within its limit
 abbrev pub IsHoldingText : List ℕ → Type 0

@@ -91,12 +91,13 @@ abbrev pub IsStated : Version → Contents → Type 0
 IsStated First h = h.origins ≡ set.empty
 IsStated Second h = (e : Entry) → set.contains h.slices e ≡ true → length (digests_of h e) ≤ origins_limit
 
--- a text of the holding: that of version 2, or, where it has no origins, that of version 1
+-- a text of a holding of the profile: that of version 2, or, where it has no origins, that of version 1
 abbrev pub IsTextOf : List ℕ → Contents → Type 0
-IsTextOf text h = (v : Version) × IsStated v h × (text ≡ file_text v h)
+IsTextOf text h = (v : Version) × IsStated v h × (text ≡ file_text v h) × (h.reel.rules.is_profile ≡ true)
 
--- A holding has a file of a version where that can give its origins, and its text and its record are within their limits.
+-- A holding of the profile has a file of a version where that can give its origins, and its text and its record are within their limits.
 pub record FitsInFile (v : Version) (h : Contents) : Type 0 where
+  pub profile : h.reel.rules.is_profile ≡ true
   pub stated : IsStated v h
   pub record' : length h.reel.config ≤ record_limit
   pub text : length (file_text v h) ≤ file_limit

@@ -10,6 +10,7 @@ use Rattle.ffv1_hold.specs.declared.plan.Plan.{Plan, New, Take', TakeAll', Join'
 use Rattle.ffv1_hold.specs.declared.plan.PlanFault.{PlanFault}
 use Rattle.ffv1_hold.specs.declared.plan.PlanFault.TheVariants.{Setup, Hold, File}
 use Rattle.ffv1_holding.specs.Reels.{Reel}
+use Rattle.ffv1_holding.specs.declared.recordings.Recordings.TheVariants.{Profile}
 use Rattle.ffv1_holding.specs.Contents.{Contents, holding_of}
 use Rattle.ffv1_holding.specs.TakeFaults.{IsTakeFault, AreShort}
 use Rattle.ffv1_hold.specs.Saving.{IsTooLong}
@@ -55,14 +56,14 @@ IsRereadFault h _ = ⊥
 
 -- that, of the holding of copies
 abbrev pub IsFaultOfFile : List ℕ → ℕ → ℕ → List (List ℕ) → PlanFault → Type 0
-IsFaultOfFile config width height copies (File f) = (reel : Reel) × IsReelOf config width height reel × IsRereadFault (holding_of reel copies) f
+IsFaultOfFile config width height copies (File f) = (reel : Reel) × IsReelOf Profile config width height reel × IsRereadFault (holding_of reel copies) f
 IsFaultOfFile config width height copies (Setup f) = ⊥
 IsFaultOfFile config width height copies (Hold f) = ⊥
 
 -- nothing keeps the plan from being carried out but Memory: the record has a setup at the size, the copies are short
 -- enough, and what goes through a file has one
 abbrev pub IsCarriedOut : List ℕ → ℕ → ℕ → Plan → Type 0
-IsCarriedOut config width height plan = (reel : Reel) × IsReelOf config width height reel × AreShort (copies_of plan) × RereadsFit reel plan
+IsCarriedOut config width height plan = (reel : Reel) × IsReelOf Profile config width height reel × AreShort (copies_of plan) × RereadsFit reel plan
 
 -- The refusal of the first of the plan's steps that is refused: those before it are carried out.
 abbrev pub IsPlanFault : List ℕ → ℕ → ℕ → Plan → PlanFault → Type 0

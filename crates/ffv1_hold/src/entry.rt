@@ -1,6 +1,7 @@
 //! The entries of a holding file (own): slices with their footers (RFC 9043, section 4.9), their tiles, and their origins.
 ghost use Rattle.std.specs.Prelude.{◌≡◌, ◌^◌, ◌<◌, ◌≤◌, ◌↔◌, ◌==◌, length, IsTrue, Option, IfSome, OnOk, IfOk, IfErr};
 ghost use Rattle.ffv1_bits.specs.Limits.{slice_limit, file_limit};
+ghost use Rattle.ffv1_range.specs.TileHeaders.{rules_of};
 ghost use Rattle.ffv1_slice.specs.Slices.{IsSliceOf};
 ghost use Rattle.ffv1_hold.specs.Inner.Reading.{ReadsText, Never};
 ghost use Rattle.ffv1_hold.specs.HoldingText.{FileEntry, slice_text};
@@ -16,7 +17,7 @@ use crate::origins::read_after_slice;
 use crate::version::Version;
 use ffv1_bits::SLICE_LIMIT;
 use ffv1_devices::Source;
-use ffv1_range::Setup;
+use ffv1_range::Recording;
 use ffv1_slice::read_slice;
 use std::alloc::Global;
 use std::cmp::Ordering;
@@ -75,12 +76,12 @@ impl TileSlice {
     }
 
     /// Whether it is a slice of its tile, and then whether it follows the last one, which `follows` says.
-    fn judge(&self, setup: &Setup, follows: bool) -> Result<(), HoldFileFault>
-        ensures slice { OnOk result (IsSliceOf setup.now self.now.1 (self.now.0 == 0) self.now.0) }
+    fn judge(&self, recording: &Recording, follows: bool) -> Result<(), HoldFileFault>
+        ensures slice { OnOk result (IsSliceOf (rules_of recording.now) self.now.1 (self.now.0 == 0) self.now.0) }
         ensures place { OnOk result (IsTrue follows) }
-        ensures err { (last : Option FileEntry) → (IsTrue follows ↔ Follows last self.now) → IfErr result (IsWrong setup.now last self.now) }
+        ensures err { (last : Option FileEntry) → (IsTrue follows ↔ Follows last self.now) → IfErr result (IsWrong (rules_of recording.now) last self.now) }
     {
-        if read_slice(setup, &self.bytes, self.tile == 0) != Ok(self.tile as usize) {
+        if read_slice(recording, &self.bytes, self.tile == 0) != Ok(self.tile as usize) {
             return Err(HoldFileFault::NotASlice);
         }
         if !follows {
@@ -154,13 +155,13 @@ pub(crate) fn read_entry<S: Source>(
     source: &mut S,
     place: &mut u32,
     version: Version,
-    setup: &Setup,
+    recording: &Recording,
     last: Option<HeldSlice>,
 ) -> Result<Option<HeldSlice>, HoldFileFault>
     requires { place.old ≤ file_limit }
-    ensures read { ReadsText (next_text version) (IsPartOfEntry version setup.now last) Never (EntryShows version setup.now last)
+    ensures read { ReadsText (next_text version) (IsPartOfEntry version (rules_of recording.now) last) Never (EntryShows version (rules_of recording.now) last)
         (S.log source.old) (S.log source.new) place.old place.new result }
-    ensures entry { IfOk result (λ r. IfSome r (λ e. IsFileEntryOf version setup.now e × Follows last e.0)) }
+    ensures entry { IfOk result (λ r. IfSome r (λ e. IsFileEntryOf version (rules_of recording.now) e × Follows last e.0)) }
 {
     let mut tag = [0u8; 1];
     read_field(source, place, &mut tag)?;
@@ -168,7 +169,7 @@ pub(crate) fn read_entry<S: Source>(
         0 => Ok(None),
         1 => {
             let (slice, follows) = read_tile_slice(alloc, source, place, last)?;
-            slice.judge(setup, follows)?;
+            slice.judge(recording, follows)?;
             let origins = read_after_slice(alloc, source, place, version)?;
             Ok(Some(HeldSlice { slice, origins }))
         }

@@ -2,6 +2,7 @@
 ghost use Rattle.std.specs.Prelude.{◌≡◌, ◌≤◌, None, IfSome, IfNone, IfOk, OnOk};
 ghost use Rattle.std.specs.Io.KnownBytes.{IsAtEnd};
 ghost use Rattle.ffv1_bits.specs.Limits.{file_limit};
+ghost use Rattle.ffv1_range.specs.TileHeaders.{rules_of};
 ghost use Rattle.ffv1_hold.specs.Inner.Reading.{ReadsText};
 ghost use Rattle.ffv1_hold.specs.HoldingText.{head_text};
 ghost use Rattle.ffv1_hold.specs.FileEntries.{Follows, IsFileEntryOf};
@@ -15,7 +16,7 @@ use crate::head::{read_magic, read_reel};
 use crate::version::Version;
 use ffv1_devices::{Source, next_byte};
 use ffv1_holding::Reel;
-use ffv1_range::Setup;
+use ffv1_range::Recording;
 use std::alloc::Global;
 
 /// How far a holding file was read, its version, which the magic gives, and the entry that was read last: none before
@@ -61,18 +62,25 @@ impl HoldReader {
         &mut self,
         alloc: Global,
         source: &mut S,
-        setup: &Setup,
+        recording: &Recording,
     ) -> Result<(), HoldFileFault>
         requires { self.old.place ≤ file_limit }
-        ensures read { ReadsText (λ _. next_text self.old.version self.new.held) (IsPartOfEntry self.old.version setup.now self.old.held) EndIsWhole (EntryShows self.old.version setup.now self.old.held)
+        ensures read { ReadsText (λ _. next_text self.old.version self.new.held) (IsPartOfEntry self.old.version (rules_of recording.now) self.old.held) EndIsWhole (EntryShows self.old.version (rules_of recording.now) self.old.held)
             (S.log source.old) (S.log source.new) self.old.place self.new.place result }
-        ensures entry { OnOk result (IfSome self.new.held (IsFileEntryOf self.old.version setup.now)) }
+        ensures entry { OnOk result (IfSome self.new.held (IsFileEntryOf self.old.version (rules_of recording.now))) }
         ensures follows { OnOk result (IfSome self.new.held (λ e. Follows self.old.held e.0)) }
         ensures version { self.new.version ≡ self.old.version }
         ensures end { OnOk result (IfNone self.new.held (IsAtEnd (S.log source.new).remaining)) }
     {
         let last = self.held.take();
-        match read_entry(alloc, source, &mut self.place, self.version, setup, last)? {
+        match read_entry(
+            alloc,
+            source,
+            &mut self.place,
+            self.version,
+            recording,
+            last,
+        )? {
             Some(slice) => self.held = Some(slice),
             None => match next_byte(source)? {
                 Some(_) => return Err(HoldFileFault::Trailing),

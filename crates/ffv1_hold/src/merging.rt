@@ -3,7 +3,8 @@ ghost use Rattle.std.specs.Prelude.{◌≡◌, ◌≢◌, ◌+◌, ◌≤◌, �
 ghost use Rattle.std.specs.Io.KnownBytes.{Appends};
 ghost use Rattle.ffv1_bits.specs.Limits.{record_limit, file_limit};
 ghost use Rattle.ffv1_devices.specs.Logs.{WriteLog};
-ghost use Rattle.ffv1_holding.specs.Reels.{Reel};
+ghost use Rattle.ffv1_range.specs.TileHeaders.{rules_of};
+ghost use Rattle.ffv1_holding.specs.Reels.{Reel as ReelValue};
 ghost use Rattle.ffv1_holding.specs.Contents.{Contents, IsSameReel, joined};
 ghost use Rattle.ffv1_hold.specs.HoldingText.{head_text, entry_text};
 ghost use Rattle.ffv1_hold.specs.declared.version.Version.{Version};
@@ -24,7 +25,7 @@ use crate::version::Version;
 use ffv1_bits::FILE_LIMIT;
 use ffv1_devices::{Sink, Source, write_field};
 use ffv1_holding::Reel;
-use ffv1_range::Setup;
+use ffv1_range::Recording;
 use std::alloc::Global;
 use std::cmp::Ordering;
 
@@ -55,7 +56,7 @@ pub fn join_streams<R: Source, Q: Source, W: Sink>(
         → ReturnsUnion (joined g h) result }
 
     // For inputs that begin with heads of two reels the result is `OtherReel`, `Read` or `Memory`.
-    ensures other { (g h : Reel) → BeginsWithHead (R.log left.old).remaining g → BeginsWithHead (Q.log right.old).remaining h → ¬ (g ≡ h)
+    ensures other { (g h : ReelValue) → BeginsWithHead (R.log left.old).remaining g → BeginsWithHead (Q.log right.old).remaining h → ¬ (g ≡ h)
         → ReturnsOther result }
     ensures untouched { IsErrOf result HoldFileFault.OtherReel → sink.new ≡ sink.old }
 
@@ -189,7 +190,7 @@ impl Merge {
             (record { left = R.log left.new; right = Q.log right.new; sink = W.log sink.new }) (self.old.lefts.place, self.old.rights.place) (file_limit, file_limit) }
     {
         self.begin(alloc, reel, left, right, sink)?;
-        self.merge_entries(alloc, reel.setup(), left, right, sink)?;
+        self.merge_entries(alloc, reel.recording(), left, right, sink)?;
         if self.room == 0 {
             return Err(HoldFileFault::TooLong);
         }
@@ -214,8 +215,8 @@ impl Merge {
         requires reel { length reel.now.config ≤ record_limit }
         ensures left_place { OnOk result (self.new.lefts.place ≤ file_limit) }
         ensures right_place { OnOk result (self.new.rights.place ≤ file_limit) }
-        ensures left_entry { OnOk result (IfSome self.new.lefts.held (IsFileEntryOf self.new.lefts.version reel.now.setup)) }
-        ensures right_entry { OnOk result (IfSome self.new.rights.held (IsFileEntryOf self.new.rights.version reel.now.setup)) }
+        ensures left_entry { OnOk result (IfSome self.new.lefts.held (IsFileEntryOf self.new.lefts.version reel.now.rules)) }
+        ensures right_entry { OnOk result (IfSome self.new.rights.held (IsFileEntryOf self.new.rights.version reel.now.rules)) }
         ensures room { OnOk result (self.new.room ≤ file_limit) }
         ensures ok { (s : Start) → AreVersions s self.old.lefts.version self.old.rights.version
             → IsOpened s reel.now (R.log left.old).remaining (Q.log right.old).remaining (W.log sink.old).contents
@@ -231,8 +232,8 @@ impl Merge {
     {
         write_head(sink, reel)?;
         self.room -= 20 + reel.config().len() as u32;
-        self.lefts.advance(alloc, left, reel.setup())?;
-        self.rights.advance(alloc, right, reel.setup())?;
+        self.lefts.advance(alloc, left, reel.recording())?;
+        self.rights.advance(alloc, right, reel.recording())?;
         Ok(())
     }
 
@@ -241,21 +242,21 @@ impl Merge {
     fn merge_entries<R: Source, Q: Source, W: Sink>(
         &mut self,
         alloc: Global,
-        setup: &Setup,
+        recording: &Recording,
         left: &mut R,
         right: &mut Q,
         sink: &mut W,
     ) -> Result<(), HoldFileFault>
         requires left_place { self.old.lefts.place ≤ file_limit }
         requires right_place { self.old.rights.place ≤ file_limit }
-        requires left_entry { IfSome self.old.lefts.held (IsFileEntryOf self.old.lefts.version setup.now) }
-        requires right_entry { IfSome self.old.rights.held (IsFileEntryOf self.old.rights.version setup.now) }
+        requires left_entry { IfSome self.old.lefts.held (IsFileEntryOf self.old.lefts.version (rules_of recording.now)) }
+        requires right_entry { IfSome self.old.rights.held (IsFileEntryOf self.old.rights.version (rules_of recording.now)) }
         requires room { self.old.room ≤ file_limit }
-        ensures ok { (s : Start) → setup.now ≡ s.reel.setup → AreVersions s self.old.lefts.version self.old.rights.version
+        ensures ok { (s : Start) → rules_of recording.now ≡ s.reel.rules → AreVersions s self.old.lefts.version self.old.rights.version
             → Stands s (R.log left.old).remaining (Q.log right.old).remaining (W.log sink.old).contents
             self.old.lefts.place self.old.rights.place self.old.room self.old.lefts.held self.old.rights.held
             → OnOk result (Ends s (R.log left.new).remaining (Q.log right.new).remaining (W.log sink.new).contents self.new.room) }
-        ensures err { (s : Start) → setup.now ≡ s.reel.setup → AreVersions s self.old.lefts.version self.old.rights.version
+        ensures err { (s : Start) → rules_of recording.now ≡ s.reel.rules → AreVersions s self.old.lefts.version self.old.rights.version
             → Stands s (R.log left.old).remaining (Q.log right.old).remaining (W.log sink.old).contents
             self.old.lefts.place self.old.rights.place self.old.room self.old.lefts.held self.old.rights.held
             → IfErr result (Stops (inputs_from s (R.log left.new).remaining (Q.log right.new).remaining) s.sink (W.log sink.new).contents) }
@@ -265,11 +266,11 @@ impl Merge {
         while let Some((entry, others, order)) = next_entry(&self.lefts.held, &self.rights.held) {
             write_entry(sink, &mut self.room, entry, others)?;
             match order {
-                Ordering::Less => self.lefts.advance(alloc, left, setup)?,
-                Ordering::Greater => self.rights.advance(alloc, right, setup)?,
+                Ordering::Less => self.lefts.advance(alloc, left, recording)?,
+                Ordering::Greater => self.rights.advance(alloc, right, recording)?,
                 Ordering::Equal => {
-                    self.lefts.advance(alloc, left, setup)?;
-                    self.rights.advance(alloc, right, setup)?;
+                    self.lefts.advance(alloc, left, recording)?;
+                    self.rights.advance(alloc, right, recording)?;
                 }
             }
         }

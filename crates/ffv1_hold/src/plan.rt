@@ -107,7 +107,7 @@ pub fn run(
     ensures well_formed { IfOk result IsHolding }
 
     // Where the plan's copies are near an original, with each of its slices intact in one of them, exactly its slices are held.
-    ensures near { (original : List ℕ) (slices : List (List ℕ)) → IfOk result (λ h. AreNear h.reel.setup original slices (copies_of plan.now)
+    ensures near { (original : List ℕ) (slices : List (List ℕ)) → IfOk result (λ h. AreNear h.reel.rules original slices (copies_of plan.now)
         → HoldsExactly h slices) }
 
     ensures short { OnOk result (AreShort (copies_of plan.now)) }

@@ -62,25 +62,25 @@ fn read_entries<R: Source>(
     requires first { reader.old.held ≡ None }
     requires empty { holding.old ≡ no_slices holding.old.reel }
     ensures read { ReadsText (λ _. entries_text reader.old.version (file_entries holding.new) ++ 0 ∷ [])
-        (IsPartOfEntries reader.old.version holding.old.reel.setup) (EntriesAreWhole reader.old.version holding.old.reel)
-        (EntriesShow reader.old.version holding.old.reel.setup)
+        (IsPartOfEntries reader.old.version holding.old.reel.rules) (EntriesAreWhole reader.old.version holding.old.reel)
+        (EntriesShow reader.old.version holding.old.reel.rules)
         (R.log source.old) (R.log source.new) reader.old.place reader.new.place result }
     ensures end { OnOk result (IsAtEnd (R.log source.new).remaining) }
     ensures well_formed { OnOk result (IsHolding holding.new) }
     ensures stated { OnOk result (IsStated reader.old.version holding.new) }
     ensures reel { OnOk result (holding.new.reel ≡ holding.old.reel) }
 {
-    reader.advance(alloc, source, holding.setup())?;
+    reader.advance(alloc, source, holding.reel().recording())?;
     while let Some(entry) = &reader.held {
         insert(holding, entry)?;
-        reader.advance(alloc, source, holding.setup())?;
+        reader.advance(alloc, source, holding.reel().recording())?;
     }
     Ok(())
 }
 
 /// Puts an entry that was read into the holding, which is unchanged where memory for it is refused.
 fn insert(holding: &mut Holding, entry: &HeldSlice) -> Result<(), HoldFileFault>
-    requires slice { IsEntryOf holding.old.reel.setup entry.now.0 }
+    requires slice { IsEntryOf holding.old.reel.rules entry.now.0 }
     requires origins { AreDigests entry.now.1 }
     ensures ok { OnOk result (holding.new ≡ with_entry holding.old entry.now.0 entry.now.1) }
     ensures err { IfErr result (λ f. (f ≡ HoldFileFault.Memory) × (holding.new ≡ holding.old)) }

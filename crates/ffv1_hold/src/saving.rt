@@ -1,5 +1,5 @@
 //! Writing a holding file (own).
-ghost use Rattle.std.specs.Prelude.{◌≡◌, ◌<◌, ◌≤◌, ◌↔◌, ◌++◌, ◌^◌, ◌∷◌, ◌+◌, ◌*◌, [], length, slice_index_or, IfSome, IfNone, IsErrOf, IsTrue};
+ghost use Rattle.std.specs.Prelude.{true, ◌≡◌, ◌<◌, ◌≤◌, ◌↔◌, ◌++◌, ◌^◌, ◌∷◌, ◌+◌, ◌*◌, [], length, slice_index_or, IfSome, IfNone, IsErrOf, IsTrue};
 ghost use Rattle.ffv1_bits.specs.Limits.{slice_limit, record_limit, file_limit};
 ghost use Rattle.ffv1_holding.specs.Sets as set;
 ghost use Rattle.ffv1_devices.specs.Results.{WritesAll};
@@ -55,8 +55,8 @@ pub(crate) fn write_head<S: Sink>(sink: &mut S, reel: &Reel) -> Result<(), Write
     ensures { WritesAll result (S.log sink.old) (S.log sink.new) (head_text Version.Second reel.now) }
 {
     let config = reel.config();
-    let setup = reel.setup();
-    let head = reel_head(setup.width(), setup.height(), config.len() as u32);
+    let recording = reel.recording();
+    let head = reel_head(recording.width(), recording.height(), config.len() as u32);
     write_pair(sink, &head, config)
 }
 
@@ -160,8 +160,11 @@ fn reel_head(width: u32, height: u32, length: u32) -> [u8; 20]
 /// Whether record and text are within their limits.
 fn fits_in_file(holding: &Holding) -> bool
     ensures well_formed { IsHolding holding.now }
+    ensures profile { holding.now.reel.rules.is_profile ≡ true }
     ensures fits { IsTrue result ↔ ((length holding.now.reel.config ≤ record_limit) × (length (holding_text holding.now) ≤ file_limit)) }
 {
+    // Its contract says that the recording is of the profile.
+    let _setup = holding.setup();
     let config = holding.reel().config();
     if config.len() > RECORD_LIMIT as usize {
         return false;

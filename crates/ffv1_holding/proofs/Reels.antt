@@ -1,5 +1,6 @@
 -- A record and a size are those of one reel.
-use Rattle.std.proofs.Common.{◌≡◌, ℕ, ◌*◌, List, true, refl, sym, ap, subst, ◌∙◌}
+use Rattle.std.proofs.Common.{◌≡◌, ℕ, ◌*◌, ◌^◌, ◌<◌, ◌≤◌, List, true, refl, sym, ap, subst, ◌∙◌, arith}
+use Rattle.ffv1_bits.specs.Limits.{most_tiles}
 use Rattle.ffv1_range.specs.Setup.{SetupValue, RecordingValue, IsScopedRecord, IsSetupOf}
 use Rattle.ffv1_range.specs.Header.{header_limits}
 use Rattle.ffv1_range.specs.TileHeaders.{TileRules, is_in_profile, rules_of, profile_rules}
@@ -8,6 +9,7 @@ use Rattle.ffv1_holding.specs.declared.recordings.Recordings.{Recordings}
 use Rattle.ffv1_holding.specs.declared.recordings.Recordings.TheVariants.{Profile, Any}
 use Rattle.ffv1_range.proofs.SetupLaws.{record_is_one, profile_has_parities, parities_are_wider}
 use Rattle.ffv1_range.proofs.ProfileLaws.{profile_record, record_of_profile, rules_of_profile}
+use Rattle.ffv1_holding.specs.Recordings.{scope_of}
 use Rattle.ffv1_holding.specs.Reels.{Reel, IsReel, IsRecordOf, reel_of, reel_tiles}
 
 -- a record has the size for which it is read
@@ -63,4 +65,31 @@ profile_reel r is profile =
     let of : is_in_profile is.0 ≡ true = ap (λ (z : Reel). z.rules.is_profile) (sym is.2) ∙ profile in (
       record { recording = is.0; record_of = profile_record r.config r.setup.width r.setup.height is.0 (parities_are_wider r.config r.setup.width r.setup.height is.0 is.1) of; is = setup },
       ap (λ (z : Reel). z.rules) is.2 ∙ rules_of_profile is.0 of ∙ ap profile_rules (sym setup),
+    )
+
+-- a record and a size say one thing
+pub one_record : (recordings : Recordings) (config : List ℕ) (width height : ℕ) (r s : RecordingValue) → IsRecordOf recordings config width height r
+    → IsRecordOf recordings config width height s → r ≡ s
+one_record recordings config width height r s is also = record_is_one config (scope_of recordings) width height r s is also
+
+-- a reel's size and its tiles are small
+pub reel_small : (r : Reel) → IsReel r → (r.setup.width < 2 ^ 32) × (r.setup.height < 2 ^ 32)
+reel_small r is = (omega (arith, is.1.is_width.1), omega (arith, is.1.is_height.1))
+
+pub reel_tiles_few : (r : Reel) → IsReel r → reel_tiles r ≤ most_tiles
+reel_tiles_few r is =
+    let same = ap (λ (z : Reel). reel_tiles z) is.2 ∙ ap (λ (z : RecordingValue). z.setup.across * z.setup.down) is.1.is in
+    omega (arith, is.1.accepted.tiles, same)
+
+-- a reel whose setup is that of a record of the profile is that of the record
+pub setup_reel_of : (config : List ℕ) (width height : ℕ) (r : Reel) → IsReel r → r.config ≡ config → IsSetupOf config width height r.setup
+    → (recording : RecordingValue) × IsRecordOf Profile config width height recording × (r ≡ reel_of config recording)
+setup_reel_of config width height r is same setup =
+    let made = setup_reel config width height r.setup setup in
+    let whole : r ≡ record { config = config; setup = r.setup; rules = profile_rules r.setup } =
+    same_reel r (record { config = config; setup = r.setup; rules = profile_rules r.setup }) is made same refl refl in
+    let rules = rules_of_profile setup.recording (record_of_profile config width height setup.recording setup.record_of) in (
+      setup.recording,
+      setup.record_of,
+      whole ∙ (λ i. record { config = config; setup = setup.is i; rules = (ap profile_rules setup.is ∙ sym rules) i }),
     )

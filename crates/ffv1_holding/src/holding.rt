@@ -7,7 +7,7 @@ ghost use Rattle.ffv1_range.specs.Setup.{SetupValue, RecordingValue, IsSetupOf};
 ghost use Rattle.ffv1_range.specs.TileHeaders.{profile_rules};
 ghost use Rattle.ffv1_range.specs.SetupFaults.{FirstSetupFault};
 ghost use Rattle.ffv1_holding.specs.Contents.{no_slices, IsHolding};
-ghost use Rattle.ffv1_holding.specs.Reels.{IsRecordOf, FirstRecordFault, reel_of};
+ghost use Rattle.ffv1_holding.specs.Reels.{IsReel, IsRecordOf, FirstRecordFault, reel_of};
 
 use crate::fault::HoldFault;
 use crate::joins::Join;
@@ -51,6 +51,7 @@ impl Holding<Setup> {
         ensures empty { IfOk result (λ h. h ≡ no_slices h.reel) }
         ensures config { IfOk result (λ h. h.reel.config ≡ config.now) }
         ensures setup { IfOk result (λ h. IsSetupOf config.now width height h.reel.setup) }
+        ensures well_formed { IfOk result (λ h. IsReel h.reel) }
 
         ensures only { (s : SetupValue) → IsSetupOf config.now width height s → OnErr result (result ≡ Err SetupFault.Memory) }
         ensures fault { IfErr result (λ fault. (fault ≡ SetupFault.Memory) ⊎ FirstSetupFault config.now width height fault) }

@@ -3,6 +3,7 @@ ghost use Rattle.std.specs.Prelude.{◌≡◌, ◌⊎◌, ◌↔◌, Err, true, 
 ghost use Rattle.ffv1_range.specs.Setup.{SetupValue, RecordingValue, IsSetupOf};
 ghost use Rattle.ffv1_range.specs.SetupFaults.{FirstSetupFault};
 ghost use Rattle.ffv1_range.specs.TileHeaders.{rules_of, profile_rules};
+ghost use Rattle.ffv1_holding.specs.declared.recordings.Recordings.TheVariants.{Profile};
 ghost use Rattle.ffv1_holding.specs.Reels.{IsReel, IsRecordOf, FirstRecordFault, WantsMemory, reel_of, reel_tiles};
 
 use crate::recordings::Recordings;
@@ -37,6 +38,7 @@ impl Reel<Setup> {
         ensures well_formed { IfOk result IsReel }
         ensures only { (s : SetupValue) → IsSetupOf config.items width height s → OnErr result (result ≡ Err SetupFault.Memory) }
         ensures fault { IfErr result (λ fault. (fault ≡ SetupFault.Memory) ⊎ FirstSetupFault config.items width height fault) }
+        ensures memory { IsErrOf result SetupFault.Memory → WantsMemory Profile config.items width height }
     {
         let setup = Setup::read(alloc, &config, width, height)?;
         Ok(Reel { config, setup })

@@ -75,7 +75,7 @@ pub record IsReadUpTo (old new : Option (List ℕ)) (v : Version) (r : Reel) (fa
   pub well_formed : IsHolding (part r facts)
   pub stated : IsStated v (part r facts)
   pub text : Takes old new 0 place (begun_text v (part r facts) ++ next_text v next)
-  pub entry : IfSome next (IsFileEntryOf v r.setup)
+  pub entry : IfSome next (IsFileEntryOf v r.rules)
   pub after : FollowsAll r facts next
   pub at_end : IfNone next (IsAtEnd new)
 
@@ -88,7 +88,7 @@ pub record ReadsToNext (v : Version) (r : Reel) (old new beside : Option (List �
   pub whole : (u : Version) (h : Contents) (other : Option Contents) → IsFileOf old u h → IsFileOfSome beside other
       → AllByRecursion (LiesWhole (AreAllDigests h other) r done) (file_entries (part r facts))
   pub more : List ℕ
-  pub next : (more ≡ []) ⊎ ((next : Option FileEntry) × (more ≡ next_text v next) × IfSome next (IsFileEntryOf v r.setup))
+  pub next : (more ≡ []) ⊎ ((next : Option FileEntry) × (more ≡ next_text v next) × IfSome next (IsFileEntryOf v r.rules))
   pub taken : Consumes old new (begun_text v (part r facts) ++ more)
 
 -- ---- both inputs

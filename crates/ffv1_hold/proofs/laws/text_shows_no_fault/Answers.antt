@@ -8,9 +8,9 @@ pub returns-clause-text : goal.returns-clause-text
 returns-clause-text c v h is fits fault (inside, (left, refused)) = inside (refused_outside v h is fits fault left refused)
 
 pub returns-clause-beginnings : goal.returns-clause-beginnings
-returns-clause-beginnings c text (h, is, fits, (v, stated, same)) = (
-  λ seen rest fault split shown. text_none v h is fits stated [] seen rest fault (append-nil _ ∙ sym same ∙ split) shown,
-  λ part. text_whole v h is fits stated [] (subst IsPartOfFile (same ∙ sym (append-nil _)) part),
+returns-clause-beginnings c text (h, is, fits, (v, stated, same, profile)) = (
+  λ seen rest fault split shown. text_none v h is fits profile stated [] seen rest fault (append-nil _ ∙ sym same ∙ split) shown,
+  λ part. text_whole v h is fits profile stated [] (subst IsPartOfFile (same ∙ sym (append-nil _)) part),
 )
 
 pub returns-clause-unfinished : goal.returns-clause-unfinished

@@ -1,4 +1,4 @@
-use Rattle.ffv1_hold.proofs.Common.{common_steps, ◌≡◌, ℕ, List, Result, Ok, IfOk, IfErr, OnOk, sym, ap, ◌∙◌, refl, ◌++◌, subst, map, inr, [], ◌∷◌, arith, IsErrAnd, IfOk-weaker, IfErr-weaker, on_ok_weaker, err_from_is_err_and, IsSetupOf, Reel, Contents, holding_of, IsHolding, with_found, with_copies, joined, AreNear, HoldsExactly, AreShort, IsReelOf, copies_of, IsCarriedOut, IsPlanFault, IsFaultOfCopy, IsFaultOfCopies, IsFaultOfFile, IsRereadFault, RereadsFit, IsTooLong, HoldFileFault, Plan, PlanFault, Hold, File, Memory, near_exact, own_size}
+use Rattle.ffv1_hold.proofs.Common.{common_steps, ◌≡◌, ℕ, List, Result, Ok, IfOk, IfErr, OnOk, sym, ap, ◌∙◌, refl, ◌++◌, subst, map, inr, [], ◌∷◌, arith, IsErrAnd, IfOk-weaker, IfErr-weaker, on_ok_weaker, err_from_is_err_and, IsSetupOf, Reel, Contents, holding_of, IsHolding, with_found, with_copies, joined, AreNear, HoldsExactly, AreShort, IsReelOf, copies_of, IsCarriedOut, IsPlanFault, IsFaultOfCopy, IsFaultOfCopies, IsFaultOfFile, IsRereadFault, RereadsFit, IsTooLong, HoldFileFault, Plan, PlanFault, Hold, File, Memory, near_exact, setup_reel_of, Profile, inl}
 use Rattle.ffv1_hold.proofs.ReadSteps.{holding_none}
 use Rattle.ffv1_hold.proofs.PlanSteps.{after_same, after_found, after_copies, after_joined, AreShort-both, of_kept_reel, reel_on_same, one_reel, near_of_meaning}
 use Rattle.ffv1_hold.proofs.plan.+run.Goals as goal
@@ -11,7 +11,7 @@ module _ (bytes : List ℕ) (width height : ℕ) where
     setup : IfOk r (λ h. IsSetupOf bytes width height h.reel.setup);
     meaning : IfOk r (λ h. h ≡ holding_of h.reel (copies_of plan));
     well_formed : IfOk r IsHolding;
-    near : (original : List ℕ) (slices : List (List ℕ)) → IfOk r (λ h. AreNear h.reel.setup original slices (copies_of plan) → HoldsExactly h slices);
+    near : (original : List ℕ) (slices : List (List ℕ)) → IfOk r (λ h. AreNear h.reel.rules original slices (copies_of plan) → HoldsExactly h slices);
     short : OnOk r (AreShort (copies_of plan));
     fits : IfOk r (λ h. RereadsFit h.reel plan);
     fault : IfErr r (IsPlanFault bytes width height plan);
@@ -24,12 +24,16 @@ module _ (bytes : List ℕ) (width height : ℕ) where
       let p = err_from_is_err_and r refusal in
       rw (p.1, p.2, is) (record { config = tt; setup = tt; meaning = tt; well_formed = tt; near = λ original slices. tt; short = tt; fits = tt; fault = faulty })
 
+  -- the reel of what is returned is the record's
+  says_reel : (h : Contents) → IsHolding h → h.reel.config ≡ bytes → IsSetupOf bytes width height h.reel.setup → IsReelOf Profile bytes width height h.reel
+  says_reel h is config setup = setup_reel_of bytes width height h.reel is.reel config setup
+
   -- a plan that gave a holding is carried out
   carried : (plan lent : Plan) (h : Contents) → lent ≡ plan → Says lent (Ok h) → IsCarriedOut bytes width height plan
-  carried plan lent h is was = subst (IsCarriedOut bytes width height) is (h.reel, (was.config, was.setup), was.short, was.fits)
+  carried plan lent h is was = subst (IsCarriedOut bytes width height) is (h.reel, says_reel h was.well_formed was.config was.setup, was.short, was.fits)
 
   -- what a step says that keeps the reel of the holding before it
-  stepped : (plan step : Plan) (reel : Reel) (r : Result Contents PlanFault) (Took : Contents → Type 0) → plan ≡ step → IsReelOf bytes width height reel
+  stepped : (plan step : Plan) (reel : Reel) (r : Result Contents PlanFault) (Took : Contents → Type 0) → plan ≡ step → IsReelOf Profile bytes width height reel
       → IfOk r Took → ((h : Contents) → Took h → h.reel ≡ reel) → ((h : Contents) → Took h → h ≡ holding_of h.reel (copies_of step)) → IfOk r IsHolding
       → OnOk r (AreShort (copies_of step)) → IfOk r (λ h. RereadsFit h.reel step) → IfErr r (IsPlanFault bytes width height step) → Says plan r
   stepped plan step reel r Took is of_reel took keeps means well_formed short fits faulty =
@@ -47,7 +51,7 @@ module _ (bytes : List ℕ) (width height : ℕ) where
       let was : Says before (Ok h) = subst (λ p. Says p (Ok h)) deref given in
       let keeps = λ (k : Contents) (e : k ≡ grown). ap (λ (k : Contents). k.reel) e ∙ same in
       let short = on_ok_weaker r (AreShort-both (copies_of before) more was.short) took.short in
-      stepped plan step h.reel r (λ k. k ≡ grown) is (was.config, was.setup) took.ok keeps (λ k e. means k was.meaning e) took.well_formed
+      stepped plan step h.reel r (λ k. k ≡ grown) is (says_reel h was.well_formed was.config was.setup) took.ok keeps (λ k e. means k was.meaning e) took.well_formed
       (subst (λ c. OnOk r (AreShort c)) (sym all) short)
       (of_kept_reel r (λ k. k ≡ grown) h.reel keeps (λ q. RereadsFit q step) (fits h.reel was.fits) took.ok)
       (IfErr-weaker r Faulty (IsPlanFault bytes width height step) (λ f. faulty f (carried before lent h deref given)) took.fault)
@@ -72,9 +76,22 @@ pub union_of-requires : goal.union_of-requires
 union_of-requires t c =
     let left = c.in_ok-holding-in-Join in
     let right = c.in_ok-other-in-Join in
-    cc (one_reel c.args.config.now c.args.width c.args.height left.holding.reel right.other.reel (left.ensures.config, left.ensures.setup) (right.ensures.config, right.ensures.setup))
+    one_reel Profile c.args.config.now c.args.width c.args.height left.holding.reel right.other.reel
+    (says_reel c.args.config.now c.args.width c.args.height left.holding left.ensures.well_formed left.ensures.config left.ensures.setup)
+    (says_reel c.args.config.now c.args.width c.args.height right.other right.ensures.well_formed right.ensures.config right.ensures.setup)
 
 -- what the second plan gave is joined into what the first gave
+pub returns-in_err-other-in-Join-clause-fault : goal.returns-in_err-other-in-Join-clause-fault
+returns-in_err-other-in-Join-clause-fault t c =
+    let says = Says c.args.config.now c.args.width c.args.height in
+    let before = c.in_ok-holding-in-Join.holding in
+    let was : says c.in-Join.left.value (Ok before) = subst (λ p. says p (Ok before)) c.deref-in-Join.ensures c.in_ok-holding-in-Join.ensures in
+    let done = carried c.args.config.now c.args.width c.args.height c.in-Join.left.value _ before refl was in
+    let p = err_from_is_err_and c.from_residual-in_err-other-in-Join.result c.from_residual-in_err-other-in-Join.ensures.1 in
+    let fault = subst (λ (q : Plan). IsPlanFault c.args.config.now c.args.width c.args.height q c.in_err-other-in-Join.field-0.0) c.deref-in-Join-2.ensures
+    c.in_err-other-in-Join.ensures.fault in
+    rw (p.1, p.2, c.in-Join.is) (inr (done, inl fault))
+
 pub returns-in_ok-other-in-Join : goal.returns-in_ok-other-in-Join
 returns-in_ok-other-in-Join t c =
     let says = Says c.args.config.now c.args.width c.args.height in
@@ -82,12 +99,13 @@ returns-in_ok-other-in-Join t c =
     let other = c.in_ok-other-in-Join.other in
     let was : says c.in-Join.left.value (Ok before) = subst (λ p. says p (Ok before)) c.deref-in-Join.ensures c.in_ok-holding-in-Join.ensures in
     let too : says c.in-Join.right.value (Ok other) = subst (λ p. says p (Ok other)) c.deref-in-Join-2.ensures c.in_ok-other-in-Join.ensures in
-    let same = one_reel c.args.config.now c.args.width c.args.height before.reel other.reel (was.config, was.setup) (too.config, too.setup) in
+    let same = one_reel Profile c.args.config.now c.args.width c.args.height before.reel other.reel
+    (says_reel c.args.config.now c.args.width c.args.height before was.well_formed was.config was.setup) (says_reel c.args.config.now c.args.width c.args.height other too.well_formed too.config too.setup) in
     let r = c.union_of.result in
     let Took = λ (h : Contents). h ≡ joined before other in
     let keeps = λ (h : Contents) (is : Took h). ap (λ (k : Contents). k.reel) is in
     let done = carried c.args.config.now c.args.width c.args.height in
-    stepped c.args.config.now c.args.width c.args.height _ _ before.reel r Took c.in-Join.is (was.config, was.setup) c.union_of.ensures.ok keeps
+    stepped c.args.config.now c.args.width c.args.height _ _ before.reel r Took c.in-Join.is (says_reel c.args.config.now c.args.width c.args.height before was.well_formed was.config was.setup) c.union_of.ensures.ok keeps
     (λ h is. after_joined before h (copies_of c.in-Join.left.value) was.meaning other (copies_of c.in-Join.right.value) too.meaning same is)
     c.union_of.ensures.well_formed
     (IfOk-weaker r Took _ (λ _ _. AreShort-both (copies_of c.in-Join.left.value) (copies_of c.in-Join.right.value) was.short too.short)
@@ -103,8 +121,7 @@ returns-in_ok-new-in-New t c =
     let h = c.in_ok-new-in-New.field-0 in
     let new = c.in_ok-new-in-New.ensures in
     let meaning = new.empty ∙ ap (λ p. holding_of h.reel (copies_of p)) (sym c.in-New.is) in
-    let reel = own_size h.reel.config c.args.width c.args.height h.reel.setup
-    (subst (λ bytes. IsSetupOf bytes c.args.width c.args.height h.reel.setup) (sym new.config) new.setup) in
+    let reel = new.well_formed in
     record {
       config = new.config;
       setup = new.setup;
@@ -125,7 +142,7 @@ returns-in_ok-holding-in-Reread t c =
     let copies = copies_of c.in-Reread.before.value in
     let r = c.through_file.result in
     let same = c.through_file.ensures.same in
-    stepped c.args.config.now c.args.width c.args.height _ _ before.reel r (λ h. h ≡ before) c.in-Reread.is (was.config, was.setup) same
+    stepped c.args.config.now c.args.width c.args.height _ _ before.reel r (λ h. h ≡ before) c.in-Reread.is (says_reel c.args.config.now c.args.width c.args.height before was.well_formed was.config was.setup) same
     (λ h is. ap (λ (k : Contents). k.reel) is) (λ h is. after_same before h copies was.meaning is)
     (IfOk-weaker r (λ h. h ≡ before) IsHolding (λ h is. subst IsHolding (sym is) was.well_formed) same)
     (IfOk-weaker r (λ h. h ≡ before) _ (λ _ _. was.short) same)
@@ -135,5 +152,5 @@ returns-in_ok-holding-in-Reread t c =
     (λ f is. inr (
       carried c.args.config.now c.args.width c.args.height c.in-Reread.before.value _ before refl was,
       subst (IsFaultOfFile c.args.config.now c.args.width c.args.height copies) (sym is.1)
-          (before.reel, (was.config, was.setup), subst (λ (k : Contents). IsRereadFault k is.0) was.meaning is.2),
+          (before.reel, says_reel c.args.config.now c.args.width c.args.height before was.well_formed was.config was.setup, subst (λ (k : Contents). IsRereadFault k is.0) was.meaning is.2),
     )) c.through_file.ensures.fault)

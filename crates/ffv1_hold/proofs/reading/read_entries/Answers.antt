@@ -1,4 +1,4 @@
-use Rattle.ffv1_hold.proofs.Common.{common_steps, ◌≡◌, Option, refl, ap, ◌∙◌, subst, IfSome, arith, err_from_is_err_and, SetupValue, Reel, Contents, with_entry, FileEntry, file_entries, last_of, Follows, IsFileEntryOf}
+use Rattle.ffv1_hold.proofs.Common.{common_steps, ◌≡◌, Option, refl, ap, ◌∙◌, subst, IfSome, arith, err_from_is_err_and, TileRules, Reel, Contents, with_entry, FileEntry, file_entries, last_of, Follows, IsFileEntryOf}
 use Rattle.ffv1_hold.proofs.TextReads.{TakesText-trans}
 use Rattle.ffv1_hold.proofs.ReadSteps.{AreRead, none_read, one_more, next_refused, memory_refused, next_taken, next_follows, digests_in_version}
 use Rattle.ffv1_hold.proofs.reading.read_entries.Given.{Over}
@@ -7,9 +7,9 @@ use Rattle.ffv1_hold.proofs.reading.read_entries.Goals as goal
 
 -- the entry that is held after the last one that was taken
 module _ (g : Over) (c : In-Some g) where
-  entry_held : IsFileEntryOf c.args.reader.now.version c.args.holding.now.reel.setup c.in-Some.entry
+  entry_held : IsFileEntryOf c.args.reader.now.version c.args.holding.now.reel.rules c.in-Some.entry
   entry_held =
-      subst (λ (o : Option FileEntry). IfSome o (IsFileEntryOf c.args.reader.now.version c.args.holding.now.reel.setup)) c.in-Some.is
+      subst (λ (o : Option FileEntry). IfSome o (IsFileEntryOf c.args.reader.now.version c.args.holding.now.reel.rules)) c.in-Some.is
       c.loop-reader.invariant.entry
 
   read_with : (grown : Contents) → grown ≡ with_entry c.loop-reader.holding c.in-Some.entry.0 c.in-Some.entry.1
@@ -27,22 +27,22 @@ returns-in_err-advance g c =
     let p = err_from_is_err_and c.from_residual.result c.from_residual.ensures.1 in
     let v = c.args.reader.now.version in
     let h = c.args.holding.now in
-    let none = none_read v _ _ h c.args.reader.now.held c.requires.place c.setup.ensures.well_formed.reel c.requires.empty c.requires.first in
-    rw (p.1, p.2) (record { read = next_refused v h.reel _ _ _ _ h _ none v _ refl c.setup.ensures.value _ _ c.in_err-advance.ensures.read; end = tt; well_formed = tt; stated = tt; reel = tt })
+    let none = none_read v _ _ h c.args.reader.now.held c.requires.place c.reel.ensures.well_formed.reel c.requires.empty c.requires.first in
+    rw (p.1, p.2) (record { read = next_refused v h.reel _ _ _ _ h _ none v _ refl (c.recording.ensures.rules ∙ ap (λ (r : Reel). r.rules) c.reel.ensures.value) _ _ c.in_err-advance.ensures.read; end = tt; well_formed = tt; stated = tt; reel = tt })
 
 pub loop-reader-init : goal.loop-reader-init
 loop-reader-init g c =
     let v = c.args.reader.now.version in
     let h = c.args.holding.now in
-    let none = none_read v _ _ h c.args.reader.now.held c.requires.place c.setup.ensures.well_formed.reel c.requires.empty c.requires.first in
+    let none = none_read v _ _ h c.args.reader.now.held c.requires.place c.reel.ensures.well_formed.reel c.requires.empty c.requires.first in
     let next = c.in_ok-advance.ensures in
     record {
       text = TakesText-trans _ _ _ _ _ _ _ _ none.text next.read;
       version = next.version;
-      well_formed = c.setup.ensures.well_formed;
+      well_formed = c.reel.ensures.well_formed;
       stated = none.stated;
       reel = refl;
-      entry = subst (λ (x : SetupValue). IfSome c.advance.new.self.held (IsFileEntryOf v x)) c.setup.ensures.value next.entry;
+      entry = subst (λ (x : TileRules). IfSome c.advance.new.self.held (IsFileEntryOf v x)) (c.recording.ensures.rules ∙ ap (λ (r : Reel). r.rules) c.reel.ensures.value) next.entry;
       follows = next_follows v h.reel _ _ _ _ h _ none c.advance.new.self.held next.follows;
       at_end = next.end;
     }
@@ -65,7 +65,7 @@ loop-reader-preserved g c =
     let v = c.args.reader.now.version in
     let more = read_with g (goal.at.loop-reader-preserved g c).In-Some c.insert.new.holding c.in_ok-insert.ensures.ok in
     let next = c.in_ok-advance-2.ensures in
-    let setup = c.setup-in-Some.ensures.value ∙ ap (λ (r : Reel). r.setup) more.reel' in
+    let rules = (c.recording-in-Some.ensures.rules ∙ ap (λ (r : Reel). r.rules) c.reel-in-Some.ensures.value) ∙ ap (λ (r : Reel). r.rules) more.reel' in
     record {
       text = next_taken v c.loop-reader.reader.version _ _ _ _ _ _ _ _ inv.version more.text next.read;
       version = next.version ∙ inv.version;
@@ -81,8 +81,8 @@ pub returns-in_err-advance-2-clause-read : goal.returns-in_err-advance-2-clause-
 returns-in_err-advance-2-clause-read g c =
     let p = err_from_is_err_and c.from_residual-in_err-advance-2.result c.from_residual-in_err-advance-2.ensures.1 in
     let more = read_with g (goal.at.returns-in_err-advance-2-clause-read g c).In-Some c.insert.new.holding c.in_ok-insert.ensures.ok in
-    let setup = c.setup-in-Some.ensures.value ∙ ap (λ (r : Reel). r.setup) more.reel' in
-    rw (p.1, p.2) (next_refused c.args.reader.now.version c.args.holding.now.reel _ _ _ _ _ _ more _ _ c.loop-reader.invariant.version setup _ _
+    let rules = (c.recording-in-Some.ensures.rules ∙ ap (λ (r : Reel). r.rules) c.reel-in-Some.ensures.value) ∙ ap (λ (r : Reel). r.rules) more.reel' in
+    rw (p.1, p.2) (next_refused c.args.reader.now.version c.args.holding.now.reel _ _ _ _ _ _ more _ _ c.loop-reader.invariant.version rules _ _
     c.in_err-advance-2.ensures.read)
 
 pub returns : goal.returns

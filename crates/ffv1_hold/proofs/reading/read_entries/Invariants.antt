@@ -10,7 +10,7 @@ invariant-loop-reader g l = record {
   well_formed : IsHolding l.holding;
   stated : IsStated l.fn.reader.version l.holding;
   reel : l.holding.reel ≡ l.fn.holding.reel;
-  entry : IfSome l.reader.held (IsFileEntryOf l.fn.reader.version l.fn.holding.reel.setup);
+  entry : IfSome l.reader.held (IsFileEntryOf l.fn.reader.version l.fn.holding.reel.rules);
   follows : IfSome l.reader.held (λ e. Follows (last_of (file_entries l.holding)) e.0);
   at_end : IfNone l.reader.held (IsAtEnd (g.R.Source.log l.source).remaining);
 }

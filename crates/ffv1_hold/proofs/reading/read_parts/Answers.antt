@@ -24,11 +24,11 @@ returns-in_err-read_entries g c =
     let same = ap (λ (h : Contents). h.reel) c.in_ok-holding.ensures in
     let v = c.read_head.new.self.version in
     let reel = c.in_ok-holding.holding.reel in
-    rw (p.1, p.2) (StopsAt-after (IsPartOfEntries v reel.setup) IsPartOfFile (EntriesAreWhole v reel) FileIsWhole (EntriesShow v reel.setup) FileShows _ _ _ _ _
+    rw (p.1, p.2) (StopsAt-after (IsPartOfEntries v reel.rules) IsPartOfFile (EntriesAreWhole v reel) FileIsWhole (EntriesShow v reel.rules) FileShows _ _ _ _ _
     (head_text v r) c.in_ok-reel.ensures.read _ c.in_err-read_entries.ensures.read
-    (λ s part. file_from_entries_part v r is s (subst (λ (x : Reel). IsPartOfEntries v x.setup s) same part))
+    (λ s part. file_from_entries_part v r is s (subst (λ (x : Reel). IsPartOfEntries v x.rules s) same part))
     (λ f s whole. file_from_whole_entries v r is f s (subst (λ (x : Reel). EntriesAreWhole v x f s) same whole))
-    (λ f s shown. file_from_entries_fault v r is f s (subst (λ (x : Reel). EntriesShow v x.setup f s) same shown)))
+    (λ f s shown. file_from_entries_fault v r is f s (subst (λ (x : Reel). EntriesShow v x.rules f s) same shown)))
 
 pub returns : goal.returns
 returns g c =

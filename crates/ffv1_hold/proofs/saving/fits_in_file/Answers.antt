@@ -1,4 +1,5 @@
 use Rattle.ffv1_hold.proofs.Common.{◌≡◌, ◌+◌, length, arith, refl, sym, ap, ◌∙◌, true≢false, Second, Reel, entries_text, file_entries, holding_text}
+use Rattle.ffv1_hold.proofs.SavedTiles.{writable}
 use Rattle.ffv1_hold.proofs.Slots.{length-text}
 use Rattle.ffv1_hold.proofs.saving.fits_in_file.Goals.{After-config-config, After-room_after}
 use Rattle.ffv1_hold.proofs.saving.fits_in_file.Goals as goal
@@ -22,3 +23,6 @@ pub returns-in-None-clause-fits : goal.returns-in-None-clause-fits
 returns-in-None-clause-fits c =
     let text = text_long (goal.at.returns-in-None-clause-fits c).After-room_after in
     (λ no. absurd (true≢false (sym no)), λ fits. absurd (omega (arith, text, c.in-None.ensures.none, fits.1)))
+
+pub room_after-requires-clause-entries : goal.room_after-requires-clause-entries
+room_after-requires-clause-entries c = writable c.args.holding.now c.reel.ensures.well_formed

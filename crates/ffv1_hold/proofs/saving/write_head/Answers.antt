@@ -4,5 +4,5 @@ use Rattle.ffv1_hold.proofs.saving.write_head.Goals as goal
 
 pub returns : goal.returns
 returns g c =
-    let setup = c.setup-setup.ensures.value in
+    let setup = c.recording-recording.ensures.setup in
     grind (arith, common_steps, head_spelled)

@@ -13,7 +13,7 @@ returns-in_err-reel-clause-only c =
     rw (p.1, p.2) (ap Err memory)
 
 pub returns-in_default : goal.returns-in_default
-returns-in_default c = record { empty = tt; config = tt; setup = tt; only = λ s is. refl; fault = inl refl }
+returns-in_default c = record { empty = tt; config = tt; setup = tt; well_formed = tt; only = λ s is. refl; fault = inl refl }
 
 pub returns-in_default-of_reel : goal.returns-in_default-of_reel
-returns-in_default-of_reel c = record { empty = tt; config = tt; setup = tt; only = λ s is. refl; fault = inl refl }
+returns-in_default-of_reel c = record { empty = tt; config = tt; setup = tt; well_formed = tt; only = λ s is. refl; fault = inl refl }
