@@ -22,3 +22,4 @@ pub mod SetupLaws
 pub mod Vectors
 pub mod SetupFacts
 pub mod FirstFaults
+pub mod Refusals

@@ -22,7 +22,12 @@ pub use head::{
     HEAD_FIELDS, HeadFault, SliceHead, SliceHeader, SliceStart, read_head, read_head_fields,
     read_slice_head,
 };
-pub use recording::{Recording, recording_is_in_version_3, recording_is_one};
-pub use setup::{Setup, setup_is_in_profile, setup_is_one, setup_is_recording};
+pub use recording::{
+    Recording, one_recording_refusal, recording_is_in_version_3, recording_is_one,
+};
+pub use setup::{
+    Setup, one_setup_refusal, recording_is_of_profile, setup_is_in_profile, setup_is_one,
+    setup_is_recording,
+};
 pub use symbols::{signed_symbol_is_spelled, symbol_is_spelled};
 pub use transitions::{Transitions, next_state};
