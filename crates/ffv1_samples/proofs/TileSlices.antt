@@ -124,7 +124,7 @@ table_in head third zero = refl
 table_in head third (suc p) = refl
 
 module _ (r : RecordingValue) (profile : IsOfProfile r) where
-  planes_count : count_of_planes r ≡ plane_count (grid_of r.setup)
+  pub planes_count : count_of_planes r ≡ plane_count (grid_of r.setup)
   planes_count =
       ap (λ b. (if b || r.setup.has_chroma then 3 else 1) + (if r.has_alpha then 1 else 0)) profile.is_rgb
       ∙ ap (λ b. (if r.setup.has_chroma then 3 else 1) + (if b then 1 else 0)) profile.has_alpha
@@ -366,13 +366,13 @@ module _ (r : RecordingValue) (profile : IsOfProfile r) where
 
 -- ---- a tile's picture is a slice's
 
-rect_is : (g : GridValue) (tile x y w h : ℕ) → x ≡ tile % g.across → y ≡ tile / g.across → w ≡ 1 → h ≡ 1 → tiles_rect g x y w h ≡ tile_rect g tile
+pub rect_is : (g : GridValue) (tile x y w h : ℕ) → x ≡ tile % g.across → y ≡ tile / g.across → w ≡ 1 → h ≡ 1 → tiles_rect g x y w h ≡ tile_rect g tile
 rect_is g tile x y w h column row width height =
     ap (λ i. tiles_rect g i y w h) column ∙ ap (λ i. tiles_rect g (tile % g.across) i w h) row
     ∙ ap (λ i. tiles_rect g (tile % g.across) (tile / g.across) i h) width ∙ ap (λ i. tiles_rect g (tile % g.across) (tile / g.across) 1 i) height
 
 module _ (r : RecordingValue) (profile : IsOfProfile r) (tile : ℕ) (content : List ℕ) (picture : PictureValue) where
-  slice_found : IsPictureOf r.setup tile content picture
+  pub slice_found : IsPictureOf r.setup tile content picture
       → (slice : SlicePictureValue) × IsSlicePicture r content (tile == 0) None slice × IsSliceOfTile r.setup tile picture slice
   unfolding slice_header_of
   slice_found h =
