@@ -80,11 +80,11 @@ two_tables n false fields none a b =
     All-cons (λ table. table < n) (slice_index fields 4) (slice_index fields 5 ∷ []) a
     (All-cons (λ table. table < n) (slice_index fields 5) [] b (All-nil (λ table. table < n)))
 
-pub slice_header_of : RecordingValue → Bool → List ℕ → SliceHeader
+slice_header_of : RecordingValue → Bool → List ℕ → SliceHeader
 slice_header_of r first fields = slice_header_with r.has_alpha (if first then Some true else None) fields
 
 -- The header of a tile is that of a slice.
-pub header_found : (r : RecordingValue) (content : List ℕ) (first : Bool) (head : SliceHead) (place : ℕ) → IsOfProfile r
+header_found : (r : RecordingValue) (content : List ℕ) (first : Bool) (head : SliceHead) (place : ℕ) → IsOfProfile r
     → (h : IsHeadOf (header_limits r.setup) content first head place)
     → IsSliceHeaderOf r content first (slice_header_of r first h.fields) (Codes place)
 unfolding slice_header_of
@@ -425,11 +425,11 @@ module _ (r : RecordingValue) (profile : IsOfProfile r) (tile : ℕ) (content : 
   -- ---- a slice's picture is a tile's
 
   module _ (slice : SlicePictureValue) (of : IsSliceOfTile r.setup tile picture slice) where
-    main : (place : ℕ) (coded : List (List ℕ)) (rest : List Bool) (after : GroupsOf ContextState)
+    tile_found : (place : ℕ) (coded : List (List ℕ)) (rest : List Bool) (after : GroupsOf ContextState)
         → IsSliceHeaderOf r content (tile == 0) slice.header (Codes place) → slice.planes ≡ coded
         → AreCodesCoded r slice.header.tables (slice_sizes r slice.header) (bits_of (drop place content)) (codes_before r slice.header.tables None) coded rest after
         → slice.spare_bits ≡ length rest → IsPictureOf r.setup tile content picture
-    main place coded rest after h same codes spare =
+    tile_found place coded rest after h same codes spare =
         let fields : List ℕ = h.fields in
         let across : ℕ = r.setup.across in
         let limits : HeadLimits = header_limits r.setup in
@@ -483,16 +483,16 @@ module _ (r : RecordingValue) (profile : IsOfProfile r) (tile : ℕ) (content : 
           spare_bits = sym of.spare_bits ∙ spare;
         }
 
-    by_parts : (start : SliceStart) (coded : List (List ℕ)) (end : SamplesEnd) → IsSliceHeaderOf r content (tile == 0) slice.header start
+    tile_from : (start : SliceStart) (coded : List (List ℕ)) (end : SamplesEnd) → IsSliceHeaderOf r content (tile == 0) slice.header start
         → slice.planes ≡ coded → AreCoded r slice.header.tables (slice_sizes r slice.header) content start None coded end
         → EndsWith start end slice.spare_bits slice.is_clean → IsPictureOf r.setup tile content picture
-    by_parts (Codes place) coded (rice_end rest after) h same codes ends = main place coded rest after h same codes ends.0
-    by_parts (Codes place) coded (range_end last after) h same codes ends = absurd codes
-    by_parts (Samples decoder) coded end h same codes ends = absurd (h.follows.0 profile.coder)
+    tile_from (Codes place) coded (rice_end rest after) h same codes ends = tile_found place coded rest after h same codes ends.0
+    tile_from (Codes place) coded (range_end last after) h same codes ends = absurd codes
+    tile_from (Samples decoder) coded end h same codes ends = absurd (h.follows.0 profile.coder)
 
     slice_back : IsSlicePicture r content (tile == 0) None slice → IsPictureOf r.setup tile content picture
     slice_back h =
-        by_parts h.start h.coded h.end h.is_header
+        tile_from h.start h.coded h.end h.is_header
         (subst (λ b. MatchBool b (AreRgbPlanes r h.coded slice.planes) (slice.planes ≡ h.coded)) profile.is_rgb h.planes) h.are_coded h.ends
 
 -- ---- the law
