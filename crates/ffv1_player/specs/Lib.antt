@@ -4,4 +4,5 @@ pub mod Faults
 pub mod Fitting
 pub mod Players
 pub mod Written
+pub mod Profile
 pub mod Inner

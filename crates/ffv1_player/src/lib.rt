@@ -10,6 +10,6 @@ mod samples;
 mod write;
 
 pub use fault::{ContentFault, SamplesFault};
-pub use player::Player;
+pub use player::{Player, frame_is_played};
 pub use samples::{Samples, SliceEnd};
 pub use write::write_samples;

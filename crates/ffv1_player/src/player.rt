@@ -5,6 +5,7 @@ ghost use Rattle.ffv1_player.specs.Frames.{is_key, BeginsWith, IsPlayedFrame};
 ghost use Rattle.ffv1_player.specs.Faults.{IsFirstSamplesFault};
 ghost use Rattle.ffv1_player.specs.Players.{left_values, last_value};
 ghost use Rattle.ffv1_player.specs.Fitting.{FitLeft, FitLast};
+ghost use Rattle.ffv1_player.specs.Profile.{FrameIsPlayed};
 ghost use Rattle.ffv1_player.specs.Inner.Playing.{IsPreviousStop};
 
 use crate::before::{LeftSlice, first_stop};
@@ -164,3 +165,9 @@ impl Player {
         Ok(frame)
     }
 }
+
+/// For a record of the profile a frame that a payload spells is played, after any frame before. So where `Decoder::decode_frame` of
+/// `ffv1_picture` gives a frame, `Player::decode` gives the same samples, or `Memory`.
+pub fn frame_is_played()
+    ensures { FrameIsPlayed }
+{}

@@ -25,3 +25,4 @@ pub mod ProfileLaws
 pub mod Vectors
 pub mod SetupFacts
 pub mod FirstFaults
+pub mod Refusals

@@ -11,7 +11,7 @@ use Rattle.ffv1_range.specs.Decoder.{Reader, Starts}
 use Rattle.ffv1_range.specs.Forms.{from_place, form_at}
 use Rattle.ffv1_range.specs.TableForms.{fresh_row}
 use Rattle.ffv1_range.specs.InitialStates.{keeps_states}
-use Rattle.ffv1_range.specs.Setup.{SetupValue, RecordingValue, SetFields, RecordFields, IsAccepted, IsSize, record_content, IsScopedRecord, IsSetupOf, IsInProfile, IsInVersion3, SetupIsOne, SetupIsInProfile, SetupIsRecording, RecordingIsOne, RecordingIsInVersion3}
+use Rattle.ffv1_range.specs.Setup.{SetupValue, RecordingValue, SetFields, RecordFields, IsAccepted, IsSize, record_content, IsScopedRecord, IsSetupOf, IsInProfile, IsOfProfile, IsInVersion3, SetupIsOne, SetupIsInProfile, SetupIsRecording, RecordingIsOne, RecordingIsInVersion3, RecordingIsOfProfile}
 use Rattle.ffv1_range.specs.Scopes.{accepts_coder, accepts_space, accepts_depth, accepts_shift, accepts_extra_plane, accepts_ec, greatest_shift}
 use Rattle.ffv1_range.specs.declared.scope.Scope.{Scope}
 use Rattle.ffv1_range.specs.declared.scope.Scope.TheVariants.{Profile, Parities, Version3}
@@ -364,6 +364,39 @@ record_is_wider config width height value of = parities_are_wider config width h
 
 pub setup_is_recording : SetupIsRecording
 setup_is_recording config width height setup s = (s.recording, record_is_wider config width height s.recording s.record_of, s.is)
+
+-- the profile's space is no RGB, and its depth is 8 bits
+no_rgb : (space : ℕ) → accepts_space Profile space ≡ true → (space == 1) ≡ false
+no_rgb space h = ap (λ s. s == 1) (eqb-true space 0 h)
+
+eight_bits : (depth : ℕ) → accepts_depth Profile depth ≡ true → (if depth == 0 then 8 else depth) ≡ 8
+eight_bits depth h =
+    elim (or_cases (depth == 0) (depth == 8) h) [
+      | inl none ↦ ap (λ b. if b then 8 else depth) none
+      | inr eight ↦ ap (λ d. if d == 0 then 8 else d) (eqb-true depth 8 eight)
+    ]
+
+no_alpha : (extra : Bool) → accepts_extra_plane Profile extra ≡ true → extra ≡ false
+no_alpha false h = refl
+no_alpha true h = absurd cc
+
+-- what a record of the profile says
+record_keeps_profile : (config : List ℕ) (width height : ℕ) (value : RecordingValue) → IsScopedRecord config Profile width height value → IsOfProfile value
+record_keeps_profile config width height value s =
+    let ok : IsAccepted Profile width height s.fields = s.accepted in
+    record {
+      coder = ap (λ (z : RecordingValue). z.coder) s.is ∙ eqb-true s.fields.coder_type 0 ok.coder_type;
+      is_rgb = ap (λ (z : RecordingValue). z.is_rgb) s.is ∙ no_rgb s.fields.colorspace_type ok.colorspace_type;
+      depth = ap (λ (z : RecordingValue). z.depth) s.is ∙ eight_bits s.fields.bits_per_raw_sample ok.bits_per_raw_sample;
+      has_alpha = ap (λ (z : RecordingValue). z.has_alpha) s.is ∙ no_alpha s.fields.extra_plane ok.extra_plane;
+      ec = ap (λ (z : RecordingValue). z.setup.ec) s.is ∙ eqb-true s.fields.ec 1 ok.ec;
+      setup = record_in_profile config width height value s;
+    }
+
+pub recording_is_of_profile : RecordingIsOfProfile
+recording_is_of_profile config width height setup r s is =
+    let one : s.recording ≡ r = recording_is_one config width height s.recording r (record_is_wider config width height s.recording s.record_of) is in
+    (s.is ∙ ap (λ z. z.setup) one, subst IsOfProfile one (record_keeps_profile config width height s.recording s.record_of))
 
 -- ---- a result that reading gives
 

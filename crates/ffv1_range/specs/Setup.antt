@@ -316,6 +316,15 @@ pub record IsInProfile (setup : SetupValue) : Type 0 where
   pub few_sets : length setup.sets ≤ 8
   pub contexts : HaveContexts setup.sets
 
+-- What each recording of the profile keeps: it has Golomb-Rice codes, and Y, or Y, Cb and Cr, of 8 bits, and each slice has its parity.
+pub record IsOfProfile (r : RecordingValue) : Type 0 where
+  pub coder : r.coder ≡ 0
+  pub is_rgb : r.is_rgb ≡ false
+  pub depth : r.depth ≡ 8
+  pub has_alpha : r.has_alpha ≡ false
+  pub ec : r.setup.ec ≡ 1
+  pub setup : IsInProfile r.setup
+
 -- ---- laws
 
 -- One record and size have one setup.
@@ -342,3 +351,9 @@ abbrev pub SetupIsRecording : Type 0
 SetupIsRecording =
     (config : List ℕ) (width height : ℕ) (setup : SetupValue) → IsSetupOf config width height setup
     → (r : RecordingValue) × IsRecordingOf config width height r × (setup ≡ r.setup)
+
+-- What a record of the profile says of a recording is of the profile, and has the record's setup.
+abbrev pub RecordingIsOfProfile : Type 0
+RecordingIsOfProfile =
+    (config : List ℕ) (width height : ℕ) (setup : SetupValue) (r : RecordingValue) → IsSetupOf config width height setup
+    → IsRecordingOf config width height r → (setup ≡ r.setup) × IsOfProfile r

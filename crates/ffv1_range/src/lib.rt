@@ -25,9 +25,13 @@ pub use head::{
 };
 pub use recorded::Recorded;
 pub use recording::{
-    Recording, read_scoped, recording_in_profile, recording_is_in_version_3, recording_is_one,
+    Recording, one_recording_refusal, read_scoped, recording_in_profile, recording_is_in_version_3,
+    recording_is_one,
 };
 pub use scope::Scope;
-pub use setup::{Setup, setup_is_in_profile, setup_is_one, setup_is_recording};
+pub use setup::{
+    Setup, one_setup_refusal, recording_is_of_profile, setup_is_in_profile, setup_is_one,
+    setup_is_recording,
+};
 pub use symbols::{signed_symbol_is_spelled, symbol_is_spelled};
 pub use transitions::{Transitions, next_state};

@@ -5,7 +5,7 @@
 ghost use Rattle.std.specs.Prelude.{◌≡◌, ◌+◌, ◌<◌, ◌⊎◌, Bool, true, false, length, MatchResult, IfOk, IfErr, IfSome, Err, if◌then◌else◌};
 ghost use Rattle.ffv1_range.specs.Setup.{RecordingValue, set_contexts, set_entry, states_coded, initial_of, IsScopedRecord, IsRecordingOf, IsInVersion3, RecordingIsOne, RecordingIsInVersion3};
 ghost use Rattle.std.specs.Option.{option_copied};
-ghost use Rattle.ffv1_range.specs.SetupFaults.{FirstRecordingFault};
+ghost use Rattle.ffv1_range.specs.SetupFaults.{FirstRecordingFault, OneRecordingRefusal};
 ghost use Rattle.ffv1_range.specs.SetupForms.{Grants, all_granted, checked_content, is_size, record_read};
 ghost use Rattle.ffv1_range.specs.TileHeaders.{is_in_profile, RecordingInProfile};
 ghost use Rattle.ffv1_range.specs.Tiles.{grid_of};
@@ -345,4 +345,9 @@ pub fn recording_in_profile()
 /// What a record says keeps the bounds of version 3.
 pub fn recording_is_in_version_3()
     ensures { RecordingIsInVersion3 }
+{}
+
+/// A record and size say something of a recording, or have exactly one first fault, which is not `Memory`.
+pub fn one_recording_refusal()
+    ensures { OneRecordingRefusal }
 {}

@@ -3,8 +3,8 @@
 //! A `Setup` is of the profile: version 3 with micro_version 4 or greater, Golomb-Rice codes, 8 bits a sample, gray or
 //! Y Cb Cr with chroma shifts of at most 2, at most `MOST_TILES` tiles, and 1 to 8 sets of quantization tables.
 ghost use Rattle.std.specs.Prelude.{◌≡◌, ◌<◌, ◌⊎◌, Bool, true, length, MatchResult, IfOk, IfErr};
-ghost use Rattle.ffv1_range.specs.Setup.{SetupValue, set_contexts, set_entry, IsSetupOf, IsInProfile, SetupIsOne, SetupIsInProfile, SetupIsRecording};
-ghost use Rattle.ffv1_range.specs.SetupFaults.{FirstSetupFault};
+ghost use Rattle.ffv1_range.specs.Setup.{SetupValue, set_contexts, set_entry, IsSetupOf, IsInProfile, SetupIsOne, SetupIsInProfile, SetupIsRecording, RecordingIsOfProfile};
+ghost use Rattle.ffv1_range.specs.SetupFaults.{FirstSetupFault, OneSetupRefusal};
 ghost use Rattle.ffv1_range.specs.SetupForms.{setup_read};
 ghost use Rattle.ffv1_range.specs.TileHeaders.{is_in_profile, rules_of, profile_rules};
 ghost use Rattle.ffv1_range.specs.Tiles.{grid_of};
@@ -178,4 +178,14 @@ pub fn setup_is_in_profile()
 /// A record of the profile is one of version 3, with the same values.
 pub fn setup_is_recording()
     ensures { SetupIsRecording }
+{}
+
+/// What a record of the profile says of a recording is of the profile, and has the record's setup.
+pub fn recording_is_of_profile()
+    ensures { RecordingIsOfProfile }
+{}
+
+/// A record and size have a setup, or exactly one first fault, which is not `Memory`.
+pub fn one_setup_refusal()
+    ensures { OneSetupRefusal }
 {}

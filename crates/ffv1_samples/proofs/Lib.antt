@@ -11,3 +11,5 @@ pub mod Codes
 pub mod Rests
 pub mod Decoding
 pub mod Refusals
+pub mod SameStates
+pub mod TileSlices

@@ -6,4 +6,5 @@ pub mod Slices
 pub mod Faults
 pub mod CodedFaults
 pub mod Laws
+pub mod Profile
 pub mod Inner

@@ -10,5 +10,5 @@ mod slice;
 mod states;
 
 pub use faults::{SampleFault, SliceFault};
-pub use slice::{SlicePicture, decode_slice, one_slice_fault, one_slice_picture};
+pub use slice::{SlicePicture, decode_slice, one_slice_fault, one_slice_picture, tile_is_slice};
 pub use states::{RangeStates, RiceStates, SliceStates};

@@ -11,6 +11,7 @@ ghost use Rattle.ffv1_samples.specs.Sizes.{slice_rect, slice_sizes};
 ghost use Rattle.ffv1_samples.specs.Slices.{SlicePictureValue, slice_picture_value, IsSlicePicture, IsSamePicture, FitContent};
 ghost use Rattle.ffv1_samples.specs.Faults.{IsSliceFault, AfterHeader};
 ghost use Rattle.ffv1_samples.specs.Laws.{OneSlicePicture, RefusedHasNoPicture, RefusedForOne};
+ghost use Rattle.ffv1_samples.specs.Profile.{TileIsSlice};
 ghost use Rattle.ffv1_samples.specs.Pictures.{ArePicturePlanes};
 ghost use Rattle.ffv1_samples.specs.Inner.Coded.{IsCodedFault, IsReaderWithin, IsFinished, IsUnfinished};
 ghost use Rattle.ffv1_samples.specs.Inner.Planes.{AreOfRecording, IsJudgedFault};
@@ -207,4 +208,10 @@ pub fn one_slice_picture()
 pub fn one_slice_fault()
     ensures nothing { RefusedHasNoPicture }
     ensures one { RefusedForOne }
+{}
+
+/// For a record of the profile a content has a picture of a tile exactly where it has that of a slice of this tile alone, in a keyframe. So
+/// where `decode_tile` gives a picture, `decode_slice` gives the same planes and spare bits, or `Memory`.
+pub fn tile_is_slice()
+    ensures { TileIsSlice }
 {}
