@@ -59,7 +59,7 @@ module _ (h : Contents) (slices : List (List ℕ)) (exact : HoldsExactly h slice
       ∙ is (suc i) d (omega arith)) j)
 
   -- an original has a slice for each tile
-  tile_for_each : (payload : List ℕ) → IsReel h.reel → IsOriginal h.reel.rules payload slices → length slices ≡ reel_tiles h.reel
+  pub tile_for_each : (payload : List ℕ) → IsReel h.reel → IsOriginal h.reel.rules payload slices → length slices ≡ reel_tiles h.reel
   tile_for_each payload reel original = original.count ∙ ap (λ (limits : HeadLimits). limits.across * limits.down) (reel_limits h.reel reel)
 
   pub restored_original : (payload : List ℕ) → IsReel h.reel → IsOriginal h.reel.rules payload slices → restored_payload h ≡ payload

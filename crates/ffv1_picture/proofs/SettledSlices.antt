@@ -40,5 +40,5 @@ module _ (h : Contents) (well_formed : IsHolding h) (tile : ℕ) (slice : List �
       sym (contains-tile_slices h.slices tile slice) ∙ set.contains-items (tile_slices h.slices tile) slice
       ∙ any_filtered _ (eq_by_cmp bytes_cmp slice) held among_best
 
-  pub settled_entry : IsEntryOf h.reel.setup (tile, slice)
+  pub settled_entry : IsEntryOf h.reel.rules (tile, slice)
   settled_entry = well_formed.slices (tile, slice) settled_held

@@ -1,6 +1,7 @@
 -- Why a payload is no frame: its first fault.
 use Rattle.std.specs.Prelude.{◌≡◌, ◌≢◌, ◌==◌, ℕ, ◌<◌, List, Ok, Err, length}
 use Rattle.ffv1_range.specs.Setup.{SetupValue}
+use Rattle.ffv1_range.specs.TileHeaders.{profile_rules}
 use Rattle.ffv1_slice.specs.Chain.{LinkValue}
 use Rattle.ffv1_slice.specs.Slices.{slice_read}
 use Rattle.ffv1_picture.specs.TilePictures.{IsUnreadable}
@@ -16,10 +17,10 @@ AreInOrderBefore setup links place = (p : ℕ) → p < place → IsInOrder setup
 abbrev pub IsFirstDisorder : SetupValue → List LinkValue → FrameFault → Type 0
 IsFirstDisorder setup links (Slice place cause) =
     (place < length links) × AreInOrderBefore setup links place
-    × (slice_read setup (link_at links place).bytes ((link_at links place).start == 0) ≡ Err cause)
+    × (slice_read (profile_rules setup) (link_at links place).bytes ((link_at links place).start == 0) ≡ Err cause)
 IsFirstDisorder setup links (Order place) =
     (place < length links) × AreInOrderBefore setup links place
-    × ((tile : ℕ) × (slice_read setup (link_at links place).bytes ((link_at links place).start == 0) ≡ Ok tile) × (tile ≢ place))
+    × ((tile : ℕ) × (slice_read (profile_rules setup) (link_at links place).bytes ((link_at links place).start == 0) ≡ Ok tile) × (tile ≢ place))
 IsFirstDisorder setup links fault = ⊥
 
 -- The first tile whose slice spells no picture, or Memory.

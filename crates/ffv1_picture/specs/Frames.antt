@@ -1,6 +1,7 @@
 -- Frames: a payload of one slice a tile in tile order, and its picture.
 use Rattle.std.specs.Prelude.{◌≡◌, ◌==◌, ℕ, ◌<◌, List, [], map, reverse, length, Option, Some, Ok, slice_index_or}
 use Rattle.ffv1_range.specs.Setup.{SetupValue}
+use Rattle.ffv1_range.specs.TileHeaders.{profile_rules}
 use Rattle.ffv1_range.specs.Tiles.{grid_of, tile_count}
 use Rattle.ffv1_slice.specs.Chain.{IsEnd, LinkValue}
 use Rattle.ffv1_slice.specs.Walk.{links_of}
@@ -43,7 +44,7 @@ link_at links place = slice_index_or links place no_link
 
 -- The link at the place is a slice, of the tile of that number. It is read as the payload's first where it begins at its start.
 abbrev pub IsInOrder : SetupValue → List LinkValue → ℕ → Type 0
-IsInOrder setup links place = slice_read setup (link_at links place).bytes ((link_at links place).start == 0) ≡ Ok place
+IsInOrder setup links place = slice_read (profile_rules setup) (link_at links place).bytes ((link_at links place).start == 0) ≡ Ok place
 
 -- A payload of one slice a tile, in tile order.
 pub record IsOrdered (setup : SetupValue) (payload : List ℕ) : Type 0 where

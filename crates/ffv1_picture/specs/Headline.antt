@@ -2,7 +2,9 @@
 use Rattle.std.specs.Prelude.{◌≡◌, ◌≢◌, ℕ, ◌<◌, List, length, Option, None, Result, Ok, Err, Vec, slice_index_or}
 use Rattle.std.specs.declared.alloc.Global.{Global}
 use Rattle.ffv1_range.specs.Setup.{SetupValue}
+use Rattle.ffv1_range.specs.TileHeaders.{TileRules}
 use Rattle.ffv1_slice.specs.Slices.{IsOriginal}
+use Rattle.ffv1_holding.specs.declared.recordings.Recordings.TheVariants.{Profile}
 use Rattle.ffv1_holding.specs.Contents.{Contents, holding_of, digests_of}
 use Rattle.ffv1_holding.specs.TileState.{tile_state, restored_payload, AreSettled, IsLeastStatus}
 use Rattle.ffv1_holding.specs.Refusals.{IsRefusal}
@@ -25,7 +27,7 @@ use Rattle.ffv1_picture.specs.declared.restoring.RestorationFault.TheVariants as
 
 -- The holding is what the plan comes to for a record and a size: it holds what is found in the plan's copies.
 pub record IsHoldingOfPlan (config : List ℕ) (width height : ℕ) (plan : Plan) (h : Contents) : Type 0 where
-  pub reel : IsReelOf config width height h.reel
+  pub reel : IsReelOf Profile config width height h.reel
   pub meaning : h ≡ holding_of h.reel (copies_of plan)
 
 -- The holdings are equal in every tile, origin, file byte and report line.
@@ -47,9 +49,9 @@ IsRestored h (Err refusal) = IsRefusal h refusal × (refusal ≢ refusals.Memory
 -- ---- copies of an original
 
 -- Every slice that is found in the plan's copies is the original's for its tile, and each tile's is found in some copy.
-pub record IsPlanFor (setup : SetupValue) (plan : Plan) (original : List ℕ) (slices : List (List ℕ)) : Type 0 where
-  pub is_original : IsOriginal setup original slices
-  pub are_copies : AreCopiesOfSlices setup slices (copies_of plan)
+pub record IsPlanFor (rules : TileRules) (plan : Plan) (original : List ℕ) (slices : List (List ℕ)) : Type 0 where
+  pub is_original : IsOriginal rules original slices
+  pub are_copies : AreCopiesOfSlices rules slices (copies_of plan)
 
 -- Each sample of the frame is the one that the greatest decoded tile covering it spells, by these slices of the tiles.
 pub record ShowsSlices (setup : SetupValue) (slices : List (List ℕ)) (frame : Frame) : Type 0 where

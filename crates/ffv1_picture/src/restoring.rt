@@ -91,19 +91,19 @@ pub fn restored(
 
     // Where every slice found in them is the original's for its tile, and each tile's is found in some copy, the restored payload
     // is the original byte for byte ..
-    ensures original { (original : List ℕ) (slices : List (List ℕ)) → IfOk result (λ r. IsPlanFor r.holding.reel.setup plan.now original slices
+    ensures original { (original : List ℕ) (slices : List (List ℕ)) → IfOk result (λ r. IsPlanFor r.holding.reel.rules plan.now original slices
         → IsOkAnd r.payload (λ payload. payload.items ≡ original)) }
 
     // .. and each sample is the one that the greatest decoded tile covering it spells.
-    ensures samples { (original : List ℕ) (slices : List (List ℕ)) → IfOk result (λ r. IsPlanFor r.holding.reel.setup plan.now original slices
+    ensures samples { (original : List ℕ) (slices : List (List ℕ)) → IfOk result (λ r. IsPlanFor r.holding.reel.rules plan.now original slices
         → ShowsSlices r.holding.reel.setup slices r.picture.frame) }
 
     // So they are where all copies differ from the original only within 32 bits of each slice, its size field undamaged, and each of
     // its slices is intact in one of them.
-    ensures near { (original : List ℕ) (slices : List (List ℕ)) → IfOk result (λ r. AreNear r.holding.reel.setup original slices (copies_of plan.now)
+    ensures near { (original : List ℕ) (slices : List (List ℕ)) → IfOk result (λ r. AreNear r.holding.reel.rules original slices (copies_of plan.now)
         → IsOkAnd r.payload (λ payload. payload.items ≡ original)) }
     ensures near_samples { (original : List ℕ) (slices : List (List ℕ))
-        → IfOk result (λ r. AreNear r.holding.reel.setup original slices (copies_of plan.now) → ShowsSlices r.holding.reel.setup slices r.picture.frame) }
+        → IfOk result (λ r. AreNear r.holding.reel.rules original slices (copies_of plan.now) → ShowsSlices r.holding.reel.setup slices r.picture.frame) }
 
     // The plan was carried out: its copies are short enough, and what goes through a file has one.
     ensures short { OnOk result (AreShort (copies_of plan.now)) }

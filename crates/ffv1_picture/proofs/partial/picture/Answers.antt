@@ -1,7 +1,9 @@
 use Rattle.std.proofs.Common.{◌≡◌, ◌∙◌, ◌+◌, List, sym, ap, subst, arith}
 use Rattle.std.proofs.lemmas.Result.{err_from_is_err_and}
+use Rattle.ffv1_range.specs.TileHeaders.{TileRules}
 use Rattle.ffv1_range.specs.Tiles.{grid_of, tile_count}
 use Rattle.ffv1_holding.specs.Reels.{reel_tiles}
+use Rattle.ffv1_holding.proofs.Reels.{profile_reel}
 use Rattle.ffv1_picture.specs.declared.partial.Partial.{Partial}
 use Rattle.ffv1_picture.specs.PartialPictures.{ShowsTiles, IsPartialPicture}
 use Rattle.ffv1_picture.specs.declared.partial.TileOutcome.{TileOutcome}
@@ -49,4 +51,4 @@ returns-clause-whole c pictures are =
     let all : c.loop-tile.tile ≡ reel_tiles h.reel = omega (arith, c.loop-tile-test.false, c.loop-tile.auto.tile-end, counted) in
     let partial : Partial = record { frame = c.loop-tile.frame; tiles = c.loop-tile.tiles } in
     let shown : IsPartialPicture h partial = subst (λ n. ShowsTiles h n c.loop-tile.tiles.items c.loop-tile.frame) all c.loop-tile.invariant in
-    one_partial h (setup_is_in_profile _ _ _ _ well_formed.reel) pictures are partial shown
+    one_partial h (setup_is_in_profile _ _ _ _ (profile_reel h.reel well_formed.reel (ap (λ (r : TileRules). r.is_profile) c.setup-setup.ensures.rules)).0) pictures are partial shown

@@ -12,7 +12,7 @@ use Rattle.ffv1_picture.proofs.SettledSlices.{settled_entry}
 use Rattle.ffv1_picture.proofs.partial.show_tile.Goals as goal
 
 pub draw_slice-requires-clause-footer : goal.draw_slice-requires-clause-footer
-draw_slice-requires-clause-footer c = slice_footer c.args.holding.now.reel.setup c.in-Settled.slice.now _ c.args.tile
+draw_slice-requires-clause-footer c = slice_footer c.args.holding.now.reel.rules c.in-Settled.slice.now _ c.args.tile
     (settled_entry c.args.holding.now c.setup.ensures.well_formed c.args.tile c.in-Settled.slice.now (sym c.in-Settled.ensures)).slice
 
 pub draw_slice-requires-clause-short : goal.draw_slice-requires-clause-short

@@ -11,7 +11,7 @@ pub push_settled-requires : goal.push_settled-requires
 push_settled-requires c =
     let h = c.args.holding.now in
     let slice = c.in-Settled.slice.now in
-    slice_footer h.reel.setup slice _ c.args.tile (settled_entry h c.setup-setup.ensures.well_formed c.args.tile slice (sym c.in-Settled.ensures)).slice
+    slice_footer h.reel.rules slice _ c.args.tile (settled_entry h c.setup-setup.ensures.well_formed c.args.tile slice (sym c.in-Settled.ensures)).slice
 
 pub returns-in-Settled : goal.returns-in-Settled
 returns-in-Settled c =
