@@ -10,6 +10,7 @@ use Rattle.ffv1_range.specs.Tiles.{grid_of, tile_count}
 use Rattle.ffv1_range.specs.declared.head.SliceHeader.{SliceHeader}
 use Rattle.ffv1_range.specs.SliceHeader.{IsSliceHeaderOf}
 use Rattle.ffv1_range.proofs.SetupLaws.{recording_is_of_profile}
+use Rattle.ffv1_range.specs.TileHeaders.{profile_rules}
 use Rattle.ffv1_slice.specs.Chain.{LinkValue}
 use Rattle.ffv1_slice.specs.Walk.{links_of}
 use Rattle.ffv1_slice.specs.Slices.{content_of, IsSliceOf}
@@ -61,8 +62,8 @@ module _ (r : RecordingValue) (profile : IsOfProfile r) (payload : List ℕ) (fr
   content_there tile less =
       ap (λ ec. take (length (listed_slice slices tile) - footer_length ec) (listed_slice slices tile)) profile.ec ∙ ap content_of (slice_there tile less)
 
-  is_slice : (tile : ℕ) → tile < tiles → IsSliceOf r.setup (link_at links tile).bytes ((link_at links tile).start == 0) tile
-  is_slice tile less = slice_found r.setup (link_at links tile).bytes ((link_at links tile).start == 0) tile (h.ordered.each tile less)
+  is_slice : (tile : ℕ) → tile < tiles → IsSliceOf (profile_rules r.setup) (link_at links tile).bytes ((link_at links tile).start == 0) tile
+  is_slice tile less = slice_found (profile_rules r.setup) (link_at links tile).bytes ((link_at links tile).start == 0) tile (h.ordered.each tile less)
 
   -- ---- the pictures of the slices
 

@@ -10,6 +10,7 @@ use Rattle.ffv1_range.specs.Setup.{SetupValue}
 use Rattle.ffv1_range.specs.Tiles.{grid_of, plane_count, tile_count}
 use Rattle.ffv1_range.specs.Header.{IsHeadOf, header_limits}
 use Rattle.ffv1_plane.specs.Picture.{IsPictureOf}
+use Rattle.ffv1_range.specs.TileHeaders.{profile_rules}
 use Rattle.ffv1_slice.specs.Chain.{status_before}
 use Rattle.ffv1_slice.specs.Slices.{content_of, IsSliceOf}
 use Rattle.ffv1_vectors.specs.Frames.{asked_head, asked_planes, IsMadeSlice, IsMadeFrame}
@@ -22,7 +23,7 @@ pub record IsMadeTo (setup : SetupValue) (spec : FrameSpec) (tiles : ℕ) (paylo
   pub count : length slices ≡ tiles
   pub joined : payload ≡ flat_map (λ slice. slice) slices
   pub short : length payload ≤ payload_limit
-  pub are_slices : (tile : ℕ) (e : List ℕ) → tile < tiles → IsSliceOf setup (get_or slices tile e) (eqb tile 0) tile
+  pub are_slices : (tile : ℕ) (e : List ℕ) → tile < tiles → IsSliceOf (profile_rules setup) (get_or slices tile e) (eqb tile 0) tile
   pub each : (tile : ℕ) (d : TileSpec) (e : List ℕ) → tile < tiles → IsMadeSlice setup tile (get_or spec.tiles.items tile d) (get_or slices tile e)
 
 module _ (setup : SetupValue) (spec : FrameSpec) where
@@ -47,11 +48,11 @@ module _ (setup : SetupValue) (spec : FrameSpec) where
     short = omega (arith, ap length grown, length-append old slice);
     are_slices = λ tile e lt. elim (cases_order tile n) [
       | inl is ↦
-          let P : List ℕ → Type 0 = λ s. IsSliceOf setup s (eqb tile 0) tile in
-          let Q : ℕ → Type 0 = λ t. IsSliceOf setup slice (eqb t 0) t in
+          let P : List ℕ → Type 0 = λ s. IsSliceOf (profile_rules setup) s (eqb tile 0) tile in
+          let Q : ℕ → Type 0 = λ t. IsSliceOf (profile_rules setup) slice (eqb t 0) t in
           subst P (sym (get_or_push before.slices slice e tile (before.count ∙ sym is))) (subst Q (sym is) made.is_slice)
       | inr (inl less) ↦
-          let P : List ℕ → Type 0 = λ s. IsSliceOf setup s (eqb tile 0) tile in
+          let P : List ℕ → Type 0 = λ s. IsSliceOf (profile_rules setup) s (eqb tile 0) tile in
           subst P (sym (get_or_append_left before.slices (slice ∷ []) e tile (omega (arith, before.count)))) (before.are_slices tile e less)
       | inr (inr above) ↦ absurd (omega arith)
     ];
@@ -82,7 +83,7 @@ module _ (setup : SetupValue) (spec : FrameSpec) where
 
 -- a slice that was read back
 pub made_slice : (setup : SetupValue) (tile : ℕ) (spec : TileSpec) (read slice : List ℕ) (same : Bool) → read ≡ slice → same ≡ true
-    → status_before slice (length slice) ≡ spec.status → (IsTrue same → IsSliceOf setup read (eqb tile 0) tile)
+    → status_before slice (length slice) ≡ spec.status → (IsTrue same → IsSliceOf (profile_rules setup) read (eqb tile 0) tile)
     → (IsTrue same → (place : ℕ) × IsHeadOf (header_limits setup) (content_of read) (eqb tile 0) (asked_head tile spec) place)
     → (IsTrue same → (spare_bits : ℕ) × IsPictureOf setup tile (content_of read) (record { planes = asked_planes spec; spare_bits = spare_bits }))
     → IsMadeSlice setup tile spec slice

@@ -5,6 +5,7 @@ use Rattle.ffv1_range.specs.Tiles.{grid_of, tile_count, plane_count, plane_rect}
 use Rattle.ffv1_range.specs.Header.{IsHeadOf, header_limits}
 use Rattle.ffv1_range.specs.declared.head.SliceHead.{SliceHead}
 use Rattle.ffv1_plane.specs.Picture.{IsPictureOf, samples_of}
+use Rattle.ffv1_range.specs.TileHeaders.{profile_rules}
 use Rattle.ffv1_slice.specs.Chain.{status_before}
 use Rattle.ffv1_slice.specs.Slices.{content_of, IsSliceOf, IsOriginal}
 use Rattle.ffv1_vectors.specs.declared.frame.FrameSpec.{FrameSpec}
@@ -46,7 +47,7 @@ pub record FitsSetup (setup : SetupValue) (spec : FrameSpec) : Type 0 where
 
 -- The slice reads as that of the tile, and its header, its picture and its error status are those asked for.
 pub record IsMadeSlice (setup : SetupValue) (tile : ℕ) (spec : TileSpec) (slice : List ℕ) : Type 0 where
-  pub is_slice : IsSliceOf setup slice (tile == 0) tile
+  pub is_slice : IsSliceOf (profile_rules setup) slice (tile == 0) tile
   pub status : status_before slice (length slice) ≡ spec.status
   pub place : ℕ
   pub head : IsHeadOf (header_limits setup) (content_of slice) (tile == 0) (asked_head tile spec) place
@@ -56,7 +57,7 @@ pub record IsMadeSlice (setup : SetupValue) (tile : ℕ) (spec : TileSpec) (slic
 -- The payload is an original of one slice a tile, each made as asked for.
 pub record IsMadeFrame (setup : SetupValue) (spec : FrameSpec) (payload : List ℕ) : Type 0 where
   pub slices : List (List ℕ)
-  pub original : IsOriginal setup payload slices
+  pub original : IsOriginal (profile_rules setup) payload slices
   pub each :
       (tile : ℕ) (d : TileSpec) (e : List ℕ) → tile < length slices
       → IsMadeSlice setup tile (slice_index_or spec.tiles.items tile d) (slice_index_or slices tile e)

@@ -5,6 +5,7 @@ ghost use Rattle.ffv1_range.specs.Setup.{set_contexts};
 ghost use Rattle.ffv1_range.specs.Tiles.{grid_of, tile_count, plane_count, plane_rect};
 ghost use Rattle.ffv1_range.specs.Header.{IsHeadOf, header_limits};
 ghost use Rattle.ffv1_plane.specs.Picture.{IsPictureOf, samples_of};
+ghost use Rattle.ffv1_range.specs.TileHeaders.{profile_rules};
 ghost use Rattle.ffv1_slice.specs.Slices.{content_of, IsSliceOf};
 ghost use Rattle.ffv1_vectors.specs.Frames.{asked_planes, asked_head, FitsTile, FitsSetup, IsMadeSlice, IsMadeFrame};
 ghost use Rattle.ffv1_vectors.specs.declared.fault.MakeFault.TheVariants as MakeFault;
@@ -260,7 +261,7 @@ fn reads_back(
 ) -> Result<bool, MakeFault>
     requires tile { tile < tile_count (grid_of setup.now) }
     requires short { length slice.now ≤ payload_limit }
-    ensures is_slice { IfOk result (λ same. IsTrue same → IsSliceOf setup.now slice.now (tile == 0) tile) }
+    ensures is_slice { IfOk result (λ same. IsTrue same → IsSliceOf (profile_rules setup.now) slice.now (tile == 0) tile) }
     ensures head { IfOk result (λ same. IsTrue same → (place : ℕ) × IsHeadOf (header_limits setup.now) (content_of slice.now) (tile == 0)
         (asked_head tile spec.now) place) }
     ensures picture { IfOk result (λ same. IsTrue same → (spare_bits : ℕ)

@@ -5,6 +5,7 @@ use Rattle.std.proofs.lemmas.Bool.{false≢true}
 use Rattle.std.proofs.lemmas.Bool.Decides.{eqb_tells}
 use Rattle.ffv1_range.specs.Header.{IsHeadOf, header_limits}
 use Rattle.ffv1_plane.specs.Picture.{IsPictureOf}
+use Rattle.ffv1_range.specs.TileHeaders.{profile_rules}
 use Rattle.ffv1_slice.specs.Slices.{IsSliceOf}
 use Rattle.ffv1_vectors.specs.Frames.{asked_head, asked_planes}
 use Rattle.ffv1_vectors.proofs.frame.reads_back.Goals as goal
@@ -22,9 +23,6 @@ where_ok : {E : Type 0} (X : Type 0) (r : Result Bool E) → X → IfOk r (λ sa
 where_ok X (Ok same) x = λ yes. x
 where_ok X (Err f) x = tt
 
-pub read_slice-requires : goal.read_slice-requires
-read_slice-requires c = tt
-
 pub returns-then-ne : goal.returns-then-ne
 returns-then-ne c = record {
   is_slice = λ yes. absurd (false≢true yes);
@@ -34,7 +32,7 @@ returns-then-ne c = record {
 
 pub content_of-content-requires : goal.content_of-content-requires
 content_of-content-requires c =
-    (of_equal _ (IsSliceOf c.args.setup.now c.args.slice.now (eqb c.args.tile 0)) c.read_slice.result c.args.tile c.read_slice.ensures.found
+    (of_equal _ (IsSliceOf (profile_rules c.args.setup.now) c.args.slice.now (eqb c.args.tile 0)) c.read_slice.result c.args.tile c.read_slice.ensures.found
     (sym c.if-ne.false ∙ c.ne.ensures)).framed.footer
 
 pub returns-then-not-has_head : goal.returns-then-not-has_head
@@ -56,7 +54,7 @@ returns c =
     let setup = c.args.setup.now in
     let tile = c.args.tile in
     let spec = c.args.spec.now in record {
-      is_slice = where_ok _ c.has_picture.result (of_equal _ (IsSliceOf setup c.args.slice.now (eqb tile 0)) c.read_slice.result tile
+      is_slice = where_ok _ c.has_picture.result (of_equal _ (IsSliceOf (profile_rules setup) c.args.slice.now (eqb tile 0)) c.read_slice.result tile
           c.read_slice.ensures.found (sym c.if-ne.false ∙ c.ne.ensures));
       head = where_ok _ c.has_picture.result
           (subst (λ bytes. (place : ℕ) × IsHeadOf (header_limits setup) bytes (eqb tile 0) (asked_head tile spec) place)
