@@ -1,5 +1,5 @@
 -- The header of a slice of one tile is read where it is coded, and nowhere else.
-use Rattle.std.proofs.Common.{◌≡◌, ℕ, ◌+◌, ◌*◌, ◌<◌, ◌≤◌, Bool, true, false, List, [], ◌∷◌, ◌++◌, length, Result, Ok, Err, refl, sym, ap, ◌∙◌, subst}
+use Rattle.std.proofs.Common.{◌≡◌, ℕ, ◌+◌, ◌*◌, ◌<◌, ◌≤◌, Bool, true, false, List, [], ◌∷◌, ◌++◌, length, Result, Ok, Err, refl, sym, ap, ◌∙◌, subst, arith, length-append}
 use Rattle.std.specs.Prelude.{◌↔◌, IfOk, IsTrue, Option, is_some, nat_lt, ◌==◌, ◌&&◌, slice_index, if◌then◌else◌}
 use Rattle.std.specs.List.{All, list_all}
 use Rattle.std.proofs.lemmas.Bool.{and_parts, and_from, ltb-true, lt-ltb, eqb-true, eq-eqb}
@@ -161,3 +161,17 @@ pub given : (rules : TileRules) (content : List ℕ) (first : Bool) (result : Re
     }
 given rules content first result h =
     record { found = tile_is_found rules content first result h; only = λ tile is. h ∙ tile_run rules content first tile is; fault = h }
+
+-- nothing, or one byte, follows the content
+few_more : (has_codes : Bool) (content : List ℕ) → length (if has_codes then content else content ++ 0 ∷ []) ≤ length content + 1
+few_more true content = omega arith
+few_more false content = omega (arith, length-append content (0 ∷ []))
+
+-- a content has a byte at least
+pub tile_filled : (rules : TileRules) (content : List ℕ) (first : Bool) (tile : ℕ) → IsTileContent rules content first tile → 1 ≤ length content
+tile_filled rules content first tile h =
+    omega (
+      arith,
+      few_more rules.has_codes content,
+      header_leaves (tile_mode rules) (field_count rules.has_alpha) (tile_bytes rules content) h.key h.fields h.end refl h.header,
+    )

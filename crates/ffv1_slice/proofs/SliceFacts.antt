@@ -1,13 +1,14 @@
 -- What the crates above use of slices: their footer, their tile, and what is found of a link.
-use Rattle.std.proofs.Common.{◌≡◌, ℕ, ◌*◌, ◌<◌, ◌≤◌, Bool, true, false, List, length, Ok, Err, Some, None, refl, sym, ap, ◌∙◌, subst}
+use Rattle.std.proofs.Common.{◌≡◌, ℕ, ◌*◌, ◌-◌, ◌<◌, ◌≤◌, Bool, true, false, List, length, Ok, Err, Some, None, refl, sym, ap, ◌∙◌, subst, arith, length-take}
 use Rattle.std.specs.Prelude.{◌==◌}
 use Rattle.std.specs.List.{filter_map}
 use Rattle.std.proofs.lemmas.Bool.{eq-eqb, ne_eqb}
 use Rattle.ffv1_range.specs.TileHeaders.{TileRules}
 use Rattle.ffv1_range.proofs.TileLaws.{number_below}
+use Rattle.ffv1_range.proofs.TileHeaderFound.{tile_filled}
 use Rattle.ffv1_slice.specs.Chain.{LinkValue}
 use Rattle.ffv1_slice.specs.Walk.{links_of}
-use Rattle.ffv1_slice.specs.Slices.{IsSliceOf, slice_read, with_tile, slice_at, found_slices}
+use Rattle.ffv1_slice.specs.Slices.{content_of, IsSliceOf, slice_read, with_tile, slice_at, found_slices}
 use Rattle.ffv1_slice.proofs.SliceLaws.{slice_found, slice_run}
 
 -- a slice has its footer
@@ -24,6 +25,11 @@ pub slice_first : (rules : TileRules) (bytes : List ℕ) (first : Bool) (tile : 
 slice_first rules bytes true tile is = sym (eq-eqb tile 0 (is.content.first_tile.0 refl))
 slice_first rules bytes false tile is =
     sym (ne_eqb tile 0 (λ zero. let e : false ≡ true = is.content.first_tile.1 zero in cc))
+
+-- a slice has its header before its footer
+pub slice_filled : (rules : TileRules) (bytes : List ℕ) (first : Bool) (tile : ℕ) → IsSliceOf rules bytes first tile → 8 < length bytes
+slice_filled rules bytes first tile is =
+    omega (arith, is.framed.footer, tile_filled rules (content_of bytes) first tile is.content, length-take (length bytes - 8) bytes)
 
 -- what is a slice is found
 pub slice_at-found : (rules : TileRules) (link : LinkValue) (tile : ℕ) → IsSliceOf rules link.bytes (link.start == 0) tile

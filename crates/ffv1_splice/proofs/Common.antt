@@ -38,7 +38,7 @@ pub use Rattle.ffv1_slice.specs.Chain.{FooterGives, IsEnd, IsFramed, IsLinkOf, L
 pub use Rattle.ffv1_slice.specs.Chain.IsEnd.{before, last}
 pub use Rattle.ffv1_slice.specs.Members.{HasSameMembers, IsOfNone, IsOfTwo, IsOnly}
 pub use Rattle.ffv1_slice.specs.Near.{IsDamagedWithin32, IsNear, starts_at, version_at}
-pub use Rattle.ffv1_slice.specs.Setup.{SetupValue}
+pub use Rattle.ffv1_slice.specs.TileHeaders.{TileRules}
 pub use Rattle.ffv1_slice.specs.Slices.{IsOriginal, IsSliceOf}
 pub use Rattle.ffv1_slice.specs.Walk.{walk_at, walked}
 pub use Rattle.ffv1_weave.proofs.Agreeing.{agree_past, some_differ}

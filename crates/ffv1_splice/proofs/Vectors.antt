@@ -1,17 +1,18 @@
 -- Copies that are near the slices of a setup are near copies; two of the frame of two slices, of which each has one slice intact, are
 -- spliced to the frame; zeros, which read as a row of slices without content, have no places; a slice whose size field is lost in both
 -- copies is woven from the front; and places are written in words.
-use Rattle.ffv1_splice.proofs.Common.{◌≡◌, ℕ, zero, suc, ◌+◌, ◌-◌, ◌<◌, ◌≤◌, Bool, List, [], ◌∷◌, length, get_or, map, drop, replicate, refl, sym, ap, ◌∙◌, subst, arith, inl, inr, ◌⊎◌, ◌==◌, Contains, codes, slice_range, digits, nat_cmp, slice_cmp, ext_get_or, length-take, take-replicate, drop-replicate, All-nil, number_bits, bits_of, AreBytes, PassesParity, polynomial_of, divided, remainder_of, SetupValue, size_before, FooterGives, IsEnd, IsLinkOf, IsSliceOf, IsOriginal, starts_at, version_at, IsDamagedWithin32, IsNear, starts_none, FooterGivesAt, end_of_tile, tile_of_cut, original_cut, bytes_of_tile, length-range, size_of_range, splits, IsCombinationBy, HasFew, IsTriedBy, AreFew, HasContent, IsLeast, versions_at, sized, StandsAs, IsStop, SplicedValue, IsSettledDown, IsSettledUp, IsDivisionOf, IsSpliceOf, IsUndamaged, IsIntact, IsNearCopy, AreNearCopies, IsIntactInSome, standing_word, place_words, Woven, Voted, Repaired}
+use Rattle.ffv1_splice.proofs.Common.{◌≡◌, ℕ, zero, suc, ◌+◌, ◌-◌, ◌<◌, ◌≤◌, Bool, List, [], ◌∷◌, length, get_or, map, drop, replicate, refl, sym, ap, ◌∙◌, subst, arith, inl, inr, ◌⊎◌, ◌==◌, Contains, codes, slice_range, digits, nat_cmp, slice_cmp, ext_get_or, length-take, take-replicate, drop-replicate, All-nil, number_bits, bits_of, AreBytes, PassesParity, polynomial_of, divided, remainder_of, TileRules, size_before, FooterGives, IsEnd, IsLinkOf, IsSliceOf, IsOriginal, starts_at, version_at, IsDamagedWithin32, IsNear, starts_none, FooterGivesAt, end_of_tile, tile_of_cut, original_cut, bytes_of_tile, length-range, size_of_range, splits, IsCombinationBy, HasFew, IsTriedBy, AreFew, HasContent, IsLeast, versions_at, sized, StandsAs, IsStop, SplicedValue, IsSettledDown, IsSettledUp, IsDivisionOf, IsSpliceOf, IsUndamaged, IsIntact, IsNearCopy, AreNearCopies, IsIntactInSome, standing_word, place_words, Woven, Voted, Repaired}
 use Rattle.ffv1_slice.proofs.NearVectors as vectors
+use Rattle.ffv1_slice.proofs.SliceFacts.{slice_filled}
 use Rattle.ffv1_splice.specs.Laws as laws
 use Rattle.ffv1_splice.proofs.DividedLinks.{end_within}
 use Rattle.ffv1_splice.proofs.NearCopies.{near_copies_splice}
 
 -- ---- slices of a setup
 
-module _ (setup : SetupValue) (original : List ℕ) (slices : List (List ℕ)) (is : IsOriginal setup original slices) where
+module _ (rules : TileRules) (original : List ℕ) (slices : List (List ℕ)) (is : IsOriginal rules original slices) where
   cut : FooterGivesAt original slices
-  cut = original_cut setup original slices is
+  cut = original_cut rules original slices is
 
   -- a link is a tile's slice
   slice_of_link : (start end : ℕ) → IsLinkOf original start end
@@ -23,12 +24,8 @@ module _ (setup : SetupValue) (original : List ℕ) (slices : List (List ℕ)) (
         at.2,
         at.3,
         ap (λ s. slice_range original s end) at.2 ∙ ap (λ e. slice_range original (starts_at slices at.0) e) at.3
-            ∙ bytes_of_tile setup original slices is at.0 at.1,
+            ∙ bytes_of_tile rules original slices is at.0 at.1,
       )
-
-  -- a slice has its header before its footer
-  slice_filled : (slice : List ℕ) (first : Bool) (tile : ℕ) → IsSliceOf setup slice first tile → 8 < length slice
-  slice_filled slice first tile h = grind (arith, length-take)
 
   pub undamaged_of_setup : AreBytes original → IsUndamaged original
   undamaged_of_setup bytes = record {
@@ -38,19 +35,19 @@ module _ (setup : SetupValue) (original : List ℕ) (slices : List (List ℕ)) (
         let cut : FooterGives original start end = link.cut in
         let at = slice_of_link start end link in
         let size = length-range original start end (omega arith) (end_within original end link.is_end) in
-        let filled = slice_filled (get_or slices at.0 []) (at.0 == 0) at.0 (is.each at.0 [] at.1) in
+        let filled = slice_filled rules (get_or slices at.0 []) (at.0 == 0) at.0 (is.each at.0 [] at.1) in
         omega (arith, ap length at.4);
     passes = λ start end link. let at = slice_of_link start end link in subst PassesParity (sym at.4) (is.each at.0 [] at.1).passes;
   }
 
-pub near_of_setup : (setup : SetupValue) (original : List ℕ) (slices : List (List ℕ)) (copy : List ℕ) → IsNear setup original slices copy
+pub near_of_setup : (rules : TileRules) (original : List ℕ) (slices : List (List ℕ)) (copy : List ℕ) → IsNear rules original slices copy
     → IsNearCopy original copy
-near_of_setup setup original slices copy near = record { are_bytes = near.copy_bytes; same_length = near.same_length; each = each }
+near_of_setup rules original slices copy near = record { are_bytes = near.copy_bytes; same_length = near.same_length; each = each }
   where
     each : (start end : ℕ) → IsLinkOf original start end
         → IsIntact original copy start end ⊎ IsDamagedWithin32 (slice_range original start end) (slice_range copy start end)
     each start end link =
-        let at = slice_of_link setup original slices near.is_original start end link in
+        let at = slice_of_link rules original slices near.is_original start end link in
         let piece : version_at slices copy at.0 ≡ slice_range copy start end =
         ap (λ s. slice_range copy s (starts_at slices (at.0 + 1))) (sym at.2) ∙ ap (λ e. slice_range copy start e) (sym at.3) in
         elim (near.each at.0 [] at.1) [
@@ -68,16 +65,16 @@ near_each : (copy : List ℕ) → Contains copies copy → IsNearCopy vectors.fr
 near_each copy there = at there.0 there.1 there.2
   where
     at : (k : ℕ) → k < 2 → get_or copies k copy ≡ copy → IsNearCopy vectors.frame copy
-    at zero lt same = subst (IsNearCopy vectors.frame) same (near_of_setup vectors.setup vectors.frame vectors.slices vectors.damaged_frame vectors.near)
+    at zero lt same = subst (IsNearCopy vectors.frame) same (near_of_setup vectors.rules vectors.frame vectors.slices vectors.damaged_frame vectors.near)
     at (suc zero) lt same =
-        subst (IsNearCopy vectors.frame) same (near_of_setup vectors.setup vectors.frame vectors.slices vectors.other_frame vectors.other_near)
+        subst (IsNearCopy vectors.frame) same (near_of_setup vectors.rules vectors.frame vectors.slices vectors.other_frame vectors.other_near)
     at (suc (suc k)) lt same = absurd (omega arith)
 
 pub are_near : AreNearCopies vectors.frame copies
-are_near = record { undamaged = undamaged_of_setup vectors.setup vectors.frame vectors.slices vectors.is_original vectors.near.original_bytes; near = near_each }
+are_near = record { undamaged = undamaged_of_setup vectors.rules vectors.frame vectors.slices vectors.is_original vectors.near.original_bytes; near = near_each }
 
 intact_each : (start end : ℕ) → IsLinkOf vectors.frame start end → IsIntactInSome vectors.frame copies start end
-intact_each start end link = let at = slice_of_link vectors.setup vectors.frame vectors.slices vectors.is_original start end link in
+intact_each start end link = let at = slice_of_link vectors.rules vectors.frame vectors.slices vectors.is_original start end link in
     intact at.0 at.1 at.2 at.3 at.4
   where
     piece : (copy : List ℕ) (k : ℕ) → start ≡ starts_at vectors.slices k → end ≡ starts_at vectors.slices (k + 1)
