@@ -4,9 +4,13 @@ use Rattle.std.specs.List.{flat_map}
 use Rattle.std.specs.Io.KnownBytes.{Appends}
 use Rattle.ffv1_bits.specs.Limits.{payload_limit}
 use Rattle.ffv1_range.specs.Setup.{SetupValue, IsSetupOf}
+use Rattle.ffv1_range.specs.TileHeaders.{TileRules, profile_rules}
 use Rattle.ffv1_range.proofs.SetupFacts.{one_setup}
+use Rattle.ffv1_range.proofs.ProfileLaws.{rules_of_profile, record_of_profile}
 use Rattle.ffv1_slice.specs.Slices.{IsOriginal}
-use Rattle.ffv1_holding.specs.Reels.{Reel}
+use Rattle.ffv1_holding.specs.Reels.{Reel, IsReel}
+use Rattle.ffv1_holding.specs.declared.recordings.Recordings.TheVariants.{Profile}
+use Rattle.ffv1_holding.proofs.Reels.{reel_is}
 use Rattle.ffv1_holding.specs.Contents.{Contents, holding_of, joined, HasSameCopies}
 use Rattle.ffv1_holding.proofs.ContentsLaws.{joined-holding_of, holding_of-same}
 use Rattle.ffv1_hold.specs.FileFaults.{IsFaultOf}
@@ -43,7 +47,7 @@ use Rattle.ffv1_commands.specs.declared.path.CommandPath.TheVariants as paths
 -- The file is that of the holding of the copies, under the reel of the record and the size.
 record IsFileOf (config : List ℕ) (width height : ℕ) (copies : List (List ℕ)) (file : List ℕ) : Type 0 where
   reel : Reel
-  of_record : IsReelOf config width height reel
+  of_record : IsReelOf Profile config width height reel
   text : file ≡ holding_text (holding_of reel copies)
   has : HasFile (holding_of reel copies)
 
@@ -61,7 +65,7 @@ whole_inputs (c ∷ cs) (b ∷ bs) each =
 -- a file is that of one holding
 one_holding : (g h : Contents) (file : List ℕ) → IsHoldingFile (Some file) g → file ≡ holding_text h → HasFile h → g ≡ h
 one_holding g h file is text has = one_text g h file is.well_formed has.well_formed is.fits.record' has.fits.record'
-    (is.version, is.fits.stated, is.text) (Second, has.fits.stated, text)
+    (is.version, is.fits.stated, is.text, is.fits.profile) (Second, has.fits.stated, text, has.fits.profile)
 
 -- ---- a tree of commands
 
@@ -73,13 +77,13 @@ module _ (config : List ℕ) (width height : ℕ) where
       let reported : config ≡ takes.reel.config = takes.of_record.read.reported in
       record {
         reel = takes.reel;
-        of_record = (sym reported, subst (λ (c : List ℕ). IsSetupOf c width height takes.reel.setup) (sym reported) takes.of_record.is_setup);
+        of_record = subst (λ (c : List ℕ). IsReelOf Profile c width height takes.reel) (sym reported) takes.of_record.of_record;
         text = takes.file ∙ ap (λ cs. holding_text (holding_of takes.reel cs)) (sym same);
         has = subst (λ (cs : List (List ℕ)). HasFile (holding_of takes.reel cs)) (sym same) takes.has_file;
       }
 
   -- the files of parts are those of the parts' holdings
-  held_of_parts : (reel : Reel) → IsReelOf config width height reel → (parts : List (List (List ℕ))) (files : List (List ℕ)) (hs : List Contents)
+  held_of_parts : (reel : Reel) → IsReelOf Profile config width height reel → (parts : List (List (List ℕ))) (files : List (List ℕ)) (hs : List Contents)
       → length parts ≡ length files
       → ((i : ℕ) → i < length files → IsFileOf config width height (get_or parts i []) (get_or files i [])) → AreHoldingFiles (map Some files) hs
       → hs ≡ map (holding_of reel) parts
@@ -90,7 +94,7 @@ module _ (config : List ℕ) (width height : ℕ) where
   held_of_parts reel is (p ∷ ps) (f ∷ fs) [] l each are = absurd are
   held_of_parts reel is (p ∷ ps) (f ∷ fs) (h ∷ hs) l each are =
       let own : IsFileOf config width height p f = each 0 (omega arith) in
-      let same : own.reel ≡ reel = one_reel config width height own.reel reel own.of_record is in
+      let same : own.reel ≡ reel = one_reel Profile config width height own.reel reel own.of_record is in
       let first : h ≡ holding_of reel p =
       one_holding h (holding_of reel p) f are.0 (own.text ∙ ap (λ r. holding_text (holding_of r p)) same)
       (subst (λ (r : Reel). HasFile (holding_of r p)) same own.has) in
@@ -131,7 +135,7 @@ module _ (config : List ℕ) (width height : ℕ) where
   of_merge : (lefts rights : List (List ℕ)) (left right file : List ℕ) → IsFileOf config width height lefts left → IsFileOf config width height rights right
       → MergesFiles (Some left) (Some right) (Some []) (Some file) → IsFileOf config width height (lefts ++ rights) file
   of_merge lefts rights left right file own also merges =
-      let same : also.reel ≡ own.reel = one_reel config width height also.reel own.reel also.of_record own.of_record in
+      let same : also.reel ≡ own.reel = one_reel Profile config width height also.reel own.reel also.of_record own.of_record in
       let one : merges.one ≡ holding_of own.reel lefts = one_holding merges.one (holding_of own.reel lefts) left merges.left_file own.text own.has in
       let other : merges.other ≡ holding_of own.reel rights =
       one_holding merges.other (holding_of own.reel rights) right merges.right_file (also.text ∙ ap (λ r. holding_text (holding_of r rights)) same)
@@ -157,7 +161,7 @@ module _ (config : List ℕ) (width height : ℕ) where
 module _ (config : List ℕ) (width height : ℕ) (copies others : List (List ℕ)) (file other : List ℕ) (is : IsFileOf config width height copies file)
     (also : IsFileOf config width height others other) (same : HasSameCopies copies others) where
   one_of_copies : holding_of is.reel copies ≡ holding_of also.reel others
-  one_of_copies = ap (λ r. holding_of r copies) (one_reel config width height is.reel also.reel is.of_record also.of_record)
+  one_of_copies = ap (λ r. holding_of r copies) (one_reel Profile config width height is.reel also.reel is.of_record also.of_record)
       ∙ holding_of-same also.reel copies others same
 
   one_file : file ≡ other
@@ -208,22 +212,30 @@ no_fault h file text has fault stops =
 
 module _ (config : List ℕ) (width height : ℕ) (setup : SetupValue) (copies : List (List ℕ)) (file original : List ℕ) (slices : List (List ℕ))
     (is_setup : IsSetupOf config width height setup) (is : IsFileOf config width height copies file)
-    (is_original : IsOriginal setup original slices) (are : AreCopiesOfSlices setup slices copies) where
+    (is_original : IsOriginal (profile_rules setup) original slices) (are : AreCopiesOfSlices (profile_rules setup) slices copies) where
   same_setup : setup ≡ is.reel.setup
-  same_setup = one_setup config width height setup is.reel.setup is_setup is.of_record.1
+  same_setup = one_setup config width height setup is.reel.setup is_setup
+      (record { recording = is.of_record.0; record_of = is.of_record.1; is = ap (λ (r : Reel). r.setup) is.of_record.2 })
+
+  same_rules : profile_rules setup ≡ is.reel.rules
+  same_rules = ap profile_rules (same_setup ∙ ap (λ (r : Reel). r.setup) is.of_record.2)
+      ∙ sym (ap (λ (r : Reel). r.rules) is.of_record.2 ∙ rules_of_profile is.of_record.0 (record_of_profile config width height is.of_record.0 is.of_record.1))
+
+  is_reel : IsReel is.reel
+  is_reel = subst IsReel (sym is.of_record.2) (reel_is Profile config width height is.of_record.0 is.of_record.1)
 
   exact : HoldsExactly (holding_of is.reel copies) slices
-  exact = exactly_held is.reel slices copies (subst (λ (s : SetupValue). AreCopiesOfSlices s slices copies) same_setup are)
+  exact = exactly_held is.reel slices copies (subst (λ (rules : TileRules). AreCopiesOfSlices rules slices copies) same_rules are)
 
-  own : IsOriginal is.reel.setup original slices
-  own = subst (λ (s : SetupValue). IsOriginal s original slices) same_setup is_original
+  own : IsOriginal is.reel.rules original slices
+  own = subst (λ (rules : TileRules). IsOriginal rules original slices) same_rules is_original
 
   read : (h : Contents) → IsHoldingFile (Some file) h → h ≡ holding_of is.reel copies
   read h file_is = one_holding h (holding_of is.reel copies) file file_is is.text is.has
 
   settled : (h : Contents) → IsHoldingFile (Some file) h → (tile : ℕ) → IsLeastUnsettled h tile → ⊥
   settled h file_is tile least =
-      exact_settles (holding_of is.reel copies) original slices own exact tile (subst (λ (g : Contents). IsLeastUnsettled g tile) (read h file_is) least)
+      exact_settles (holding_of is.reel copies) original slices is_reel own exact tile (subst (λ (g : Contents). IsLeastUnsettled g tile) (read h file_is) least)
 
   refused : (ob oa pb pa : Option (List ℕ)) (fault : CliFault) → RestoreStops (Some file) ob oa pb pa fault → IsNoFaultOfBytes fault
   refused ob oa pb pa (faults.Read path) stops = tt
@@ -238,7 +250,7 @@ module _ (config : List ℕ) (width height : ℕ) (setup : SetupValue) (copies :
   restores = record {
     written = λ ob oa pb pa does.
         let payload : restored_payload does.held ≡ original = ap restored_payload (read does.held does.file)
-        ∙ restored_original (holding_of is.reel copies) slices exact original own in
+        ∙ restored_original (holding_of is.reel copies) slices exact original is_reel own in
         subst (Appends ob oa) payload does.payload;
     refused = refused;
   }
@@ -256,7 +268,7 @@ module _ (config : List ℕ) (width height : ℕ) (setup : SetupValue) (copies :
         let picture = subst (λ (h : Contents). IsPartialPicture h does.partial) (read does.held does.file) does.picture in (
           does.partial.frame,
           subst (λ (s : SetupValue). ShowsSlices s slices does.partial.frame) (sym same_setup)
-              (exact_shows (holding_of is.reel copies) original slices own exact does.partial picture),
+              (exact_shows (holding_of is.reel copies) original slices is_reel own exact does.partial picture),
           does.samples,
         );
     refused = not_shown;
@@ -273,7 +285,7 @@ commands_restore_the_original config width height setup copies file original sli
 pub commands_restore_near_copies : CommandsRestoreNearCopies
 commands_restore_near_copies config width height setup copies file original slices is_setup is near =
     commands_restore_the_original config width height setup copies file original slices is_setup is near.is_original
-    (near_are_copies setup original slices copies near)
+    (near_are_copies (profile_rules setup) original slices copies near)
 
 -- ---- the family has members
 
@@ -283,16 +295,16 @@ whole_inputs-all [] few = tt
 whole_inputs-all (c ∷ cs) few = (record { reported = refl; few = few 0 (omega arith) }, whole_inputs-all cs (λ i lt. few (suc i) (omega arith)))
 
 -- where a record has a setup, copies and record are short enough, and their holding has a file, that file is made of them
-taken : (config : List ℕ) (width height : ℕ) (reel : Reel) (copies : List (List ℕ)) → IsReelOf config width height reel → length config ≤ payload_limit
+taken : (config : List ℕ) (width height : ℕ) (reel : Reel) (copies : List (List ℕ)) → IsReelOf Profile config width height reel → length config ≤ payload_limit
     → ((i : ℕ) → i < length copies → length (get_or copies i []) ≤ payload_limit) → HasFile (holding_of reel copies)
     → IsMadeOf config width height copies (holding_text (holding_of reel copies))
 taken config width height reel copies is short few has =
-    let same : config ≡ reel.config = sym is.0 in
+    let same : config ≡ reel.config = sym (ap (λ (r : Reel). r.config) is.2) in
     by_take copies (holding_text (holding_of reel copies)) None None (record {
       reel = reel;
       of_record = record {
         read = record { reported = same; few = omega (arith, ap length same) };
-        is_setup = subst (λ (c : List ℕ). IsSetupOf c width height reel.setup) same is.1;
+        of_record = subst (λ (c : List ℕ). IsReelOf Profile c width height reel) same is;
       };
       copies = copies;
       read = whole_inputs-all copies few;

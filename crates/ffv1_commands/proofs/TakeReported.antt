@@ -3,10 +3,10 @@ use Rattle.std.proofs.Common.{◌≡◌, ℕ, ◌+◌, ◌<◌, List, length, ma
 use Rattle.std.specs.Io.KnownBytes.{Appends}
 use Rattle.std.proofs.lemmas.List.{length-map}
 use Rattle.ffv1_bits.specs.Limits.{payload_limit}
-use Rattle.ffv1_range.specs.Setup.{IsSetupOf}
 use Rattle.ffv1_devices.specs.Logs.{ReadLog, WriteLog, Reads}
 use Rattle.ffv1_holding.specs.Reels.{Reel}
 use Rattle.ffv1_holding.specs.Contents.{Contents, holding_of}
+use Rattle.ffv1_holding.specs.declared.recordings.Recordings.TheVariants.{Profile}
 use Rattle.ffv1_hold.specs.Headline.{IsReelOf}
 use Rattle.ffv1_hold.specs.HoldingText.{holding_text}
 use Rattle.ffv1_holding.specs.TakeFaults.{IsTakeFault}
@@ -73,12 +73,11 @@ copy_untaken before a b copy took holds.OtherReel none = absurd none
 -- ---- over the logs of the devices
 
 -- the record is that of its reel
-pub reel_read : (a b : ReadLog) (config : List ℕ) (width height : ℕ) (reel : Reel) → TakesWhole a b config → IsReelOf config width height reel
+pub reel_read : (a b : ReadLog) (config : List ℕ) (width height : ℕ) (reel : Reel) → TakesWhole a b config → IsReelOf Profile config width height reel
     → TakesReel width height a b reel
-reel_read a b config width height reel took is = record {
-  read = subst (TakesWhole a b) (sym is.0) took;
-  is_setup = subst (λ (c : List ℕ). IsSetupOf c width height reel.setup) (sym is.0) is.1;
-}
+reel_read a b config width height reel took is =
+    let same : config ≡ reel.config = sym (ap (λ (r : Reel). r.config) is.2) in
+    record { read = subst (TakesWhole a b) same took; of_record = subst (λ (c : List ℕ). IsReelOf Profile c width height reel) same is }
 
 -- at a fault of the copies nothing was written
 pub copies-unwritten : {C : Type 0} (reports : C → Option (List ℕ)) (old new : List C) (fault : CliFault) → StopsAtCopy CopyStops reports old new fault
@@ -159,7 +158,7 @@ module _ {C : Type 0} (reports : C → Option (List ℕ)) (width height : ℕ) (
   reel_input : (reel : Reel) → TakesReel width height a b reel → IsReelInput a.remaining width height reel
   reel_input reel read = record {
     read = whole_input a.remaining b.remaining reel.config (whole_of a b reel.config read.read);
-    is_setup = read.is_setup;
+    of_record = read.of_record;
   }
 
   abbrev of_bytes : {T : Type 0} → Result T CliFault → Type 0

@@ -24,14 +24,14 @@ lines_after-push reel before (c ∷ cs) copy =
 -- the line of a copy, as its counts give it
 line_after-from : (reel : Reel) (copies : List (List ℕ)) (copy : List ℕ) (number : ℕ) (old new : Contents) → number ≡ length copies
     → old ≡ holding_of reel copies → new ≡ holding_of reel (copies ++ copy ∷ [])
-    → copy_line (number + 1) (length (links_of copy)) (length (found_slices old.reel.setup copy))
+    → copy_line (number + 1) (length (links_of copy)) (length (found_slices old.reel.rules copy))
     (set.size new.slices - set.size old.slices) ≡ line_after reel copies copy
 unfolding line_after
 line_after-from reel copies copy number old new n o m =
-    ap (λ k. copy_line (k + 1) (length (links_of copy)) (length (found_slices old.reel.setup copy)) (set.size new.slices - set.size old.slices)) n
-    ∙ ap (λ (h : Contents). copy_line (length copies + 1) (length (links_of copy)) (length (found_slices h.reel.setup copy))
+    ap (λ k. copy_line (k + 1) (length (links_of copy)) (length (found_slices old.reel.rules copy)) (set.size new.slices - set.size old.slices)) n
+    ∙ ap (λ (h : Contents). copy_line (length copies + 1) (length (links_of copy)) (length (found_slices h.reel.rules copy))
     (set.size new.slices - set.size h.slices)) o
-    ∙ ap (λ (h : Contents). copy_line (length copies + 1) (length (links_of copy)) (length (found_slices reel.setup copy))
+    ∙ ap (λ (h : Contents). copy_line (length copies + 1) (length (links_of copy)) (length (found_slices reel.rules copy))
     (set.size h.slices - held_of reel copies)) m
 
 pub takes_none : (reel : Reel) (h : Contents) (text : List ℕ) → h ≡ no_slices reel → text ≡ [] → TakesEach [] reel h text
@@ -55,7 +55,7 @@ takes_more inputs reel old new before after input number log each n one =
       copies = each.copies ++ one.copy ∷ [];
       read = AreTaken-push inputs each.copies input one.copy each.read (log, one.read);
       held = held;
-      lines = one.line ∙ ap (λ t. t ++ copy_line (number + 1) (length (links_of one.copy)) (length (found_slices old.reel.setup one.copy))
+      lines = one.line ∙ ap (λ t. t ++ copy_line (number + 1) (length (links_of one.copy)) (length (found_slices old.reel.rules one.copy))
           (set.size new.slices - set.size old.slices)) each.lines
           ∙ ap (λ t. lines_after reel [] each.copies ++ t) (line_after-from reel each.copies one.copy number old new
           (n ∙ length-AreWholeInputs inputs each.copies (taken_whole inputs each.copies each.read)) each.held held)

@@ -4,9 +4,11 @@ use Rattle.std.specs.Prelude.{ℕ, ◌≡◌, ◌<◌, Bool, List, [], ◌++◌,
 use Rattle.std.specs.List.{flat_map}
 use Rattle.std.specs.Io.KnownBytes.{Appends}
 use Rattle.ffv1_range.specs.Setup.{SetupValue, IsSetupOf}
+use Rattle.ffv1_range.specs.TileHeaders.{profile_rules}
 use Rattle.ffv1_slice.specs.Slices.{IsOriginal}
 use Rattle.ffv1_holding.specs.Reels.{Reel}
 use Rattle.ffv1_holding.specs.Contents.{Contents, holding_of, HasSameCopies}
+use Rattle.ffv1_holding.specs.declared.recordings.Recordings.TheVariants.{Profile}
 use Rattle.ffv1_hold.specs.Headline.{IsReelOf}
 use Rattle.ffv1_holding.specs.Originals.{AreCopiesOfSlices, AreNear}
 use Rattle.ffv1_picture.specs.Headline.{AreEqualInAll, ShowsSlices}
@@ -71,7 +73,7 @@ abbrev pub MadeOfCopies : Type 0
 MadeOfCopies =
     (config : List ℕ) (width height : ℕ) (copies : List (List ℕ)) (file : List ℕ)
     → IsMadeOf config width height copies file
-    → (reel : Reel) × IsReelOf config width height reel × IsHoldingFile (Some file) (holding_of reel copies)
+    → (reel : Reel) × IsReelOf Profile config width height reel × IsHoldingFile (Some file) (holding_of reel copies)
 
 -- However the same copies are ordered, grouped or repeated, the files made of them are equal byte for byte, ..
 abbrev pub SameCopiesMakeOneFile : Type 0
@@ -102,7 +104,7 @@ abbrev pub CommandsRestoreTheOriginal : Type 0
 CommandsRestoreTheOriginal =
     (config : List ℕ) (width height : ℕ) (setup : SetupValue) (copies : List (List ℕ)) (file original : List ℕ) (slices : List (List ℕ))
     → IsSetupOf config width height setup → IsMadeOf config width height copies file
-    → IsOriginal setup original slices → AreCopiesOfSlices setup slices copies
+    → IsOriginal (profile_rules setup) original slices → AreCopiesOfSlices (profile_rules setup) slices copies
     → RestoresOnly file original × ShowsOnly setup file slices
 
 -- So it is where each copy is near the original, and each of its slices is intact in one of them.
@@ -110,5 +112,5 @@ abbrev pub CommandsRestoreNearCopies : Type 0
 CommandsRestoreNearCopies =
     (config : List ℕ) (width height : ℕ) (setup : SetupValue) (copies : List (List ℕ)) (file original : List ℕ) (slices : List (List ℕ))
     → IsSetupOf config width height setup → IsMadeOf config width height copies file
-    → AreNear setup original slices copies
+    → AreNear (profile_rules setup) original slices copies
     → RestoresOnly file original × ShowsOnly setup file slices

@@ -30,7 +30,7 @@ held_of reel copies = set.size (holding_of reel copies).slices
 -- the line of a copy that is taken after others
 unfoldable pub line_after : Reel → List (List ℕ) → List ℕ → List ℕ
 line_after reel before copy =
-    copy_line (length before + 1) (length (links_of copy)) (length (found_slices reel.setup copy)) (held_of reel (before ++ copy ∷ []) - held_of reel before)
+    copy_line (length before + 1) (length (links_of copy)) (length (found_slices reel.rules copy)) (held_of reel (before ++ copy ∷ []) - held_of reel before)
 
 -- the lines of copies that are taken after others
 abbrev pub lines_after : Reel → List (List ℕ) → List (List ℕ) → List ℕ

@@ -15,7 +15,7 @@ pub record TakesOne (IsRead : List ℕ → Type 0) (number : ℕ) (old new : Con
   pub copy : List ℕ
   pub read : IsRead copy
   pub held : new ≡ with_found old copy
-  pub line : after ≡ before ++ copy_line number (length (links_of copy)) (length (found_slices old.reel.setup copy)) (set.size new.slices - set.size old.slices)
+  pub line : after ≡ before ++ copy_line number (length (links_of copy)) (length (found_slices old.reel.rules copy)) (set.size new.slices - set.size old.slices)
 
 -- A copy was read whole and taken, and its line was added, after so many others, or it was not read.
 abbrev pub TakesCopy : {T : Type 0} → Result T CliFault → (before : ℕ) → (held_old held_new : Contents) → (lines_old lines_new : List ℕ)

@@ -1,6 +1,7 @@
-use Rattle.std.proofs.Common.{ℕ, List, subst}
+use Rattle.std.proofs.Common.{ℕ, List, ◌∙◌, subst}
 use Rattle.std.proofs.lemmas.Result.{err_from_is_err_and}
-use Rattle.ffv1_hold.specs.Headline.{IsReelOf}
+use Rattle.ffv1_range.specs.Setup.{IsSetupOf}
+use Rattle.ffv1_holding.proofs.Reels.{setup_reel_of}
 use Rattle.ffv1_commands.proofs.RecordFaults.{record_unread, record_refused}
 use Rattle.ffv1_commands.proofs.TakeReported.{reel_read}
 use Rattle.ffv1_commands.proofs.take.empty_holding.Goals as goal
@@ -19,6 +20,9 @@ returns-in_err-new-clause-err g c =
 pub returns-clause-reel : goal.returns-clause-reel
 returns-clause-reel g c =
     let reel = c.in_ok-new.field-0.reel in
-    let is = subst (λ (bytes : List ℕ). IsReelOf bytes c.args.width c.args.height reel) c.as_slice.ensures.value
-    (c.in_ok-new.ensures.config, c.in_ok-new.ensures.setup) in
+    let same = c.as_slice.ensures.value in
+    let made = c.in_ok-new.ensures in
+    let config = made.config ∙ same in
+    let setup = subst (λ (bytes : List ℕ). IsSetupOf bytes c.args.width c.args.height reel.setup) same made.setup in
+    let is = setup_reel_of c.in_ok-config.config.items c.args.width c.args.height reel made.well_formed config setup in
     reel_read _ _ _ c.args.width c.args.height reel c.in_ok-config.ensures is
