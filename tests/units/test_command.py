@@ -235,7 +235,7 @@ class AloneTest(InFolder):
     def setUp(self) -> None:
         super().setUp()
         for name in "a.mkv", "b.mkv":
-            self.write(name, PLAIN[:3495] + b"\x37" + PLAIN[3496:])
+            self.write(name, PLAIN[:3200] + b"\xc1" + PLAIN[3201:])
 
     def test_a_repaired_frame_that_decodes(self) -> None:
         done = self.call("-o", "out.mkv", "a.mkv", "b.mkv")

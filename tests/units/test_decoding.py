@@ -1,4 +1,4 @@
-"""Frames with guessed slices, and whether they decode."""
+"""Frames with guessed slices, whether they decode, and where they were guessed."""
 import errno
 import os
 import pathlib
@@ -9,10 +9,11 @@ import unittest.mock
 import makings
 import readings
 from mend_reel.judging import decoding
-from mend_reel.judging.decoding import SamplesDecoder, decoded, is_key
+from mend_reel.judging.decoding import GuessFinder, SamplesDecoder, decoded, guessed, is_key
+from mend_reel.judging.kept_digests import Compared
 from mend_reel.judging.reasons import Why
-from mend_reel.judging.results import FrameState
-from mend_reel.model import Content, Frame, Outcome, State, Track
+from mend_reel.judging.results import FrameState, NearEnd
+from mend_reel.model import Content, Frame, Kind, Outcome, State, Stretch, Track, What
 from . import made, stand_in
 from .test_verdict import element, missing, plain, recording, repaired, settled, verdict, voted, whys
 
@@ -22,31 +23,36 @@ SLICES = (settled("11", 100), repaired("00", 0, 100))
 
 class DecodedTest(unittest.TestCase):
     def decoded(self, layout, outcomes, answer=True):
-        """What is decoded, and what was asked about: the track and the place."""
+        """What is decoded, and what was asked about: the track and the place; and where it decodes the stretch, the place and the slices."""
         asked = []
 
         def decodes(track, frame):
             asked.append((track.number, frame.place))
             return answer
 
-        return decoded(layout, layout.stretches, outcomes, decodes), asked
+        def look(stretch, frame, slices):
+            asked.append((stretch.start, frame.place, len(slices)))
+            return NearEnd.SOME
+
+        return decoded(layout, layout.stretches, outcomes, decodes, look), asked
 
     def test_a_frame_with_a_repaired_slice_is_asked_about(self):
         layout = recording()
         outcomes = [Outcome(element(number), State.MISSING, 0, "00", {0: SLICES}) for number in (1, 3)]
-        self.assertEqual(self.decoded(layout, outcomes), ({724, 1748}, [(1, 724), (1, 1748)]))
-        self.assertEqual(self.decoded(layout, outcomes, False), (set(), [(1, 724), (1, 1748)]))
+        found = {724: NearEnd.SOME, 1748: NearEnd.SOME}
+        self.assertEqual(self.decoded(layout, outcomes), (found, [(1, 724), (624, 724, 2), (1, 1748), (1648, 1748, 2)]))
+        self.assertEqual(self.decoded(layout, outcomes, False), ({}, [(1, 724), (1, 1748)]))
 
     def test_a_frame_with_a_voted_slice_is_asked_about(self):
         outcome = Outcome(element(1), State.MISSING, 0, "00", {0: (settled("11", 100), voted("00", 0, 100))})
-        self.assertEqual(self.decoded(recording(), [outcome]), ({724}, [(1, 724)]))
+        self.assertEqual(self.decoded(recording(), [outcome]), ({724: NearEnd.SOME}, [(1, 724), (624, 724, 2)]))
 
     def test_others_are_not(self):
         slices = (missing("00", 100), repaired("00", 0, 100)), (settled("11", 100), settled("01", 0, 100))
         outcomes = [Outcome(element(number), State.MISSING, 0, "00", {0: each}) for number, each in enumerate(slices)]
         outcomes += [Outcome(element(number), state, 1, "00", {0: SLICES}) for number, state in ((2, State.WOVEN), (4, State.DISPUTED))]
         outcomes += [Outcome(element(3), State.MISSING, 0, "00")]
-        self.assertEqual(self.decoded(recording(), outcomes), (set(), []))
+        self.assertEqual(self.decoded(recording(), outcomes), ({}, []))
 
 
 def video(number, folder):
@@ -193,14 +199,108 @@ class DecoderTest(InFile):
         self.assertFalse(self.ask([(1, stored(RICE, 0)[0])], 0, [Track(1, Content.VIDEO, "ffv1", True, 0, 32, track.record)]))
 
 
+MADE = bytes(range(200))
+
+
+def with_bytes(content, *changes):
+    """A string with other bytes at some places."""
+    made = bytearray(content)
+    for place, byte in changes:
+        made[place] = byte
+    return bytes(made)
+
+
+class GuessedTest(unittest.TestCase):
+    """The bytes of a slice that were voted or repaired."""
+
+    def places(self, *versions, is_repaired=False):
+        marks = guessed(MADE, versions, is_repaired).to_bytes(len(MADE), "big")
+        self.assertEqual(set(marks) - {0, 1}, set())
+        return [place for place, mark in enumerate(marks) if mark]
+
+    def test_what_was_voted_is_what_some_version_has_otherwise(self):
+        self.assertEqual(self.places(with_bytes(MADE, (0, 9)), with_bytes(MADE, (199, 0), (77, 1)), with_bytes(MADE, (77, 76))), [0, 77, 199])
+
+    def test_what_was_repaired_is_what_no_version_has(self):
+        versions = with_bytes(MADE, (5, 4), (9, 1)), with_bytes(MADE, (5, 4), (190, 0)), with_bytes(MADE, (5, 7))
+        self.assertEqual((self.places(*versions, is_repaired=True), self.places(*versions)), ([5], [5, 9, 190]))
+        self.assertEqual(self.places(with_bytes(MADE, (0, 1)), is_repaired=True), [0])
+
+    def test_an_inverted_bit_that_another_version_has(self):
+        """It may lie wherever versions differ."""
+        self.assertEqual(self.places(with_bytes(MADE, (5, 4), (60, 1)), with_bytes(MADE, (190, 0)), is_repaired=True), [5, 60, 190])
+
+
+class FoundTest(unittest.TestCase):
+    """How near the end of its slice the guesses of a frame lie. It has three slices of 100, 20 and 80 bytes, from place 50 of OUT on."""
+
+    STRETCH = Stretch(Kind.ELEMENT, 30, 300, What(Content.CLUSTER), (7, None, 40))
+    FRAME = Frame(1, 0.0, 50, 200)
+
+    def found(self, *slices, **changes):
+        """What is found where the first copy and the last have other bytes, at places in the frame."""
+        out = bytes(50) + MADE + bytes(99)
+        copies = [bytes(7 + 20) + with_bytes(MADE, *((place, 255) for place in changes.get("first", ()))) + bytes(99), b"",
+                  bytes(40 + 20) + with_bytes(MADE, *((place, 254) for place in changes.get("last", ()))) + bytes(99)]
+        with made.opened(out, *copies) as (opened, *others):
+            return GuessFinder(opened, others)(self.STRETCH, self.FRAME, slices)
+
+    def test_the_last_64_bytes_of_the_content_and_the_footer_are_near_the_end(self):
+        for first, found in (([27], NearEnd.NONE), ([28], NearEnd.ALL), ([91], NearEnd.ALL), ([92], NearEnd.ALL), ([99], NearEnd.ALL),
+                             ([27, 28], NearEnd.SOME), ([0, 99], NearEnd.SOME), ([100], NearEnd.NONE)):
+            self.assertEqual(self.found(voted("0-0", 0, 100), first=first), found, first)
+
+    def test_all_copies_that_have_the_frame_are_looked_at(self):
+        self.assertEqual(self.found(voted("0-0", 0, 100), first=[99], last=[3]), NearEnd.SOME)
+        self.assertEqual(self.found(voted("0-0", 0, 100), last=[98]), NearEnd.ALL)
+
+    def test_an_inverted_bit(self):
+        both = dict(first=[3, 28], last=[28])
+        self.assertEqual((self.found(repaired("0-0", 0, 100), **both), self.found(voted("0-0", 0, 100), **both)), (NearEnd.ALL, NearEnd.SOME))
+        self.assertEqual(self.found(repaired("0-0", 0, 100), first=[3, 99], last=[3]), NearEnd.NONE)
+
+    def test_the_slice_with_most_of_them_near_its_end_counts(self):
+        early, late, both = repaired("0-0", 0, 100), repaired("0-0", 100, 120), voted("0-0", 120, 200)
+        places = [2, 110, 121, 199]
+        for slices, found in (((early,), NearEnd.NONE), ((early, both), NearEnd.SOME), ((both, early), NearEnd.SOME), ((both, late, early), NearEnd.ALL),
+                              ((settled("1-1", 100, 120), early), NearEnd.NONE), ((missing("0-0", 100, 120), both), NearEnd.SOME)):
+            self.assertEqual(self.found(*slices, first=places, last=places), found)
+
+
 class VouchedTest(unittest.TestCase):
     def test_a_frame_that_decodes_is_restored(self):
         outcome = Outcome(2, State.MISSING, 0, "00", {0: SLICES})
-        found, doubtful = (verdict(plain(), outcome, decoded=places) for places in ({140}, {580}))
+        found, doubtful = (verdict(plain(), outcome, decoded={place: NearEnd.NONE}) for place in (140, 580))
         self.assertEqual((found.status, found.results.frames[0].state, found.counts.restored, found.sums.open), (0, FrameState.WOVEN, 1, 0))
         self.assertEqual((doubtful.status, whys(doubtful), doubtful.counts.lost, doubtful.sums.open), (3, [Why.REPAIRED], 1, 300))
+        self.assertEqual((found.notes, doubtful.notes), ([], []))
+
+    def test_a_frame_of_which_all_was_guessed_near_the_end_of_a_slice_is_in_doubt(self):
+        outcomes = [Outcome(number, State.MISSING, 0, "00", {0: SLICES}) for number in (2, 5)]
+        found = verdict(plain(), *outcomes, decoded={140: NearEnd.ALL, 580: NearEnd.ALL})
+        self.assertEqual((found.status, whys(found), found.counts.lost, found.sums.open, found.notes), (3, [Why.NEAR_END], 2, 600, []))
+        self.assertEqual(found.reasons[0].text(), "frames 0 to 1 (0:00:00.000 to 0:00:00.040, bytes 140 to 880): damaged in every copy; OUT has them with a "
+                         "slice that is voted or repaired in its last 64 bytes alone. All slices pass, decode and end as they should, but an end says "
+                         "little of the bytes right before it; a further copy may restore them")
+
+    def test_where_some_was_guessed_there_a_note_says_so(self):
+        outcomes = [Outcome(number, State.MISSING, 0, "00", {0: SLICES}) for number in (2, 5, 8)]
+        near = {140: NearEnd.SOME, 580: NearEnd.NONE, 1020: NearEnd.SOME}
+        found = verdict(plain(), *outcomes, decoded=near)
+        self.assertEqual((found.status, found.counts.restored, found.counts.woven, found.sums.open), (0, 3, 3, 0))
+        self.assertEqual(found.notes, [f"frame {number} (0:00:00.{time}, bytes {start} to {start + 300}): restored with a slice that is voted or repaired in "
+                                       "its last 64 bytes too; that it ends as it should says little of these"
+                                       for number, time, start in ((0, "000", 140), (2, "080", 1020))])
+        self.assertEqual([result.near_end for result in found.results.frames.values()], list(near.values()))
+        original = verdict(plain(), *outcomes, decoded=near, compared=Compared(True, "it is the original", False))
+        self.assertEqual(original.notes, ["it is the original"])
+
+    def test_an_element_that_passes_vouches_wherever_it_was_guessed(self):
+        for state in (State.WHOLE, State.WOVEN):
+            found = verdict(recording(), Outcome(element(1), state, 0, "00", {0: SLICES}))
+            self.assertEqual((found.status, found.counts.lost, found.notes, found.results.frames[1].near_end), (0, 0, [], None))
 
     def test_what_lies_beside_it_in_an_element_is_in_doubt(self):
-        found = verdict(recording(), Outcome(element(1), State.MISSING, 0, "00", {0: SLICES}), decoded={724})
+        found = verdict(recording(), Outcome(element(1), State.MISSING, 0, "00", {0: SLICES}), decoded={724: NearEnd.NONE})
         self.assertEqual((found.status, whys(found), found.counts.lost), (3, [Why.BESIDE], 0))
         self.assertEqual((found.sums.verified, found.sums.open), (5 * 500 + 300, 200))

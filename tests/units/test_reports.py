@@ -13,7 +13,7 @@ import schema
 from mend_reel.copies.arrangement import Matched
 from mend_reel.judging.kept_digests import Compared
 from mend_reel.judging.reasons import Why
-from mend_reel.judging.results import FrameState
+from mend_reel.judging.results import FrameState, NearEnd
 from mend_reel.judging.verdict import Evidence, judge
 from mend_reel.model import Because, Content, Kind, Outcome, SliceReport, State
 from mend_reel.reports import json_document, page, timeline
@@ -83,6 +83,16 @@ class MachineTest(unittest.TestCase):
         self.assertEqual((second["combinations"], second["frames"][0]["state"], third["frames"]), (4, "woven", []))
         self.assertEqual(read["notes"][0], "a note")
 
+    def test_where_a_frame_that_decodes_was_guessed(self):
+        outcomes = [Outcome(element(number), State.MISSING, 0, "00", {0: (settled("11", 100), repaired("00", 0, 100))}) for number in range(4)]
+        near = {recording().frames[number].place: each for number, each in enumerate(NearEnd)}
+        found = judge(Evidence(recording(), recording().stretches, outcomes, recording(), decoded=near))
+        read = self.read(dataclasses.replace(summary(recording()), verdict=found))
+        self.assertEqual([(frame["guessed_near_end"], frame["state"]) for stretch in read["stretches"] for frame in stretch["frames"]],
+                         [("none", "woven"), ("some", "woven"), ("all", "not restored"), (None, "not restored")])
+        self.assertEqual([reason["why"] for reason in read["verdict"]["reasons"]], ["beside", "near_end", "repaired"])
+        self.assertIn("frame 1 (0:00:00.040, bytes 724 to 1024): restored with a slice that is voted", read["notes"][0])
+
     def test_nothing_is_damaged(self):
         read = self.read(summary(recording(), out=False))
         self.assertEqual((read["stretches"], read["out"], read["digest"], read["verdict"]["reasons"]), ([], None, None, []))
@@ -114,6 +124,7 @@ class SchemaTest(unittest.TestCase):
         self.assertEqual(words("stretch", "state"), {state.value for state in State})
         self.assertEqual(words("stretch", "checksum"), {kind.value for kind in Kind})
         self.assertEqual(words("frame", "state"), {state.value for state in FrameState})
+        self.assertEqual(words("frame", "guessed_near_end"), {near.value for near in NearEnd})
         self.assertEqual(words("copy", "role"), set(json_document.ROLES.values()))
 
     def test_several_files_are_one_document(self):
@@ -170,7 +181,7 @@ class PageTest(unittest.TestCase):
 
     def test_a_repaired_slice_of_a_frame_that_decodes_is_shown(self):
         slices = (settled("11", 100), repaired("00", 0, 100))
-        found = judge(Evidence(recording(), recording().stretches, [Outcome(element(1), State.MISSING, 0, "00", {0: slices})], recording(), decoded={724}))
+        found = judge(Evidence(recording(), recording().stretches, [Outcome(element(1), State.MISSING, 0, "00", {0: slices})], recording(), decoded={724: NearEnd.NONE}))
         _, words = self.page(dataclasses.replace(summary(recording()), verdict=found))
         self.assertIn("woven 0 to 100: one wrong bit inverted, one of 2400 repairs", words)
 

@@ -146,5 +146,5 @@ The manual page has more: man ffv1restore.
 /// What `version` prints: the program's version, and the kit whose prover proved it.
 pub(crate) const VERSION: &str = "\
 ffv1restore 0.2.0
-proved with rattle-kit-13f
+proved with rattle-kit-13b
 ";

@@ -1,1 +1,4 @@
-pub mod Planes
+pub mod AskedSets
+pub mod StateChanges
+pub mod TableSets
+pub mod Vectors

@@ -1,4 +1,5 @@
 pub mod Asked
+pub mod Inner
 pub mod Makers
 -- what the clauses cite of the crates below
 pub use Rattle.ffv1_range.specs.Setup

@@ -10,10 +10,12 @@ mod plane;
 mod range;
 mod record;
 mod rice;
+mod sets;
 mod slice;
 mod spec;
 mod states;
 mod successors;
+mod transitions;
 mod writer;
 
 pub use maker::Maker;

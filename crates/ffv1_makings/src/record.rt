@@ -15,7 +15,8 @@ use ffv1_vectors::MakeFault;
 use std::alloc::Global;
 
 /// The record with its parity, returned only if it reads back as what was asked: `Recording::read` for frames whose sides have
-/// `GREATEST_SIDE` samples gives the coding, the planes, the tables and the initial states that were asked for. The shifts of gray count as 0.
+/// `GREATEST_SIDE` samples gives the micro_version, the coding with its transitions, the planes, the tables and the initial states that were
+/// asked for. The shifts of gray count as 0.
 ///
 /// Returns `NotSelf` if the record does not read back so; `Memory` if an allocation of memory failed.
 pub fn make_recording_record(alloc: Global, spec: &RecordingSpec) -> Result<Vec<u8>, MakeFault>

@@ -7,7 +7,7 @@ pub struct RecordingSpec {
     pub micro: u32,
     /// coder_type: 0 for Golomb-Rice codes, 1 for range coding by the default transitions, 2 for range coding by the record's own.
     pub coder: u32,
-    /// state_transition_delta of the states from 1 on, with coder_type 2. Those that are left out are 0.
+    /// state_transition_delta of the states 1 to 255, with coder_type 2, modulo 256. Those that are left out are 0.
     pub deltas: Vec<i32>,
     /// Whether the planes are G, B and R, and not Y, Cb and Cr. Then `has_chroma` has to be true.
     pub is_rgb: bool,

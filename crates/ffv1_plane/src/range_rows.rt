@@ -184,7 +184,8 @@ fn read_row<'a>(
     Ok(decoder)
 }
 
-/// Reads a row as `read_row` does, by a body of its own for samples of 8 bits, and for those of 16 bits that are predicted as signed numbers.
+/// Reads a row as `read_row` does, by a body of its own for samples of 8, 9 and 10 bits, and for those of 16 bits that are predicted as signed
+/// numbers.
 fn read_row_at<'a>(
     decoder: RangeDecoder<'a>,
     states: &mut [[u8; 32]],
@@ -213,10 +214,12 @@ fn read_row_at<'a>(
         }
         return read_row(decoder, states, lines, tables, depth, true);
     }
-    if depth == 8 {
-        return read_row(decoder, states, lines, tables, 8, false);
+    match depth {
+        8 => read_row(decoder, states, lines, tables, 8, false),
+        9 => read_row(decoder, states, lines, tables, 9, false),
+        10 => read_row(decoder, states, lines, tables, 10, false),
+        _ => read_row(decoder, states, lines, tables, depth, false),
     }
-    read_row(decoder, states, lines, tables, depth, false)
 }
 
 /// Why a line can't be read.

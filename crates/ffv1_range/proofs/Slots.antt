@@ -1,5 +1,5 @@
 -- One bit at a state, and one at a slot of a row.
-use Rattle.std.proofs.Common.{◌≡◌, ℕ, ◌+◌, length, length-append, arith, Bool, List, Result, Ok, Err, Option, Some, None, refl, sym, ap, ◌∙◌, subst}
+use Rattle.std.proofs.Common.{◌≡◌, ℕ, ◌+◌, length, length-append, arith, Bool, List, Result, Ok, Err, Option, Some, None, refl, sym, ap, ◌∙◌}
 use Rattle.std.specs.Prelude.{slice_index, slice_set, replicate}
 use Rattle.std.proofs.lemmas.List.{length-replicate}
 use Rattle.ffv1_range.specs.Results.{◌>>>◌}
@@ -12,15 +12,6 @@ use Rattle.ffv1_range.specs.declared.coding.RangeFault.{RangeFault}
 use Rattle.ffv1_range.proofs.Forms.{place_of}
 use Rattle.ffv1_range.specs.Transitions.{state_following}
 use Rattle.ffv1_range.specs.declared.transitions.Transitions.{Transitions}
-
-pub bit_read : (r : Reader) (mode : Mode) (total : ℕ) (fault : Option RangeFault) (interval next : Interval) (state after : ℕ) (bit : Bool)
-    → record { mode = mode; total = total; at = at_of fault (coder_of interval) } ≡ r → fault ≡ None
-    → bit_at mode.closed (coder_of interval) state ≡ Ok (bit, coder_of next) → after ≡ state_following mode.transitions state bit
-    → ReadsBit r state (Ok bit) (record { mode = mode; total = total; at = at_of fault (coder_of next) }) after
-bit_read r mode total None interval next state after bit view none e a =
-    subst (λ z. ReadsBit z state (Ok bit) (record { mode = mode; total = total; at = Ok (coder_of next) }) after) view
-    (coder_of next, e, refl, a)
-bit_read r mode total (Some f) interval next state after bit view none e a = absurd cc
 
 slot_outcome : (transitions : Transitions) (slot : ℕ) (row : List ℕ) → Result (Bool × Coder) RangeFault → Result (Bool × Place) RangeFault
 slot_outcome transitions slot row (Ok x) = Ok (

@@ -1,12 +1,13 @@
 //! The range coder (RFC 9043, section 3.8.1.1): bits that are coded at states, read from the front of a content.
 //!
 //! An `Interval` keeps its range in 256..=65280 and its offset below the range. A decoder that met a fault keeps it.
-ghost use Rattle.std.specs.Prelude.{◌≡◌, ◌++◌, ◌∷◌, [], replicate, true, ℕ, ◌+◌, ◌≤◌, ◌<◌, length, IfOk, OnErr, false, true};
+ghost use Rattle.std.specs.Prelude.{◌≡◌, ◌++◌, ◌∷◌, [], replicate, true, ℕ, ◌+◌, ◌≤◌, ◌<◌, length, Ok, IsOk, IfOk, OnErr, false, true};
 ghost use Rattle.ffv1_range.specs.Coding.{start_of, started, bit_at, refilled, slot_at, record_mode, header_mode, sentinel_mode};
 ghost use Rattle.ffv1_range.specs.Forms.{ReadsForm, same_fault, slot_form};
 ghost use Rattle.ffv1_range.specs.Inner.Forms.{Gives};
 ghost use Rattle.ffv1_range.specs.Decoder.{reader_at, ReadsBit, KeepsFault, IsCoder, Starts, EndsAt, EndsSo, is_clean};
 ghost use Rattle.ffv1_range.specs.Views.{coder_of};
+ghost use Rattle.ffv1_range.specs.Transitions.{state_following};
 
 use crate::transitions::{Transitions, standard};
 use std::marker::Model;
@@ -222,23 +223,12 @@ impl<'a> RangeDecoder<'a> {
         ensures kept { KeepsFault self.old result self.new }
         ensures unchanged { OnErr result (state.new ≡ state.old) }
     {
-        self.read_bit(state, false)
-    }
-
-    /// Reads one bit at a state, as `bit` does; with no branch on it where it is even, as likely 0 as 1.
-    #[inline(always)]
-    fn read_bit(&mut self, state: &mut u8, is_even: bool) -> Result<bool, RangeFault>
-        ensures read { ReadsBit self.old state.old result self.new state.new }
-        ensures kept { KeepsFault self.old result self.new }
-        ensures unchanged { OnErr result (state.new ≡ state.old) }
-    {
         if let Some(fault) = self.fault {
             return Err(fault);
         }
-        match bit_of(self.closed, self.interval, *state, is_even) {
+        match branched_bit_of(self.closed, self.interval, *state) {
             Ok((bit, interval)) => {
-                self.interval = interval;
-                *state = self.transitions.after(*state, bit);
+                self.go_on(state, bit, interval);
                 Ok(bit)
             }
             Err(fault) => {
@@ -246,6 +236,41 @@ impl<'a> RangeDecoder<'a> {
                 Err(fault)
             }
         }
+    }
+
+    /// Reads one bit at a state, as `bit` does, with no branch on it: for one that is as likely 0 as 1.
+    #[inline(always)]
+    fn even_bit(&mut self, state: &mut u8) -> Result<bool, RangeFault>
+        ensures read { ReadsBit self.old state.old result self.new state.new }
+        ensures kept { KeepsFault self.old result self.new }
+        ensures unchanged { OnErr result (state.new ≡ state.old) }
+    {
+        if let Some(fault) = self.fault {
+            return Err(fault);
+        }
+        match chosen_bit_of(self.closed, self.interval, *state) {
+            Ok((bit, interval)) => {
+                self.go_on(state, bit, interval);
+                Ok(bit)
+            }
+            Err(fault) => {
+                self.keep_fault(fault);
+                Err(fault)
+            }
+        }
+    }
+
+    /// Goes on from an interval, after this bit at a state.
+    #[inline(always)]
+    fn go_on(&mut self, state: &mut u8, bit: bool, interval: Interval<'a>)
+        requires alive { IsOk self.old.at }
+        requires coder { IsCoder interval.range interval.low }
+        requires rest { self.old.mode.closed ≡ false → length interval.rest.now + interval.zeros + 2 ≤ self.old.total }
+        ensures place { self.new ≡ reader_at self.old (Ok (coder_of interval.entry)) }
+        ensures state { state.new ≡ state_following self.old.mode.transitions state.old bit }
+    {
+        self.interval = interval;
+        *state = self.transitions.after(*state, bit);
     }
 
     /// Reads one bit at a slot of the states.
@@ -269,7 +294,7 @@ impl<'a> RangeDecoder<'a> {
         ensures read { ReadsForm same_fault (slot_form slot) self.old states.old result self.new states.new }
         ensures kept { KeepsFault self.old result self.new }
     {
-        self.read_bit(&mut states[slot], true)
+        self.even_bit(&mut states[slot])
     }
 
     /// Keeps a fault, so that it is returned from then on.
@@ -277,26 +302,6 @@ impl<'a> RangeDecoder<'a> {
         ensures { self.new ≡ reader_at self.old (Err fault) }
     {
         self.fault = Some(fault);
-    }
-}
-
-/// One bit at a state, and what is left of the interval; with no branch on an even one.
-#[inline(always)]
-fn bit_of(
-    closed: bool,
-    interval: Interval<'_>,
-    state: u8,
-    is_even: bool,
-) -> Result<(bool, Interval<'_>), RangeFault>
-    requires { IsCoder interval.range interval.low }
-    ensures value { Gives (λ x. (x.0, coder_of x.1)) result (bit_at closed (coder_of interval.entry) state) }
-    ensures coder { IfOk result (λ x. IsCoder x.1.range x.1.low) }
-    ensures rest { IfOk result (λ x. length x.1.rest.now + x.1.zeros ≤ length interval.entry.rest.now + interval.entry.zeros) }
-{
-    if is_even {
-        chosen_bit_of(closed, interval, state)
-    } else {
-        branched_bit_of(closed, interval, state)
     }
 }
 

@@ -13,7 +13,7 @@ from ..copies.inputs import longest_chain
 from ..model import Claims, Content, Frame, Layout, Outcome, Stretch
 from .kept_digests import Compared
 from .reasons import Reason, Why
-from .results import VERIFIED, Results
+from .results import VERIFIED, NearEnd, Results
 
 # A hidden frame is no smaller than so much of the smallest that is shown. It does not hide in the head of an element.
 SMALLER, SMALL_HEAD = 0.25, 32
@@ -34,7 +34,7 @@ class Evidence:
     copy_of_mark: Sequence[int] = ()  # which copy each mark of an outcome is of
     others: Mapping[int, Layout] = dataclasses.field(default_factory=dict)  # what the other files have, by copy
     has_damaged_heads: bool = False  # damaged element headers of copies were left out
-    decoded: Set[int] = frozenset()  # the places of frames with guessed slices that decode
+    decoded: Mapping[int, NearEnd] = dataclasses.field(default_factory=dict)  # frames with guessed slices that decode, by their places
     compared: Compared | None = None  # what a kept digest says
     is_check: bool = False  # one file is checked, and no OUT is made
     flaws: Sequence[Found] = ()  # where the parts of OUT, or of that file, do not hang together

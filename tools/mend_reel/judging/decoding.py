@@ -1,5 +1,5 @@
 """Frames with guessed slices: each of these has what most copies have, or one bit inverted, and so passes. What decodes besides, and ends as an
-encoder ends it, is taken for right."""
+encoder ends it, is taken for right, but where all that was guessed of a slice lies near its end: wrong bytes there often leave it clean."""
 from __future__ import annotations
 
 import collections
@@ -7,17 +7,22 @@ import pathlib
 import tempfile
 from collections.abc import Callable, Iterable, Sequence
 
-from ..model import Copy, Frame, Layout, Outcome, State, Stretch, Track
+from ..model import Copy, Frame, Layout, Outcome, SliceReport, State, Stretch, Track
 from ..program.external_programs import run
-from .results import is_guessed
+from .results import GUESSED, NearEnd, is_guessed
 
 NOWHERE = "/dev/null"
 # How many frames are decoded from a keyframe on: each is a word of a call.
 MOST_FRAMES = 1000
 # A frame begins with its range-coded keyframe bit, of even chance: 1 if the first two bytes are half of the range at least.
 KEY = 65280 // 2
+# The last bytes of a slice's content, and its footer: one wrong byte of 4 there leaves Golomb-Rice codes clean, and one of 103 the range coder's.
+END = 64 + 8
+# Makes each byte that is not 0 a 1.
+MARKS = bytes([0]) + bytes([1]) * 255
 
 Decodes = Callable[[Track, Frame], bool]
+Looks = Callable[[Stretch, Frame, Sequence[SliceReport]], NearEnd]
 
 
 def is_key(front: bytes) -> bool:
@@ -64,9 +69,41 @@ class SamplesDecoder:
         return []
 
 
-def decoded(layout: Layout, stretches: Sequence[Stretch], outcomes: Sequence[Outcome], decodes: Decodes) -> frozenset[int]:
-    """The places of frames with guessed slices that decode, and that nothing else vouches for. Outcomes have numbers of stretches."""
-    tracks, found = {track.number: track for track in layout.tracks}, set()
+class GuessFinder:
+    """Finds where the guessed bytes of OUT's slices lie."""
+
+    def __init__(self, out: Copy, copies: Sequence[Copy]) -> None:
+        self.out, self.copies = out, copies
+
+    def __call__(self, stretch: Stretch, frame: Frame, slices: Sequence[SliceReport]) -> NearEnd:
+        """How near the end of its slice the guesses of a frame lie, of the guessed slice of which they lie nearest. A stretch has a place in each copy."""
+        found = (self.of_slice(stretch, frame.place + each.start, each) for each in slices if each.state in GUESSED)
+        return max(found, key=list(NearEnd).index)
+
+    def of_slice(self, stretch: Stretch, start: int, piece: SliceReport) -> NearEnd:
+        """How near its end the guesses of a slice lie that begins at a place of OUT."""
+        size = piece.end - piece.start
+        made, versions = self.out.read(start, size), (copy.read(place + start - stretch.start, size) for copy, place in
+                                                      zip(self.copies, stretch.places) if place is not None)
+        guesses = guessed(made, list(versions), piece.state == "repaired")
+        before, near = guesses >> 8 * END, guesses & ((1 << 8 * END) - 1)
+        return NearEnd.NONE if not near else NearEnd.SOME if before else NearEnd.ALL
+
+
+def guessed(made: bytes, versions: Sequence[bytes], is_repaired: bool) -> int:
+    """A number with a byte 1 where a slice has guessed bytes: where a repaired one has what no version has, as that byte has the inverted bit;
+    else where not all versions have what it has."""
+    alone, some = -1, 0
+    for version in versions:
+        differs = int.from_bytes(made, "big") ^ int.from_bytes(version, "big")
+        marks = int.from_bytes(differs.to_bytes(len(made), "big").translate(MARKS), "big")
+        alone, some = alone & marks, some | marks
+    return alone if is_repaired and alone else some
+
+
+def decoded(layout: Layout, stretches: Sequence[Stretch], outcomes: Sequence[Outcome], decodes: Decodes, look: Looks) -> dict[int, NearEnd]:
+    """The frames with guessed slices that decode, and that nothing else vouches for, by their places. Outcomes have numbers of stretches."""
+    tracks, found = {track.number: track for track in layout.tracks}, {}
     for outcome in (outcome for outcome in outcomes if outcome.state is State.MISSING):
         stretch = stretches[outcome.number]
         frames = {frame.place: frame for frame in stretch.parts if frame.track in tracks}
@@ -74,5 +111,5 @@ def decoded(layout: Layout, stretches: Sequence[Stretch], outcomes: Sequence[Out
             place, _, is_flac = stretch.listed_parts()[part]
             frame = None if is_flac or not is_guessed(slices) else frames.get(place)
             if frame and decodes(tracks[frame.track], frame):
-                found.add(place)
-    return frozenset(found)
+                found[place] = look(stretch, frame, slices)
+    return found

@@ -24,6 +24,8 @@ class Why(enum.Enum):
                 "chance; a further copy may restore {it}")
     GUESSED = ("damaged in every copy; {out} has {it} as most copies have each part of some slices, and with one inverted bit in others, "
                "by which all slices pass. That can be by chance; a further copy may restore {it}")
+    NEAR_END = ("damaged in every copy; {out} has {it} with a slice that is voted or repaired in its last 64 bytes alone. All slices pass, "
+                "decode and end as they should, but an end says little of the bytes right before it; a further copy may restore {it}")
     BESIDE = "damaged in every copy between the frames, where sound and block headers lie; a further copy may restore {it}"
     DISPUTED = "two different versions pass their checksums; see whether all copies are of one recording. {out} has that of copy {source}"
     DIFFER = "the copies differ, and no checksum says which is right; {out} has that of copy {source}{because}"
@@ -55,6 +57,12 @@ class Why(enum.Enum):
     CONTRARY = "copy {copy} has other intact frames at these times; see whether it is of the same recording"
 
 
+class Note(enum.Enum):
+    """What is to be said of a place of OUT that is not in doubt."""
+
+    NEAR_END = "restored with a slice that is voted or repaired in its last 64 bytes too; that it ends as it should says little of these"
+
+
 # What lies there is not known.
 OF_BYTES = frozenset({Why.ABSENT, Why.UNDIVIDED, Why.BROKEN, Why.CUT, Why.AFTER_END, Why.MISCOUNTED, Why.BARE, Why.ZEROS})
 OF_FILE = frozenset({Why.SHORT, Why.SHORTER, Why.COUNT, Why.UNCHECKED, Why.NO_TABLE})
@@ -63,9 +71,9 @@ OF_FRAMES = frozenset({Why.HOLE, Why.INDEX, Why.ORDER, Why.UNPLACED, Why.CONTRAR
 
 @dataclasses.dataclass(frozen=True)
 class Reason:
-    """Why a place of OUT is in doubt: what lies there, from which byte to which, and from when to when."""
+    """Why a place of OUT is in doubt, or what else is to be said of it: what lies there, from which byte to which, and from when to when."""
 
-    why: Why
+    why: Why | Note
     content: Content = Content.UNKNOWN
     track: int | None = None
     frames: tuple[int, int] | None = None  # their numbers, if it is frames

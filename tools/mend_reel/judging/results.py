@@ -5,7 +5,7 @@ import bisect
 import collections
 import dataclasses
 import enum
-from collections.abc import Iterable, Sequence, Set
+from collections.abc import Iterable, Mapping, Sequence, Set
 
 from ..model import Content, Frame, Kind, Layout, Outcome, SliceReport, State, Stretch
 
@@ -25,6 +25,14 @@ class FrameState(enum.Enum):
 ORDER = list(FrameState)
 
 
+class NearEnd(enum.Enum):
+    """Whether guessed bytes of a slice lie near its end, where a clean end says little of them; of a frame's slices that of which it says least."""
+
+    NONE = "none"
+    SOME = "some"
+    ALL = "all"
+
+
 @dataclasses.dataclass(frozen=True)
 class FrameResult:
     """A frame that is damaged in some copy."""
@@ -36,6 +44,7 @@ class FrameResult:
     state: FrameState  # how it stands in OUT
     damaged: tuple[int, ...]  # the copies in which it is damaged
     slices: tuple[SliceReport, ...] = ()  # as the program listed them
+    near_end: NearEnd | None = None  # where its guessed bytes lie, if it decodes with guessed slices
 
     def lost_bytes(self) -> int:
         """How many of its bytes are in no slice that is settled or woven."""
@@ -85,12 +94,15 @@ def is_guessed(slices: Sequence[SliceReport]) -> bool:
 
 
 class Results:
-    """What became of the frames of a recording. `copy_of_mark` has the copy that each mark of an outcome is of; `decoded` the places of
-    frames with guessed slices that decode, and `damaged_before` the numbers of frames that fail their parities in elements that pass."""
+    """What became of the frames of a recording. `copy_of_mark` has the copy that each mark of an outcome is of; `near_end` by their places
+    the frames with guessed slices that decode, and `damaged_before` the numbers of frames that fail their parities in elements that pass."""
 
     def __init__(self, layout: Layout, stretches: Sequence[Stretch], outcomes: Iterable[Outcome], copy_of_mark: Sequence[int],
-                 decoded: Set[int] = frozenset(), damaged_before: Set[int] = frozenset()) -> None:
-        self.layout, self.stretches, self.copy_of_mark, self.decoded, self.damaged_before = layout, stretches, copy_of_mark, decoded, damaged_before
+                 near_end: Mapping[int, NearEnd] | None = None, damaged_before: Set[int] = frozenset()) -> None:
+        self.layout, self.stretches, self.copy_of_mark, self.damaged_before = layout, stretches, copy_of_mark, damaged_before
+        # That it decodes vouches for no frame of which all was guessed near the end of a slice.
+        self.near_end = dict(near_end or {})
+        self.decoded = {place for place, near in self.near_end.items() if near is not NearEnd.ALL}
         self.places = [frame.place for frame in layout.frames]
         self.outcomes = {outcome.number: outcome for outcome in outcomes}
         self.orders, counts = [], collections.Counter[int]()
@@ -141,8 +153,9 @@ class Results:
         damaged = self.damaged(self.stretches[number].kind, outcome, part is not None, slices)
         if not damaged:
             return None
-        state = FrameState.WOVEN if self.places[at] in self.decoded else how_it_stands(outcome.state, slices, part is not None)
-        return FrameResult(at, self.orders[at], self.layout.frames[at], number, state, tuple(sorted(damaged)), slices)
+        place = self.places[at]
+        state = FrameState.WOVEN if place in self.decoded else how_it_stands(outcome.state, slices, part is not None)
+        return FrameResult(at, self.orders[at], self.layout.frames[at], number, state, tuple(sorted(damaged)), slices, self.near_end.get(place))
 
     def damaged(self, kind: Kind, outcome: Outcome, is_part: bool, slices: Sequence[SliceReport]) -> set[int]:
         """The copies that have a frame, and not as it was recorded: other bytes than OUT has in a slice, or none that passes."""

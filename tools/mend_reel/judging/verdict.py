@@ -6,11 +6,11 @@ from collections.abc import Iterable, Iterator, Sequence
 
 from ..containers.own_checks import passes_as_record
 from ..containers.structure import Flaw
-from ..model import Content, Kind, SliceReport, State, Stretch
+from ..model import Content, Kind, State, Stretch
 from .completeness import Evidence, find_lacks
 from .kept_digests import Compared
-from .reasons import Reason, Why, join
-from .results import GUESSED, VERIFIED, Counts, FrameResult, FrameState, Results, Sums, is_guessed
+from .reasons import Note, Reason, Why, join, lines
+from .results import GUESSED, VERIFIED, Counts, FrameResult, FrameState, NearEnd, Results, Sums, is_guessed
 
 # What remains of a cluster when the frames in it that are not restored are named.
 OF_CLUSTERS = (Content.CLUSTER, Content.UNKNOWN)
@@ -81,17 +81,24 @@ def judge(evidence: Evidence) -> Verdict:
     found += [*find_lacks(evidence, results), *(Reason(Why.LACKS, what, copy=copy) for copy, what in lacking if what is not Content.TAGS)]
     found += [Reason(Why.RECORD, Content.TRACKS, track.number) for track in (evidence.out or evidence.layout).tracks
               if track.is_ffv1 and track.record and not passes_as_record(track.record)]
+    late = [of_frame(Note.NEAR_END, result) for result in results.frames.values() if result.near_end is NearEnd.SOME]
     if sum(track.is_ffv1 for track in evidence.layout.tracks) == 1:
-        found = [dataclasses.replace(reason, track=None) if reason.content is Content.FRAME else reason for reason in found]
+        found, late = without_track(found), without_track(late)
     compared, counts = evidence.compared, results.counts()
     is_original, is_of_all = compared is not None and compared.is_original, compared is not None and compared.is_of_all
     notes = [f"copy {left.number + 1} is left out: {left.text()}" for left in evidence.left]
-    notes += [*([compared.text] if compared and is_original and not is_of_all else []), *of_the_rest(results),
+    notes += [*([compared.text] if compared and is_original and not is_of_all else []), *([] if is_original else lines(join(late))),
+              *of_the_rest(results),
               *(f"copy {copy + 1} has tags, and OUT has none" for copy, what in lacking if what is Content.TAGS)]
     has_damage = bool(counts.damaged or results.outcomes or evidence.has_damaged_heads or is_cut(evidence, copy_of_mark))
     is_walked = all(flaw.flaw is not Flaw.NOT_WALKED for flaw in evidence.flaws)
     return Verdict([] if is_original and is_of_all else join(found), notes, results.sums(), counts, results, has_damage, compared,
                    evidence.is_check, is_walked)
+
+
+def without_track(reasons: Sequence[Reason]) -> list[Reason]:
+    """Reasons in which frames do not name their track."""
+    return [dataclasses.replace(reason, track=None) if reason.content is Content.FRAME else reason for reason in reasons]
 
 
 def is_cut(evidence: Evidence, copy_of_mark: Sequence[int]) -> bool:
@@ -164,22 +171,24 @@ def of_stretch(stretch: Stretch, state: State, lost: Sequence[FrameResult], sour
     elif state is State.DISPUTED:
         yield of_bytes(Why.DISPUTED, stretch, source)
     elif lost:
-        yield from (of_frame(why_lost(frame.slices) or damaged, frame, source) for frame in lost)
+        yield from (of_frame(why_lost(frame) or damaged, frame, source) for frame in lost)
     elif stretch.kind is Kind.ELEMENT and stretch.what.content in OF_CLUSTERS and having > 1:
         yield of_bytes(Why.BESIDE, stretch)
     else:
         yield of_bytes(damaged, stretch)
 
 
-def why_lost(slices: Sequence[SliceReport]) -> Why | None:
+def why_lost(frame: FrameResult) -> Why | None:
     """Whether versions of a slice dispute it, or by what guesses a frame is put together, if by some."""
-    states = {place.state for place in slices}
-    if "disputed" in states or not is_guessed(slices):
+    states = {place.state for place in frame.slices}
+    if "disputed" in states or not is_guessed(frame.slices):
         return Why.DISPUTED if "disputed" in states else None
+    if frame.near_end is NearEnd.ALL:
+        return Why.NEAR_END
     return Why.GUESSED if states.issuperset(GUESSED) else Why.VOTED if "voted" in states else Why.REPAIRED
 
 
-def of_frame(why: Why, result: FrameResult, source: int | None = None) -> Reason:
+def of_frame(why: Why | Note, result: FrameResult, source: int | None = None) -> Reason:
     frame = result.frame
     return Reason(why, Content.FRAME, frame.track, (result.order, result.order), (frame.place, frame.end), (frame.time, frame.time),
                   source if why in (Why.DIFFER, Why.DISPUTED) else None)

@@ -18,7 +18,7 @@ from ..copies.inputs import Inputs, gather
 from ..copies.preferred_copy import follow
 from ..judging import copy_health, decoding, frame_digests, kept_digests
 from ..judging.frame_checks import Scan
-from ..judging.results import FrameResult, FrameState
+from ..judging.results import FrameResult, FrameState, NearEnd
 from ..judging.verdict import Evidence, Verdict, judge
 from ..model import MATROSKA, Copy, Fault, Frame, Layout, Outcome, State, Stretch, open_copy, or_fault
 from ..reports import json_document, page
@@ -48,7 +48,7 @@ class Made:
     out: Layout  # what lies where in OUT when it is read again
     flaws: list[structure.Found]  # where its parts do not hang together
     part: str | None = None  # its path while it is made
-    decoded: frozenset[int] = frozenset()  # the places of frames with guessed slices that decode
+    decoded: Mapping[int, NearEnd] = dataclasses.field(default_factory=dict)  # frames with guessed slices that decode, by their places
 
 
 class Outputs:
@@ -221,7 +221,8 @@ class Session:
         out = open_copy(part)
         try:
             self.progress.begin("reading OUT again")
-            decoded = decoding.decoded(layout, *mended, decoding.SamplesDecoder(out, layout.frames, self.program, self.work))
+            decoder = decoding.SamplesDecoder(out, layout.frames, self.program, self.work)
+            decoded = decoding.decoded(layout, *mended, decoder, decoding.GuessFinder(out, inputs.files))
             self.progress.watch([out])
             read = describe([out], self.judge)
             return Made(*mended, read, flaws_of(out, inputs.form(), read), part, decoded)

@@ -119,5 +119,6 @@ def frame_of(result: FrameResult, results: Results) -> Made:
     return {"frame": result.order, "track": result.frame.track, "time": round(result.frame.time, 6),
             "range": [result.frame.place, result.frame.end], "state": result.state.value,
             "damaged_in": [copy + 1 for copy in result.damaged],
+            "guessed_near_end": result.near_end.value if result.near_end else None,
             "slices": [{"range_in_frame": [place.start, place.end], "state": place.state, "combinations": place.count,
                         "given_by": sorted(copy + 1 for copy in results.copies_with(place.marks, "1"))} for place in result.slices]}

@@ -3,4 +3,4 @@ use Rattle.ffv1_range.proofs.coding.RangeDecoder.even_slot.Goals as goal
 
 pub returns-clause-read : goal.returns-clause-read
 returns-clause-read c =
-    slot_read c.args.self.now c.read_bit.new.self c.args.states.now c.args.slot c.read_bit.new.state c.read_bit.result c.read_bit.ensures.read
+    slot_read c.args.self.now c.even_bit.new.self c.args.states.now c.args.slot c.even_bit.new.state c.even_bit.result c.even_bit.ensures.read
