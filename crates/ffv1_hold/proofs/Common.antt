@@ -77,7 +77,7 @@ pub use Rattle.ffv1_holding.specs.Contents.{AreDigests, Contents, IsEntryOf, IsH
 pub use Rattle.ffv1_holding.specs.HoldingParts.{IsKept, contents}
 pub use Rattle.ffv1_holding.specs.Inner.TileSets.{entries_below, tile_entries}
 pub use Rattle.ffv1_holding.specs.Originals.{AreNear, HoldsExactly}
-pub use Rattle.ffv1_holding.specs.Reels.{IsReel, IsRecordOf, Reel, reel_of, reel_tiles}
+pub use Rattle.ffv1_holding.specs.Reels.{IsReel, IsRecordingFor, Reel, reel_of, reel_tiles}
 pub use Rattle.ffv1_holding.specs.declared.recordings.Recordings.{Recordings}
 pub use Rattle.ffv1_holding.specs.declared.recordings.Recordings.TheVariants.{Profile}
 pub use Rattle.ffv1_holding.specs.Rising.{IsRising}

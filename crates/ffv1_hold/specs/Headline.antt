@@ -2,13 +2,13 @@
 use Rattle.std.specs.Prelude.{◌≡◌, ℕ, List}
 use Rattle.ffv1_range.specs.Setup.{RecordingValue}
 use Rattle.ffv1_holding.specs.declared.recordings.Recordings.{Recordings}
-use Rattle.ffv1_holding.specs.Reels.{Reel, IsRecordOf, reel_of}
+use Rattle.ffv1_holding.specs.Reels.{Reel, IsRecordingFor, reel_of}
 use Rattle.ffv1_holding.specs.Contents.{Contents, holding_of, HasSameCopies}
 
 -- the reel of a record and a size
 abbrev pub IsReelOf : Recordings → List ℕ → ℕ → ℕ → Reel → Type 0
 IsReelOf recordings config width height reel =
-    (recording : RecordingValue) × IsRecordOf recordings config width height recording × (reel ≡ reel_of config recording)
+    (recording : RecordingValue) × IsRecordingFor recordings config width height recording × (reel ≡ reel_of config recording)
 
 -- two holdings of one record and size, whose copies are the same, are equal
 abbrev pub SameCopiesAreEqual : Type 0

@@ -10,7 +10,7 @@ use Rattle.ffv1_holding.specs.declared.recordings.Recordings.TheVariants.{Profil
 use Rattle.ffv1_range.proofs.SetupLaws.{record_is_one, profile_has_parities, parities_are_wider}
 use Rattle.ffv1_range.proofs.ProfileLaws.{profile_record, record_of_profile, rules_of_profile}
 use Rattle.ffv1_holding.specs.Recordings.{scope_of}
-use Rattle.ffv1_holding.specs.Reels.{Reel, IsReel, IsRecordOf, reel_of, reel_tiles}
+use Rattle.ffv1_holding.specs.Reels.{Reel, IsReel, IsRecordingFor, reel_of, reel_tiles}
 
 -- a record has the size for which it is read
 recording_size : (config : List ℕ) (width height : ℕ) (r : RecordingValue) → IsScopedRecord config Parities width height r
@@ -25,13 +25,13 @@ own_size config width height r is =
     subst (λ w. IsScopedRecord config Parities w r.setup.height r) (sym size.0) (subst (λ h. IsScopedRecord config Parities width h r) (sym size.1) is)
 
 -- each record that is read has parities
-pub has_parities : (recordings : Recordings) (config : List ℕ) (width height : ℕ) (r : RecordingValue) → IsRecordOf recordings config width height r
+pub has_parities : (recordings : Recordings) (config : List ℕ) (width height : ℕ) (r : RecordingValue) → IsRecordingFor recordings config width height r
     → IsScopedRecord config Parities width height r
 has_parities Profile config width height r is = profile_has_parities config width height r is
 has_parities Any config width height r is = is
 
 -- a record that is read makes a reel
-pub reel_is : (recordings : Recordings) (config : List ℕ) (width height : ℕ) (r : RecordingValue) → IsRecordOf recordings config width height r
+pub reel_is : (recordings : Recordings) (config : List ℕ) (width height : ℕ) (r : RecordingValue) → IsRecordingFor recordings config width height r
     → IsReel (reel_of config r)
 reel_is recordings config width height r is = (r, own_size config width height r (has_parities recordings config width height r is), refl)
 
@@ -68,8 +68,8 @@ profile_reel r is profile =
     )
 
 -- a record and a size say one thing
-pub one_record : (recordings : Recordings) (config : List ℕ) (width height : ℕ) (r s : RecordingValue) → IsRecordOf recordings config width height r
-    → IsRecordOf recordings config width height s → r ≡ s
+pub one_record : (recordings : Recordings) (config : List ℕ) (width height : ℕ) (r s : RecordingValue) → IsRecordingFor recordings config width height r
+    → IsRecordingFor recordings config width height s → r ≡ s
 one_record recordings config width height r s is also = record_is_one config (scope_of recordings) width height r s is also
 
 -- a reel's size and its tiles are small
@@ -83,7 +83,7 @@ reel_tiles_few r is =
 
 -- a reel whose setup is that of a record of the profile is that of the record
 pub setup_reel_of : (config : List ℕ) (width height : ℕ) (r : Reel) → IsReel r → r.config ≡ config → IsSetupOf config width height r.setup
-    → (recording : RecordingValue) × IsRecordOf Profile config width height recording × (r ≡ reel_of config recording)
+    → (recording : RecordingValue) × IsRecordingFor Profile config width height recording × (r ≡ reel_of config recording)
 setup_reel_of config width height r is same setup =
     let made = setup_reel config width height r.setup setup in
     let whole : r ≡ record { config = config; setup = r.setup; rules = profile_rules r.setup } =

@@ -1,4 +1,4 @@
--- A recording: its configuration record, the setup that the record gives for the size of its frames, and how their slices are told.
+-- A recording: its configuration record, the setup that the record gives for the size of its frames, and the rules of their slices.
 use Rattle.std.specs.Prelude.{ℕ, ◌≡◌, ◌*◌, List, Err}
 use Rattle.std.proofs.Common.{refl}
 use Rattle.std.specs.Coded.{Coded, code_by, coded×, coded_ℕ, coded_list}
@@ -25,8 +25,8 @@ abbrev pub IsReel : Reel → Type 0
 IsReel r = (recording : RecordingValue) × IsScopedRecord r.config Parities r.setup.width r.setup.height recording × (r ≡ reel_of r.config recording)
 
 -- what such a record says
-abbrev pub IsRecordOf : Recordings → List ℕ → ℕ → ℕ → RecordingValue → Type 0
-IsRecordOf recordings config width height recording = IsScopedRecord config (scope_of recordings) width height recording
+abbrev pub IsRecordingFor : Recordings → List ℕ → ℕ → ℕ → RecordingValue → Type 0
+IsRecordingFor recordings config width height recording = IsScopedRecord config (scope_of recordings) width height recording
 
 -- the first fault of a record at a size
 abbrev pub FirstRecordFault : Recordings → List ℕ → ℕ → ℕ → SetupFault → Type 0

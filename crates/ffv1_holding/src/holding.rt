@@ -7,7 +7,7 @@ ghost use Rattle.ffv1_range.specs.Setup.{SetupValue, RecordingValue, IsSetupOf};
 ghost use Rattle.ffv1_range.specs.TileHeaders.{profile_rules};
 ghost use Rattle.ffv1_range.specs.SetupFaults.{FirstSetupFault};
 ghost use Rattle.ffv1_holding.specs.Contents.{no_slices, IsHolding};
-ghost use Rattle.ffv1_holding.specs.Reels.{IsReel, IsRecordOf, FirstRecordFault, reel_of};
+ghost use Rattle.ffv1_holding.specs.Reels.{IsReel, IsRecordingFor, FirstRecordFault, reel_of};
 
 use crate::fault::HoldFault;
 use crate::joins::Join;
@@ -87,8 +87,8 @@ impl Holding<Recording> {
         width: u32,
         height: u32,
     ) -> Result<Holding<Recording>, SetupFault>
-        ensures found { IfOk result (λ h. (r : RecordingValue) × IsRecordOf recordings config.now width height r × (h ≡ no_slices (reel_of config.now r))) }
-        ensures only { (r : RecordingValue) → IsRecordOf recordings config.now width height r → OnErr result (result ≡ Err SetupFault.Memory) }
+        ensures found { IfOk result (λ h. (r : RecordingValue) × IsRecordingFor recordings config.now width height r × (h ≡ no_slices (reel_of config.now r))) }
+        ensures only { (r : RecordingValue) → IsRecordingFor recordings config.now width height r → OnErr result (result ≡ Err SetupFault.Memory) }
         ensures fault { IfErr result (λ fault. (fault ≡ SetupFault.Memory) ⊎ FirstRecordFault recordings config.now width height fault) }
     {
         let Ok(config) = Vec::from_slice(alloc, config) else {

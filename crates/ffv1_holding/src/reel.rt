@@ -4,7 +4,7 @@ ghost use Rattle.ffv1_range.specs.Setup.{SetupValue, RecordingValue, IsSetupOf};
 ghost use Rattle.ffv1_range.specs.SetupFaults.{FirstSetupFault};
 ghost use Rattle.ffv1_range.specs.TileHeaders.{rules_of, profile_rules};
 ghost use Rattle.ffv1_holding.specs.declared.recordings.Recordings.TheVariants.{Profile};
-ghost use Rattle.ffv1_holding.specs.Reels.{IsReel, IsRecordOf, FirstRecordFault, WantsMemory, reel_of, reel_tiles};
+ghost use Rattle.ffv1_holding.specs.Reels.{IsReel, IsRecordingFor, FirstRecordFault, WantsMemory, reel_of, reel_tiles};
 
 use crate::recordings::Recordings;
 use ffv1_range::{Recorded, Recording, Setup, SetupFault, read_scoped};
@@ -63,9 +63,9 @@ impl Reel<Recording> {
         width: u32,
         height: u32,
     ) -> Result<Reel<Recording>, SetupFault>
-        ensures found { IfOk result (λ r. (recording : RecordingValue) × IsRecordOf recordings config.items width height recording × (r ≡ reel_of config.items recording)) }
+        ensures found { IfOk result (λ r. (recording : RecordingValue) × IsRecordingFor recordings config.items width height recording × (r ≡ reel_of config.items recording)) }
         ensures well_formed { IfOk result IsReel }
-        ensures only { (r : RecordingValue) → IsRecordOf recordings config.items width height r
+        ensures only { (r : RecordingValue) → IsRecordingFor recordings config.items width height r
             → MatchResult result (λ read. read ≡ reel_of config.items r) (λ fault. fault ≡ SetupFault.Memory) }
         ensures fault { IfErr result (λ fault. (fault ≡ SetupFault.Memory) ⊎ FirstRecordFault recordings config.items width height fault) }
         ensures memory { IsErrOf result SetupFault.Memory → WantsMemory recordings config.items width height }

@@ -133,26 +133,6 @@ recording_in_profile = record {
 
 -- ---- in what a recording keeps
 
--- a recording of the profile keeps its bounds
-pub bounds_of_profile : (r : RecordingValue) → IsInVersion3 r → is_in_profile r ≡ true → IsInProfile r.setup
-bounds_of_profile r kept h =
-    let k = profile_parts r h in
-    record {
-      late = kept.late;
-      small_h = leb-true r.setup.shift_h 2 k.small_h;
-      small_v = leb-true r.setup.shift_v 2 k.small_v;
-      some_across = kept.some_across;
-      coarse_across = kept.coarse_across;
-      some_down = kept.some_down;
-      coarse_down = kept.coarse_down;
-      few_tiles = kept.few_tiles;
-      narrow = kept.narrow;
-      low = kept.low;
-      some_set = kept.some_set;
-      few_sets = kept.few_sets;
-      contexts = kept.contexts;
-    }
-
 no_alpha : (alpha : Bool) → not alpha ≡ true → alpha ≡ false
 no_alpha false h = refl
 no_alpha true h = absurd cc

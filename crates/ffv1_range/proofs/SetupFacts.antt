@@ -10,17 +10,6 @@ use Rattle.ffv1_range.proofs.SetupLaws.{setup_is_one, setup-run}
 pub one_setup : (config : List ℕ) (width height : ℕ) (s t : SetupValue) → IsSetupOf config width height s → IsSetupOf config width height t → s ≡ t
 one_setup config width height s t is also = setup_is_one config width height s t is also
 
-pub setup_size : (config : List ℕ) (width height : ℕ) (s : SetupValue) → IsSetupOf config width height s → (s.width ≡ width) × (s.height ≡ height)
-setup_size config width height s h =
-    let is = ap (λ r. r.setup) h.record_of.is in (ap (λ z. z.width) (h.is ∙ is), ap (λ z. z.height) (h.is ∙ is))
-
-pub setup_tiles : (config : List ℕ) (width height : ℕ) (s : SetupValue) → IsSetupOf config width height s → s.across * s.down ≤ most_tiles
-setup_tiles config width height s h = let same = ap (λ z. z.across * z.down) (h.is ∙ ap (λ r. r.setup) h.record_of.is) in
-    omega (arith, h.record_of.accepted.tiles, same)
-
-pub setup_small : (config : List ℕ) (width height : ℕ) (s : SetupValue) → IsSetupOf config width height s → (width < 2 ^ 32) × (height < 2 ^ 32)
-setup_small config width height s h = (omega (arith, h.record_of.is_width.1), omega (arith, h.record_of.is_height.1))
-
 -- where there is a setup there is no fault
 pub no_setup_fault : (config : List ℕ) (width height : ℕ) (s : SetupValue) (f : SetupFault) → IsSetupOf config width height s
     → FirstSetupFault config width height f → ⊥

@@ -147,11 +147,6 @@ pub tile_is_found : (rules : TileRules) (content : List ℕ) (first : Bool) (r :
 tile_is_found rules content first (Ok tile) h = tile_found rules content first tile (sym h)
 tile_is_found rules content first (Err e) h = tt
 
--- a content is that of one tile
-pub one_tile_content : (rules : TileRules) (content : List ℕ) (first : Bool) (a b : ℕ) → IsTileContent rules content first a
-    → IsTileContent rules content first b → a ≡ b
-one_tile_content rules content first a b h k = same_ok a b (sym (tile_run rules content first a h) ∙ tile_run rules content first b k)
-
 -- what the contract says of a result that reading gives
 pub given : (rules : TileRules) (content : List ℕ) (first : Bool) (result : Result ℕ HeadFault) → result ≡ tile_read rules content first
     → record {

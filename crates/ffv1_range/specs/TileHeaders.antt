@@ -28,7 +28,7 @@ scope_by is_profile = if is_profile then Profile else Version3
 
 -- ---- what is asked of a slice
 
--- How the slices of a recording's frames are told: frames of the profile are keyframes, which `is_profile` says. With coder_type 0, which
+-- The rules of the slices of a recording's frames: frames of the profile are keyframes, which `is_profile` says. With coder_type 0, which
 -- `has_codes` says, a header is read by the default table.
 pub record TileRules : Type 0 where
   pub is_profile : Bool

@@ -12,7 +12,7 @@ pub trait Recorded: Drop {
     // the fields that both have
     ghost setup: { Self → SetupValue };
 
-    // how the slices of its frames are told
+    // the rules of the slices of its frames
     ghost rules: { Self → TileRules };
 
     /// The same as a recording.
