@@ -24,6 +24,8 @@ mod merge;
 #[cfg(test)]
 mod picture;
 #[cfg(test)]
+mod reels;
+#[cfg(test)]
 mod rot;
 #[cfg(test)]
 mod splice;

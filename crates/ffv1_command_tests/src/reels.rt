@@ -1,0 +1,113 @@
+//! Holdings of recordings that are not of the profile.
+use crate::holding::is_payload;
+use ffv1_holding::{Holding, Join, Recordings, Reel};
+use ffv1_range::{Recording, Scope, SetupFault, read_scoped, read_tile};
+use ffv1_test_frames::TWO_TILES;
+use std::alloc::Global;
+
+/// The record of gray of two tiles, 2 x 1 samples, that is range-coded.
+const CODED_TILES: [u8; 18] = [
+    0x56, 0x00, 0x2F, 0xE2, 0x40, 0xE9, 0xD3, 0xA7, 0x4E, 0x9D, 0x3A, 0x74, 0xE5, 0x11, 0xB3, 0xB9,
+    0xEA, 0x0B,
+];
+
+/// Its frame, of two slices of 11 bytes.
+const CODED: [u8; 22] = [
+    0xFC, 0x15, 0x80, 0x00, 0x00, 0x03, 0x00, 0x63, 0x1D, 0x7F, 0xBA, 0x3D, 0xDE, 0xEA, 0x00, 0x00,
+    0x03, 0x00, 0xC2, 0x38, 0x9F, 0xE3,
+];
+
+/// The frame with a wrong byte in its first slice.
+const LEFT_WRONG: [u8; 22] = [
+    0xFC, 0x14, 0x80, 0x00, 0x00, 0x03, 0x00, 0x63, 0x1D, 0x7F, 0xBA, 0x3D, 0xDE, 0xEA, 0x00, 0x00,
+    0x03, 0x00, 0xC2, 0x38, 0x9F, 0xE3,
+];
+
+/// The frame with a wrong byte in its last slice.
+const RIGHT_WRONG: [u8; 22] = [
+    0xFC, 0x15, 0x80, 0x00, 0x00, 0x03, 0x00, 0x63, 0x1D, 0x7F, 0xBA, 0x3D, 0xDF, 0xEA, 0x00, 0x00,
+    0x03, 0x00, 0xC2, 0x38, 0x9F, 0xE3,
+];
+
+/// Whether the slices of two damaged copies are joined into the frame.
+fn is_joined(alloc: Global) -> bool {
+    let (one, other) = (coded(alloc), coded(alloc));
+    let (Ok(mut one), Ok(mut other)) = (one, other) else {
+        return false;
+    };
+    let taken = (
+        one.take(&LEFT_WRONG).is_ok(),
+        other.take(&RIGHT_WRONG).is_ok(),
+    );
+    let joined = one.join_with(&other);
+    taken == (true, true) && joined == Ok(1) && is_payload(one.restore(), Ok(&CODED))
+}
+
+/// A holding of that recording, without slices.
+fn coded(alloc: Global) -> Result<Holding<Recording>, SetupFault> {
+    Holding::of_record(alloc, Recordings::Any, &CODED_TILES, 2, 1)
+}
+
+#[test]
+fn slices_of_a_range_coded_recording_are_joined(rt: HostRuntime) {
+    assert!(rt; is_joined(rt.alloc()));
+}
+
+/// Whether the tiles of slices are those of their headers.
+fn has_tiles(alloc: Global) -> bool {
+    let Ok(recording) = read_scoped(alloc, Recordings::Any.scope(), &CODED_TILES, 2, 1) else {
+        return false;
+    };
+    let tiles = (
+        read_tile(&recording, &CODED[..3], true),
+        read_tile(&recording, &CODED[11..14], false),
+    );
+    tiles == (Ok(0), Ok(1)) && !recording.is_in_profile() && recording.into_setup().is_err()
+}
+
+#[test]
+fn tiles_of_a_range_coded_recording_are_read(rt: HostRuntime) {
+    assert!(rt; has_tiles(rt.alloc()));
+}
+
+#[test]
+fn recordings_of_the_profile_alone_have_setups(rt: HostRuntime) {
+    let profile = match read_scoped(rt.alloc(), Scope::Parities, &TWO_TILES, 2, 1) {
+        Ok(recording) => recording.is_in_profile() && recording.into_setup().is_ok(),
+        Err(_) => false,
+    };
+    assert!(rt; profile);
+    let refused = match Holding::of_record(rt.alloc(), Recordings::Profile, &CODED_TILES, 2, 1) {
+        Ok(_) => None,
+        Err(fault) => Some(fault),
+    };
+    assert!(rt; refused == Some(SetupFault::Coder));
+}
+
+/// Whether a reel of this record is of the profile.
+fn is_profile(alloc: Global, record: &[u8]) -> Option<bool> {
+    let Ok(config) = Vec::from_slice(alloc, record) else {
+        return None;
+    };
+    match Reel::of_record(alloc, Recordings::Any, config, 2, 1) {
+        Ok(reel) => Some(reel.into_profile().is_ok()),
+        Err(_) => None,
+    }
+}
+
+/// Whether a holding of this record is of the profile.
+fn is_held_as_profile(alloc: Global, record: &[u8]) -> Option<bool> {
+    match Holding::of_record(alloc, Recordings::Any, record, 2, 1) {
+        Ok(holding) => Some(holding.into_profile().is_ok()),
+        Err(_) => None,
+    }
+}
+
+#[test]
+fn reels_and_holdings_become_those_of_the_profile(rt: HostRuntime) {
+    let alloc = rt.alloc();
+    assert!(rt; is_profile(alloc, &TWO_TILES) == Some(true));
+    assert!(rt; is_profile(alloc, &CODED_TILES) == Some(false));
+    assert!(rt; is_held_as_profile(alloc, &TWO_TILES) == Some(true));
+    assert!(rt; is_held_as_profile(alloc, &CODED_TILES) == Some(false));
+}
