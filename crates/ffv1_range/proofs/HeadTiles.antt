@@ -1,13 +1,12 @@
 -- A content of the profile is of the tile that its header names.
-use Rattle.std.proofs.Common.{◌≡◌, ℕ, ◌+◌, ◌*◌, Bool, true, false, List, Result, Ok, Err, refl, sym, ap, ◌∙◌}
+use Rattle.std.proofs.Common.{◌≡◌, ℕ, ◌+◌, ◌*◌, Bool, true, false, List, Result, Ok, Err, refl, ap, ◌∙◌}
 use Rattle.std.specs.Prelude.{nat_lt, ◌==◌, ◌&&◌, slice_index, if◌then◌else◌}
-use Rattle.std.specs.List.{list_all}
 use Rattle.ffv1_range.specs.Results.{◌>>>◌}
 use Rattle.ffv1_range.specs.Coding.{header_mode}
 use Rattle.ffv1_range.specs.HeaderForms.{HeaderRead}
 use Rattle.ffv1_range.specs.Setup.{SetupValue}
-use Rattle.ffv1_range.specs.Header.{HeadLimits, header_limits, header_read, codes_read, is_in_place, head_judged, head_with, head_read}
-use Rattle.ffv1_range.specs.TileHeaders.{TileRules, profile_rules, tile_of_fields, tile_judged, tile_codes, HeadsTile}
+use Rattle.ffv1_range.specs.Header.{HeadLimits, header_limits, header_read, codes_read, is_in_place, head_judged, head_with}
+use Rattle.ffv1_range.specs.TileHeaders.{profile_rules, tile_of_fields, tile_judged, tile_codes, HeadsTile}
 use Rattle.ffv1_range.specs.declared.scope.Scope.TheVariants.{Profile}
 use Rattle.ffv1_range.specs.declared.head.SliceHead.{SliceHead}
 use Rattle.ffv1_range.specs.declared.head.HeadFault.{HeadFault}

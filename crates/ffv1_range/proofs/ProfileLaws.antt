@@ -1,11 +1,11 @@
 -- Which recordings are of the profile: those that have a setup.
-use Rattle.std.proofs.Common.{◌≡◌, ℕ, zero, suc, ◌<◌, ◌≤◌, Bool, true, false, List, refl, sym, ap, ◌∙◌, subst, arith}
+use Rattle.std.proofs.Common.{◌≡◌, ℕ, zero, suc, Bool, true, false, List, refl, sym, ap, ◌∙◌, subst, arith}
 use Rattle.std.specs.Prelude.{not, nat_le, ◌==◌, ◌&&◌, ◌||◌, if◌then◌else◌}
-use Rattle.std.proofs.lemmas.Bool.{eqb-true, eq-eqb, leb-true, le-leb, and_parts, and_from, or_cases, or_right}
-use Rattle.ffv1_range.specs.Setup.{SetupValue, RecordingValue, RecordFields, IsAccepted, IsScopedRecord, IsRecordingOf, IsSetupOf, IsInProfile, IsInVersion3, recording_value}
-use Rattle.ffv1_range.specs.Scopes.{accepts_coder, accepts_space, accepts_depth, accepts_shift, accepts_extra_plane, accepts_ec}
-use Rattle.ffv1_range.specs.TileHeaders.{TileRules, is_in_profile, rules_of, profile_rules, RecordingInProfile}
-use Rattle.ffv1_range.specs.Header.{HeadLimits, header_limits}
+use Rattle.std.proofs.lemmas.Bool.{eqb-true, leb-true, and_parts, and_from}
+use Rattle.ffv1_range.specs.Setup.{RecordingValue, RecordFields, IsAccepted, IsScopedRecord, IsRecordingOf, recording_value}
+use Rattle.ffv1_range.specs.Scopes.{accepts_space, accepts_depth, accepts_shift}
+use Rattle.ffv1_range.specs.TileHeaders.{is_in_profile, rules_of, profile_rules, RecordingInProfile}
+use Rattle.ffv1_range.specs.Header.{header_limits}
 use Rattle.ffv1_range.specs.Transitions.{standard_transitions}
 use Rattle.ffv1_range.specs.declared.scope.Scope.TheVariants.{Profile, Version3}
 use Rattle.ffv1_range.proofs.SetupLaws.{recording_is_one, record_is_wider}

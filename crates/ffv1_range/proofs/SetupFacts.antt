@@ -1,6 +1,5 @@
 -- What the crates above use of a setup: it is one, its size and its tiles have bounds, and it has no fault.
-use Rattle.std.proofs.Common.{◌≡◌, ℕ, ◌*◌, ◌<◌, ◌≤◌, ◌^◌, List, sym, ap, ◌∙◌, arith}
-use Rattle.ffv1_bits.specs.Limits.{most_tiles}
+use Rattle.std.proofs.Common.{◌≡◌, ℕ, List, sym, ◌∙◌}
 use Rattle.ffv1_range.specs.Setup.{SetupValue, IsSetupOf}
 use Rattle.ffv1_range.specs.SetupFaults.{FirstSetupFault}
 use Rattle.ffv1_range.specs.declared.fault.SetupFault.{SetupFault}

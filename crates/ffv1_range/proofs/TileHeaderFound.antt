@@ -1,12 +1,12 @@
 -- The header of a slice of one tile is read where it is coded, and nowhere else.
-use Rattle.std.proofs.Common.{◌≡◌, ℕ, ◌+◌, ◌*◌, ◌<◌, ◌≤◌, Bool, true, false, List, [], ◌∷◌, ◌++◌, length, Result, Ok, Err, refl, sym, ap, ◌∙◌, subst, arith, length-append}
-use Rattle.std.specs.Prelude.{◌↔◌, IfOk, IsTrue, Option, is_some, nat_lt, ◌==◌, ◌&&◌, slice_index, if◌then◌else◌}
+use Rattle.std.proofs.Common.{◌≡◌, ℕ, ◌+◌, ◌<◌, ◌≤◌, Bool, true, false, List, [], ◌∷◌, ◌++◌, length, Result, Ok, Err, refl, sym, ap, ◌∙◌, subst, arith, length-append}
+use Rattle.std.specs.Prelude.{◌↔◌, IfOk, IsTrue, is_some, nat_lt, ◌==◌, ◌&&◌, slice_index, if◌then◌else◌}
 use Rattle.std.specs.List.{All, list_all}
 use Rattle.std.proofs.lemmas.Bool.{and_parts, and_from, ltb-true, lt-ltb, eqb-true, eq-eqb}
 use Rattle.ffv1_range.specs.Results.{◌>>>◌}
 use Rattle.ffv1_range.specs.Coding.{Coder}
 use Rattle.ffv1_range.specs.HeaderForms.{HeaderRead}
-use Rattle.ffv1_range.specs.Header.{IsHeaderOf, BeginAt, header_read, codes_read, is_in_place}
+use Rattle.ffv1_range.specs.Header.{BeginAt, header_read, codes_read, is_in_place}
 use Rattle.ffv1_range.specs.SliceHeader.{field_count, table_indexes}
 use Rattle.ffv1_range.specs.TileHeaders.{TileRules, IsTileContent, scope_by, tile_mode, tile_bytes, tile_of_fields, tile_codes, tile_judged, tile_read}
 use Rattle.ffv1_range.specs.declared.head.HeadFault.{HeadFault}

@@ -1,6 +1,6 @@
 -- The headers by which holdings tell slices (RFC 9043, sections 4.4 to 4.6; own: a slice that is held is of one tile). They are read and judged as
 -- the profile's are; the recording says with which coder, and whether frames have to be keyframes.
-use Rattle.std.specs.Prelude.{◌≡◌, ◌↔◌, ℕ, ◌+◌, ◌*◌, ◌<◌, Bool, true, false, not, IsTrue, List, [], ◌∷◌, ◌++◌, length, Option, MatchOption, is_some, Result, Ok, Err, slice_index, nat_lt, nat_le, ◌==◌, ◌&&◌, if◌then◌else◌, refl}
+use Rattle.std.specs.Prelude.{◌≡◌, ◌↔◌, ℕ, ◌+◌, ◌*◌, ◌<◌, Bool, true, false, not, IsTrue, List, [], ◌∷◌, ◌++◌, Option, MatchOption, is_some, Result, Ok, Err, slice_index, nat_lt, nat_le, ◌==◌, ◌&&◌, if◌then◌else◌, refl}
 use Rattle.std.specs.List.{All, list_all}
 use Rattle.std.specs.Coded.{Coded, code_by, coded×, coded_ℕ, coded_bool, coded_list}
 use Rattle.ffv1_range.specs.Results.{◌>>>◌}
