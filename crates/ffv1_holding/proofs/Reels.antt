@@ -3,7 +3,7 @@ use Rattle.std.proofs.Common.{◌≡◌, ℕ, ◌*◌, ◌^◌, ◌<◌, ◌≤�
 use Rattle.ffv1_bits.specs.Limits.{most_tiles}
 use Rattle.ffv1_range.specs.Setup.{SetupValue, RecordingValue, IsScopedRecord, IsSetupOf}
 use Rattle.ffv1_range.specs.Header.{header_limits}
-use Rattle.ffv1_range.specs.TileHeaders.{TileRules, is_in_profile, rules_of, profile_rules}
+use Rattle.ffv1_range.specs.TileHeaders.{is_in_profile, profile_rules}
 use Rattle.ffv1_range.specs.declared.scope.Scope.TheVariants.{Parities}
 use Rattle.ffv1_holding.specs.declared.recordings.Recordings.{Recordings}
 use Rattle.ffv1_holding.specs.declared.recordings.Recordings.TheVariants.{Profile, Any}

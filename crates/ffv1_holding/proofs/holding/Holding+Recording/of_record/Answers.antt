@@ -1,4 +1,4 @@
-use Rattle.std.proofs.Common.{◌≡◌, ℕ, List, Err, sym, ap, subst}
+use Rattle.std.proofs.Common.{ℕ, List, Err, sym, ap, subst}
 use Rattle.std.proofs.lemmas.Result.{err_from_is_err_and}
 use Rattle.ffv1_holding.specs.Reels.{IsRecordingFor}
 use Rattle.ffv1_holding.proofs.holding.Holding+Recording.of_record.Goals as goal

@@ -1,4 +1,4 @@
-use Rattle.std.proofs.Common.{◌≡◌, ℕ, List, rules, sym, ap, subst, ◌∙◌}
+use Rattle.std.proofs.Common.{ℕ, List, rules, sym, ap, subst}
 use Rattle.std.proofs.lemmas.Result.{err_from_is_err_and}
 use Rattle.ffv1_range.specs.Setup.{IsScopedRecord}
 use Rattle.ffv1_range.specs.declared.scope.Scope.{Scope}

@@ -2,7 +2,7 @@ use Rattle.std.proofs.Common.{ℕ, List, Err, sym, ap, subst}
 use Rattle.std.proofs.lemmas.Result.{err_from_is_err_and}
 use Rattle.ffv1_range.specs.Setup.{IsSetupOf}
 use Rattle.ffv1_range.specs.TileHeaders.{profile_rules}
-use Rattle.ffv1_holding.specs.Reels.{Reel, IsReel}
+use Rattle.ffv1_holding.specs.Reels.{IsReel}
 use Rattle.ffv1_holding.proofs.Reels.{setup_reel}
 use Rattle.ffv1_holding.proofs.reel.Reel+Setup.read.Goals as goal
 
