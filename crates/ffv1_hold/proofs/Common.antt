@@ -28,31 +28,30 @@ pub use Rattle.ffv1_devices.proofs.Steps.{GivesUp-after, GoesOn-refl, GoesOn-tra
 pub use Rattle.ffv1_devices.specs.Logs.{BreaksOff, GoesOn, ReadLog, Reads, StopsWriting, Tries, WriteLog, Writes}
 pub use Rattle.ffv1_devices.specs.Results.{WritesAll}
 pub use Rattle.ffv1_devices.specs.Writing.{WritesFront}
-pub use Rattle.ffv1_range.proofs.SetupFacts.{no_setup_fault, one_setup_fault}
-pub use Rattle.ffv1_range.specs.Setup.{IsSetupOf}
+pub use Rattle.ffv1_range.specs.Setup.{IsScopedRecord, IsSetupOf, RecordingValue}
 pub use Rattle.ffv1_range.specs.Header.{HeadLimits}
-pub use Rattle.ffv1_range.specs.TileHeaders.{TileRules, rules_of}
-pub use Rattle.ffv1_range.specs.SetupFaults.{FirstSetupFault}
+pub use Rattle.ffv1_range.specs.TileHeaders.{TileRules, is_in_profile, rules_of}
 pub use Rattle.ffv1_range.specs.declared.fault.SetupFault.{SetupFault}
 pub use Rattle.ffv1_slice.proofs.SliceFacts.{slice_in_grid}
 pub use Rattle.ffv1_slice.specs.Slices.{IsSliceOf}
 pub use borrow.Rule.Slice.PartMut.{put_mid}
 pub use mathlib.Core.Bool.{and-false, or-false, or_assoc, true≢false}
 pub use Rattle.ffv1_hold.specs.FileEntries.{AreDigestsIn, AreEntries, AreOrigins, Follows, FollowsDigest, HasText, HasTextAfter, IsDigest, IsFileEntryOf, file_entry_cmp, last_of}
-pub use Rattle.ffv1_hold.specs.FileFaults.{BodyShows, EntriesShow, EntryShows, FileIsWhole, FileShows, IsEntryInPlace, IsFaultOf, IsFileReel, IsHoldingText, IsOutside, IsPartAfter, IsPartOfBody, IsPartOfEntries, IsPartOfEntry, IsPartOfFile, IsPartOfMagic, IsPartOfOrigins, IsPartOfReel, IsPartOfSlice, IsWrong, MagicShows, OriginsShow, ReadsFile, ReelIsWhole, ReelShows, Returns, ShowsAfter, SliceIsTooLong, SliceShows}
+pub use Rattle.ffv1_hold.specs.FileFaults.{BeginsMagic, BodyShows, EntriesShow, EntryShows, FileIsWhole, FileShows, IsEntryInPlace, IsFaultOf, IsFileReel, IsHoldingText, IsMagic, IsMisnamed, IsOutside, IsPartAfter, IsPartOfBody, IsPartOfEntries, IsPartOfEntry, IsPartOfFile, IsPartOfMagic, IsPartOfOrigins, IsPartOfReel, IsPartOfSlice, IsTaken, IsWrong, MagicShows, OriginsShow, ReadsFile, ReelIsWhole, ReelShows, Returns, ShowsAfter, SliceIsTooLong, SliceShows, recordings_of}
 pub use Rattle.ffv1_hold.specs.Headline.{IsReelOf}
-pub use Rattle.ffv1_hold.specs.HoldingText.{FileEntry, FitsInFile, IsStated, IsTextOf, begun_text, entry_text, file_text, holding_text, magic, name, origins_limit, text_after_slice, version_number}
+pub use Rattle.ffv1_hold.specs.HoldingText.{FileEntry, FitsInFile, HasVersion, IsStated, IsTextOf, begun_text, entry_text, file_text, holding_text, magic, origins_limit, text_after_slice, version_number}
 unfoldable pub use Rattle.ffv1_hold.specs.HoldingText.{be2, be4, body_text, entries_text, file_entries, head_text, origins_text, sized_record, slice_text}
 pub use Rattle.ffv1_hold.specs.Inner.FileEntries.{next_text}
-pub use Rattle.ffv1_hold.specs.Inner.FileFaults.{EndIsWhole, EntriesAreWhole, HeadIsWhole, HeadShows, IsPartOfHead}
+pub use Rattle.ffv1_hold.specs.Inner.FileFaults.{EndIsWhole, EntriesAreWhole, HeadIsWhole, HeadShows, IsPartOfHead, IsReelAfter}
 pub use Rattle.ffv1_hold.specs.Inner.MergeLogs.{StopsEntry}
-pub use Rattle.ffv1_hold.specs.Inner.Merging.{AreVersions, Ends, EntryStops, Facts, FollowsAll, HeadsRefuse, IsOpened, IsPassed, IsReadUpTo, IsTurn, MergeIsRefused, ReadsToNext, Stands, Start, Stops, StopsAtWrite, both, digests_union, inputs_from, no_facts, part, with_digests, with_file_entry}
-pub use Rattle.ffv1_hold.specs.Inner.ReadOrigins.{DigestShows, TakesDigest, VersionShows}
+pub use Rattle.ffv1_hold.specs.Inner.Merging.{AreVersions, Ends, EntryStops, Facts, FollowsAll, HeadRefuses, HeadsRefuse, IsOpened, IsPassed, IsReadUpTo, IsTurn, MergeIsRefused, ReadsToNext, Stands, Start, Stops, StopsAtWrite, both, digests_union, inputs_from, no_facts, part, with_digests, with_file_entry}
+pub use Rattle.ffv1_hold.specs.Inner.ReadOrigins.{DigestShows, TakesDigest}
 pub use Rattle.ffv1_hold.specs.Inner.Reading.{IsShorter, Never, ReadsText, Takes, TakesText}
 pub use Rattle.ffv1_hold.specs.Inner.Saving.{AreWithinLimit, AreWritable, entries_length, file_entries_below, tile_file_entries}
 pub use Rattle.ffv1_hold.specs.MergeLogs.{AllGoOn, Devices, MergeWent, OneStops, TakesAtMost, is_write}
 pub use Rattle.ffv1_hold.specs.MergedStreams.{BeginsWithHead, BeginsWithPart, BothRefuse, EntriesPass, InputRefuses, Inputs, IsFileOf, IsFileOfSome, MergeRefuses, OneRefuses, ReadsAll, ReadsOtherHeads, ReadsPart, ReadsSoFar, ReturnsOther, ReturnsUnion, ShowsNoFault, StaysInReadLimit, StreamBegins, UnionPasses, WritesAtMost, WritesFrontSoFar, WritesNoEnd, WritesUnion}
 pub use Rattle.ffv1_hold.specs.Plans.{IsCarriedOut, IsFaultOfCopies, IsFaultOfCopy, IsFaultOfFile, IsPlanFault, IsRereadFault, RereadsFit, copies_of}
+pub use Rattle.ffv1_hold.specs.JoinedStreams.{JoinsStreams}
 pub use Rattle.ffv1_hold.specs.ReadLimits.{AreAllDigests, EndsFirstOpen, IsReadLimitOf, LiesWhole}
 pub use Rattle.ffv1_hold.specs.Reading.{EndsIn, GoesOnIn, PassesIn, Refuses, StopsAt, StopsIn, WentBefore, is_read}
 pub use Rattle.ffv1_hold.specs.Saving.{IsTooLong}
@@ -70,16 +69,16 @@ pub use Rattle.ffv1_holding.proofs.ExactlyHeld.{near_exact}
 pub use Rattle.ffv1_holding.proofs.ItemsRise.{items-insert_last, items-rising, rising-append, rising_one}
 pub use Rattle.ffv1_holding.proofs.Lists.{flat_map-range_more}
 pub use Rattle.ffv1_holding.proofs.OriginSteps.{both_tie, held_each, held_union, whole_each, whole_union}
-pub use Rattle.ffv1_holding.proofs.Reels.{one_record, profile_reel, reel_is, reel_limits, reel_small, reel_tiles_few, same_reel, setup_reel_of}
+pub use Rattle.ffv1_holding.proofs.Reels.{one_record, reel_is, reel_limits, reel_small, reel_tiles_few, same_reel, setup_reel_of}
 pub use Rattle.ffv1_holding.proofs.RisingSets.{contains_item, insert_present, items-empty, items-from_list, or_absorbed, rising_rest, size-items, union-insert}
 pub use Rattle.ffv1_holding.proofs.Tiles.{any-other, any-same, contains-tile_slices}
 pub use Rattle.ffv1_holding.specs.Contents.{AreDigests, Contents, IsEntryOf, IsHolding, IsSameReel, digests_of, holding_of, joined, no_slices, with_copies, with_entry, with_found}
 pub use Rattle.ffv1_holding.specs.HoldingParts.{IsKept, contents}
 pub use Rattle.ffv1_holding.specs.Inner.TileSets.{entries_below, tile_entries}
 pub use Rattle.ffv1_holding.specs.Originals.{AreNear, HoldsExactly}
-pub use Rattle.ffv1_holding.specs.Reels.{IsReel, IsRecordingFor, Reel, reel_of, reel_tiles}
+pub use Rattle.ffv1_holding.specs.Reels.{FirstRecordFault, WantsMemory, IsReel, IsRecordingFor, Reel, reel_of, reel_tiles}
 pub use Rattle.ffv1_holding.specs.declared.recordings.Recordings.{Recordings}
-pub use Rattle.ffv1_holding.specs.declared.recordings.Recordings.TheVariants.{Profile}
+pub use Rattle.ffv1_holding.specs.declared.recordings.Recordings.TheVariants.{Any, Profile}
 pub use Rattle.ffv1_holding.specs.Rising.{IsRising}
 pub use Rattle.ffv1_holding.specs.SliceOrder.{Entry, Origin, bytes_antisymmetric, bytes_cmp, bytes_total, entries_antisymmetric, entries_total, entry_cmp, origin_cmp, origins_antisymmetric, origins_total, with_each}
 pub use Rattle.ffv1_holding.specs.TakeFaults.{AreShort}

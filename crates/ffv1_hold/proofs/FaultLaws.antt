@@ -1,11 +1,17 @@
 -- A text shows no fault.
-use Rattle.ffv1_hold.proofs.Common.{◌≡◌, ℕ, ◌<◌, ◌≤◌, ◌^◌, List, [], ◌∷◌, ◌++◌, length, take, get_or, Option, Some, None, refl, sym, ap, ◌∙◌, subst, inl, inr, arith, append_assoc, length-append, ◌⊎◌, take-append_seam, take-append-le, record_limit, TileRules, IsSetupOf, reel_small, profile_reel, no_setup_fault, AllByRecursion, HoldFileFault, Version, IsRising, Reel, Contents, IsHolding, FileEntry, magic, sized_record, head_text, body_text, entries_text, file_entries, file_text, IsStated, last_of, Follows, IsFileEntryOf, file_entry_cmp, AreEntries, HasText, IsFileReel, IsPartOfBody, BodyShows, IsPartOfEntry, EntryShows, IsPartOfReel, ReelShows, MagicShows, IsPartOfFile, FileShows, rising_rest, true}
+use Rattle.ffv1_hold.proofs.Common.{◌≡◌, ℕ, ◌<◌, ◌≤◌, ◌^◌, List, [], ◌∷◌, ◌++◌, length, take, get_or, Option, Some, None, refl, sym, ap, ◌∙◌, subst, inl, inr, arith, append_assoc, length-append, ◌⊎◌, take-append_seam, take-append-le, record_limit, TileRules, RecordingValue, Recordings, Any, Profile, is_in_profile, reel_small, AllByRecursion, HoldFileFault, Version, HasVersion, Result, Ok, Err, Bool, false, IsRising, Reel, Contents, IsHolding, FileEntry, magic, sized_record, head_text, body_text, entries_text, file_entries, file_text, IsStated, last_of, Follows, IsFileEntryOf, file_entry_cmp, AreEntries, HasText, IsFileReel, IsMagic, IsMisnamed, recordings_of, IsTaken, IsPartOfBody, BodyShows, IsPartOfEntry, EntryShows, IsPartOfReel, ReelShows, MagicShows, IsPartOfFile, FileShows, rising_rest, true, FirstRecordFault, IsScopedRecord, SetupFault, true≢false}
+use Rattle.ffv1_range.specs.SetupForms.{all_granted, record_read}
+use Rattle.ffv1_range.specs.declared.scope.Scope.TheVariants.{Parities}
+use Rattle.ffv1_range.specs.declared.scope.Scope.TheVariants as scopes
+use Rattle.ffv1_range.proofs.SetupLaws.{parities_are_wider, record-run}
+use Rattle.ffv1_range.proofs.ProfileLaws.{profile_record}
+use Rattle.ffv1_holding.specs.Recordings.{scope_of}
 use Rattle.ffv1_hold.specs.declared.file_fault.HoldFileFault.TheVariants as faults
 use Rattle.ffv1_hold.proofs.Bodies.{length-be4}
 use Rattle.ffv1_hold.proofs.NumberTexts.{no_tag, rest_same, number_same, after_number}
 use Rattle.ffv1_hold.proofs.BodyTexts.{same_body, body_cut, body_none}
-use Rattle.ffv1_hold.proofs.HeldEntries.{are_entries}
-use Rattle.ffv1_hold.proofs.TextLaws.{short_reel, entries_after, none_after, AreFitting, fitting_all, fitting_items, same_sized, same_head, after_magic, head_parts, sized_parts, text_parts}
+use Rattle.ffv1_hold.proofs.HeldEntries.{are_entries, version_of}
+use Rattle.ffv1_hold.proofs.TextLaws.{short_reel, entries_after, none_after, AreFitting, fitting_all, fitting_items, same_sized, same_head, same_name, after_magic, head_parts, sized_parts, text_parts}
 
 -- ---- entries after a last one
 
@@ -121,62 +127,116 @@ module _ (v : Version) (rules : TileRules) where
 
 -- ---- the head, and the whole text
 
-pub magic_none : (v : Version) (z y s : List ℕ) (fault : HoldFileFault) → magic v ++ z ≡ s ++ y → MagicShows fault s → ⊥
-magic_none v z y s faults.Magic same (seen, wrong, is, part, none) =
+pub magic_none : (q : Recordings) (p : Bool) (v : Version) → IsMagic q p v → (z y s : List ℕ) (fault : HoldFileFault) → magic p v ++ z ≡ s ++ y
+    → MagicShows q fault s → ⊥
+magic_none q p v m z y s faults.Magic same (seen, wrong, is, part, none) =
     let few : length s ≤ 8 = omega (arith, ap length is, length-append seen (wrong ∷ []), part.0) in
-    none v (sym (take-append_seam s y) ∙ ap (take (length s)) (sym same) ∙ take-append-le (length s) (magic v) z few)
-magic_none v z y s faults.TooLong same shown = shown
-magic_none v z y s (faults.Setup f) same shown = shown
-magic_none v z y s faults.Truncated same shown = shown
-magic_none v z y s faults.Tag same shown = shown
-magic_none v z y s faults.Order same shown = shown
-magic_none v z y s faults.NotASlice same shown = shown
-magic_none v z y s faults.Trailing same shown = shown
-magic_none v z y s faults.Read same shown = shown
-magic_none v z y s faults.Write same shown = shown
-magic_none v z y s faults.Memory same shown = shown
-magic_none v z y s faults.OtherReel same shown = shown
+    none (record {
+      of_profile = p;
+      version = v;
+      is_magic = m;
+      begins = sym (take-append_seam s y) ∙ ap (take (length s)) (sym same) ∙ take-append-le (length s) (magic p v) z few;
+    })
+magic_none q p v m z y s faults.TooLong same shown = shown
+magic_none q p v m z y s (faults.Setup f) same shown = shown
+magic_none q p v m z y s faults.Truncated same shown = shown
+magic_none q p v m z y s faults.Tag same shown = shown
+magic_none q p v m z y s faults.Order same shown = shown
+magic_none q p v m z y s faults.NotASlice same shown = shown
+magic_none q p v m z y s faults.Trailing same shown = shown
+magic_none q p v m z y s faults.Read same shown = shown
+magic_none q p v m z y s faults.Write same shown = shown
+magic_none q p v m z y s faults.Memory same shown = shown
+magic_none q p v m z y s faults.OtherReel same shown = shown
 
-module _ (r : Reel) (is : IsFileReel r) (x y : List ℕ) where
+-- a record is read so after the magic of recordings of the profile, or of others
+abbrev read_after : Bool → List ℕ → ℕ → ℕ → Result RecordingValue SetupFault
+read_after p config w h = record_read all_granted config (scope_of (recordings_of p)) w h
+
+read_as : (p : Bool) (config : List ℕ) (w h : ℕ) (recording : RecordingValue) → IsScopedRecord config Parities w h recording → is_in_profile recording ≡ p
+    → read_after p config w h ≡ Ok recording
+read_as true config w h recording is of =
+    record-run config scopes.Profile w h recording (profile_record config w h recording (parities_are_wider config w h recording is) of)
+read_as false config w h recording is of = record-run config Parities w h recording is
+
+-- a reel's record is read so after the reel's magic
+reel_reads : {q : Recordings} (r : Reel) → IsFileReel q r → (recording : RecordingValue)
+    × (read_after r.rules.is_profile r.config r.setup.width r.setup.height ≡ Ok recording) × (is_in_profile recording ≡ r.rules.is_profile)
+reel_reads r is =
+    let of = ap (λ (z : Reel). z.rules.is_profile) (sym is.reel.2) in (
+      is.reel.0,
+      read_as r.rules.is_profile r.config r.setup.width r.setup.height is.reel.0 is.reel.1 of,
+      of,
+    )
+
+-- a record is refused, or misnamed
+pub not_both : (p : Bool) (f : SetupFault) (config : List ℕ) (w h : ℕ) → FirstRecordFault (recordings_of p) config w h f → IsMisnamed p config w h → ⊥
+not_both true f config w h first misnamed = misnamed
+not_both false f config w h first (other, is, of) = let both = sym (record-run config Parities w h other is) ∙ first in cc
+
+-- what is read so is not misnamed
+not_misnamed : (p : Bool) (config : List ℕ) (w h : ℕ) (recording : RecordingValue) → read_after p config w h ≡ Ok recording → is_in_profile recording ≡ p
+    → IsMisnamed p config w h → ⊥
+not_misnamed true config w h recording read of misnamed = misnamed
+not_misnamed false config w h recording read of (other, is, within) =
+    let both = sym read ∙ record-run config Parities w h other is in
+    let same : recording ≡ other = cc in
+    true≢false (sym within ∙ ap is_in_profile (sym same) ∙ of)
+
+module _ {q : Recordings} (r : Reel) (is : IsFileReel q r) (x y : List ℕ) where
   small : (r.setup.width < 2 ^ 32) × (r.setup.height < 2 ^ 32)
   small = reel_small r is.reel
 
-  pub reel_none : (fault : HoldFileFault) (s : List ℕ) → sized_record r.config r.setup.width r.setup.height ++ x ≡ s ++ y → ReelShows fault s → ⊥
-  reel_none faults.TooLong s same shown = grind (arith, sized_parts, append_assoc, after_number, number_same)
-  reel_none (faults.Setup f) s same shown =
-      let config = shown.0 in
-      let w = shown.1 in
-      let h = shown.2 in
-      let parts = same_sized r.config config r.setup.width r.setup.height w h x y is.fits shown.4 small.0 small.1 shown.5 shown.6
-      (same ∙ ap (λ z. z ++ y) shown.3) in
-      let own : IsSetupOf r.config r.setup.width r.setup.height r.setup = (profile_reel r is.reel is.profile).0 in
-      let moved : IsSetupOf config w h r.setup =
-      subst (λ c. IsSetupOf c w h r.setup) parts.config (subst (λ v. IsSetupOf r.config v h r.setup) parts.width
-      (subst (λ k. IsSetupOf r.config r.setup.width k r.setup) parts.height own)) in
-      no_setup_fault config w h r.setup f moved shown.7
-  reel_none faults.Magic s same shown = shown
-  reel_none faults.Truncated s same shown = shown
-  reel_none faults.Tag s same shown = shown
-  reel_none faults.Order s same shown = shown
-  reel_none faults.NotASlice s same shown = shown
-  reel_none faults.Trailing s same shown = shown
-  reel_none faults.Read s same shown = shown
-  reel_none faults.Write s same shown = shown
-  reel_none faults.Memory s same shown = shown
-  reel_none faults.OtherReel s same shown = shown
+  abbrev Sized : List ℕ → Type 0
+  Sized s = (config : List ℕ) × (w h : ℕ) × (s ≡ sized_record config w h) × (length config ≤ record_limit) × (w < 2 ^ 32) × (h < 2 ^ 32)
+
+  -- the record and the size that are read there are the reel's
+  own_read : (s : List ℕ) (c : List ℕ) (w h : ℕ) → sized_record r.config r.setup.width r.setup.height ++ x ≡ s ++ y → s ≡ sized_record c w h
+      → length c ≤ record_limit → w < 2 ^ 32 → h < 2 ^ 32 → (recording : RecordingValue)
+      × (read_after r.rules.is_profile c w h ≡ Ok recording) × (is_in_profile recording ≡ r.rules.is_profile)
+  own_read s c w h same is_sized fits wide high =
+      let parts = same_sized r.config c r.setup.width r.setup.height w h x y is.fits fits small.0 small.1 wide high (same ∙ ap (λ z. z ++ y) is_sized) in
+      let own = reel_reads r is in (
+        own.0,
+        subst (λ k. read_after r.rules.is_profile k w h ≡ Ok own.0) parts.config
+            (subst (λ v. read_after r.rules.is_profile r.config v h ≡ Ok own.0) parts.width
+            (subst (λ k. read_after r.rules.is_profile r.config r.setup.width k ≡ Ok own.0) parts.height own.1)),
+        own.2,
+      )
+
+  pub reel_none : (p : Bool) → p ≡ r.rules.is_profile → (fault : HoldFileFault) (s : List ℕ) → sized_record r.config r.setup.width r.setup.height ++ x ≡ s ++ y
+      → ReelShows p fault s → ⊥
+  reel_none p named faults.TooLong s same shown = grind (arith, sized_parts, append_assoc, after_number, number_same)
+  reel_none p named (faults.Setup f) s same (config, w, h, split, fits, wide, high, first) =
+      let own = own_read s config w h same split fits wide high in
+      let both = sym own.1 ∙ ap (λ b. read_after b config w h) (sym named) ∙ first in cc
+  reel_none p named faults.Magic s same (config, w, h, split, fits, wide, high, misnamed) =
+      let own = own_read s config w h same split fits wide high in
+      not_misnamed p config w h own.0 (ap (λ b. read_after b config w h) named ∙ own.1) (own.2 ∙ sym named) misnamed
+  reel_none p named faults.Truncated s same shown = shown
+  reel_none p named faults.Tag s same shown = shown
+  reel_none p named faults.Order s same shown = shown
+  reel_none p named faults.NotASlice s same shown = shown
+  reel_none p named faults.Trailing s same shown = shown
+  reel_none p named faults.Read s same shown = shown
+  reel_none p named faults.Write s same shown = shown
+  reel_none p named faults.Memory s same shown = shown
+  reel_none p named faults.OtherReel s same shown = shown
 
 -- a whole record is not cut by the end
 pub sized_cut : (config : List ℕ) (width height : ℕ) (x : List ℕ) → length config ≤ record_limit → IsPartOfReel (sized_record config width height ++ x) → ⊥
 sized_cut config width height x fits (inl short) = grind (arith, sized_parts, length-append, length-be4)
 sized_cut config width height x fits (inr part) = grind (arith, sized_parts, append_assoc, after_number, number_same, length-append)
 
-module _ (v : Version) (h : Contents) (is : IsHolding h) (fits : length h.reel.config ≤ record_limit) (profile : h.reel.rules.is_profile ≡ true)
-    (stated : IsStated v h) where
+module _ (q : Recordings) (v : Version) (h : Contents) (is : IsHolding h) (file_reel : IsFileReel q h.reel) (stated : IsStated v h) where
   abbrev es : List FileEntry
   es = file_entries h
 
-  file_reel : IsFileReel h.reel
-  file_reel = record { reel = is.reel; profile = profile; fits = fits }
+  has : HasVersion v h.reel.rules.is_profile
+  has = version_of v h stated
+
+  is_magic : IsMagic q h.reel.rules.is_profile v
+  is_magic = (file_reel.taken, has)
 
   all_valid : AreValid v h.reel.rules None es
   all_valid = valid_list v h.reel.rules es (are_entries v h is stated)
@@ -188,18 +248,19 @@ module _ (v : Version) (h : Contents) (is : IsHolding h) (fits : length h.reel.c
   text_before : (z : List ℕ) → file_text v h ++ z ≡ head_text v h.reel ++ (entries_text v es ++ 0 ∷ z)
   text_before z = grind (arith, text_parts, append_assoc)
 
-  from_magic : (z : List ℕ) → file_text v h ++ z ≡ magic v ++ (sized_record h.reel.config h.reel.setup.width h.reel.setup.height ++
+  from_magic : (z : List ℕ) → file_text v h ++ z ≡ magic h.reel.rules.is_profile v ++ (sized_record h.reel.config h.reel.setup.width h.reel.setup.height ++
       (entries_text v es ++ 0 ∷ z))
   from_magic z = text_before z ∙ head_parts v h.reel (entries_text v es ++ 0 ∷ z)
 
   -- no beginning of a text, or of what goes on after it, shows a fault
-  pub text_none : (z seen rest : List ℕ) (fault : HoldFileFault) → file_text v h ++ z ≡ seen ++ rest → FileShows fault seen → ⊥
-  text_none z seen rest fault same (inl shown) = magic_none v _ rest seen fault (sym (from_magic z) ∙ same) shown
-  text_none z seen rest fault same (inr (inl (w, s, split, shown))) =
-      reel_none h.reel file_reel (entries_text v es ++ 0 ∷ z) rest fault s
-      (after_magic v w _ _ (sym (from_magic z) ∙ same ∙ ap (λ t. t ++ rest) split ∙ append_assoc (magic w) s rest)) shown
+  pub text_none : (z seen rest : List ℕ) (fault : HoldFileFault) → file_text v h ++ z ≡ seen ++ rest → FileShows q fault seen → ⊥
+  text_none z seen rest fault same (inl shown) = magic_none q _ v is_magic _ rest seen fault (sym (from_magic z) ∙ same) shown
+  text_none z seen rest fault same (inr (inl (p, w, s, m, split, shown))) =
+      let magics = sym (from_magic z) ∙ same ∙ ap (λ t. t ++ rest) split ∙ append_assoc (magic p w) s rest in
+      reel_none h.reel file_reel (entries_text v es ++ 0 ∷ z) rest p (sym (same_name h.reel.rules.is_profile p v w _ _ magics)) fault s
+      (after_magic _ p v w _ _ magics) shown
   text_none z seen rest fault same (inr (inr (w, r, s, r_is, split, (fs, t, entries, inner, shown)))) =
-      let heads = same_head v w h.reel r (entries_text v es ++ 0 ∷ z) (s ++ rest) (short_reel h.reel file_reel) (short_reel r r_is) (sym (text_before z) ∙ same
+      let heads = same_head v w h.reel r (entries_text v es ++ 0 ∷ z) (s ++ rest) (short_reel h.reel file_reel) (short_reel r r_is) has entries.version (sym (text_before z) ∙ same
       ∙ ap (λ t. t ++ rest) split ∙ append_assoc (head_text w r) s rest) in
       let rules = ap (λ (x : Reel). x.rules) heads.1 in
       let entries_v = subst (λ (u : Version). AreEntries u r.rules fs) (sym heads.0) entries in
@@ -210,13 +271,13 @@ module _ (v : Version) (h : Contents) (is : IsHolding h) (fits : length h.reel.c
       (subst (λ (u : Version). EntryShows u r.rules (last_of fs) fault t) (sym heads.0) shown)))
 
   -- and no text begins what is unfinished
-  pub text_whole : (z : List ℕ) → IsPartOfFile (file_text v h ++ z) → ⊥
+  pub text_whole : (z : List ℕ) → IsPartOfFile q (file_text v h ++ z) → ⊥
   text_whole z (inl part) = grind (arith, from_magic, length-append)
-  text_whole z (inr (inl (w, s, split, part))) =
-      sized_cut h.reel.config h.reel.setup.width h.reel.setup.height (entries_text v es ++ 0 ∷ z) fits
-      (subst IsPartOfReel (sym (after_magic v w _ _ (sym (from_magic z) ∙ split))) part)
+  text_whole z (inr (inl (p, w, s, m, split, part))) =
+      sized_cut h.reel.config h.reel.setup.width h.reel.setup.height (entries_text v es ++ 0 ∷ z) file_reel.fits
+      (subst IsPartOfReel (sym (after_magic _ p v w _ _ (sym (from_magic z) ∙ split))) part)
   text_whole z (inr (inr (w, r, s, r_is, split, (fs, t, entries, inner, part)))) =
-      let heads = same_head v w h.reel r (entries_text v es ++ 0 ∷ z) s (short_reel h.reel file_reel) (short_reel r r_is) (sym (text_before z) ∙ split) in
+      let heads = same_head v w h.reel r (entries_text v es ++ 0 ∷ z) s (short_reel h.reel file_reel) (short_reel r r_is) has entries.version (sym (text_before z) ∙ split) in
       let entries_v = subst (λ (u : Version). AreEntries u r.rules fs) (sym heads.0) entries in
       entries_whole v r.rules (last_of fs) es fs z t all_fit (fitting_all v r r_is.reel fs entries_v.each)
       (heads.2 ∙ inner ∙ ap (λ (u : Version). entries_text u fs ++ t) (sym heads.0))

@@ -1,5 +1,5 @@
 -- The entries of a holding, as its files give them.
-use Rattle.ffv1_hold.proofs.Common.{◌≡◌, ℕ, zero, suc, ◌<◌, ◌≤◌, Bool, true, false, ◌||◌, ◌&&◌, List, [], ◌∷◌, ◌++◌, length, map, get_or, Some, refl, sym, ap, ◌∙◌, subst, arith, drop, true≢false, or-false, AllByRecursion, list_any, is_eq, eq_by_cmp, ordering_reverse, Less, map-append, get_or-map, length-map, false_from_ne_true, Entry, with_each, bytes_cmp, entry_cmp, origin_cmp, entries_total, entries_antisymmetric, origins_total, origins_antisymmetric, IsRising, digests_in, Contents, IsHolding, IsEntryOf, digests_of, with_entry, joined, IsSameReel, Reel, rising_rest, contains_item, items-empty, items-rising, items-insert_last, or_cases, all-insert, all-union, held_union, whole_union, held_each, whole_each, Version, First, Second, FileEntry, origins_limit, file_entries, IsStated, last_of, Follows, IsDigest, AreOrigins, AreDigestsIn, IsFileEntryOf, AreEntries}
+use Rattle.ffv1_hold.proofs.Common.{◌≡◌, ℕ, zero, suc, ◌<◌, ◌≤◌, Bool, true, false, ◌||◌, ◌&&◌, List, [], ◌∷◌, ◌++◌, length, map, get_or, Some, refl, sym, ap, ◌∙◌, subst, arith, drop, true≢false, or-false, AllByRecursion, list_any, is_eq, eq_by_cmp, ordering_reverse, Less, map-append, get_or-map, length-map, false_from_ne_true, Entry, with_each, bytes_cmp, entry_cmp, origin_cmp, entries_total, entries_antisymmetric, origins_total, origins_antisymmetric, IsRising, digests_in, Contents, IsHolding, IsEntryOf, digests_of, with_entry, joined, IsSameReel, Reel, rising_rest, contains_item, items-empty, items-rising, items-insert_last, or_cases, all-insert, all-union, held_union, whole_union, held_each, whole_each, Version, First, Second, FileEntry, origins_limit, file_entries, HasVersion, IsStated, last_of, Follows, IsDigest, AreOrigins, AreDigestsIn, IsFileEntryOf, AreEntries}
 use Rattle.ffv1_holding.specs.Sets as set
 use Rattle.ffv1_hold.proofs.DigestSets.{has, entry_tie, entry_self, has-digests_in, has-with_each, digests_rise, same_digests, has_all}
 
@@ -95,9 +95,11 @@ module _ (h : Contents) (e : Entry) (ds : List (List ℕ)) where
 
     -- and a version that can give the origins of the holding and the entry's digests can give both together
     pub stated-with_entry : (v : Version) → IsHolding h → AreDigestsIn v ds → IsStated v h → IsStated v (with_entry h e ds)
-    stated-with_entry First is are was =
-        ap (λ (xs : List (List ℕ)). set.union h.origins (set.from_list (with_each e xs))) are
-        ∙ set.union_empty origins_total origins_antisymmetric h.origins ∙ was
+    stated-with_entry First is are was = (
+      ap (λ (xs : List (List ℕ)). set.union h.origins (set.from_list (with_each e xs))) are
+          ∙ set.union_empty origins_total origins_antisymmetric h.origins ∙ was.0,
+      was.1,
+    )
     stated-with_entry Second is are was = λ q there.
         or_cases (eq_by_cmp entry_cmp q e) (set.contains h.slices q) (length (digests_of (with_entry h e ds) q) ≤ origins_limit)
         (sym (set.contains-insert entries_total h.slices e q) ∙ there)
@@ -143,12 +145,17 @@ origins-digests_of h is q = record {
 
 stated_digests : (v : Version) (h : Contents) → IsHolding h → IsStated v h → (q : Entry) → set.contains h.slices q ≡ true → AreDigestsIn v (digests_of h q)
 stated_digests First h is was q held = same_digests _ [] (digests_rise h.origins q) (λ i j d lt in_range. absurd (omega arith))
-    (λ d. has-digests_in h.origins q d ∙ ap (λ s. set.contains s (q, d)) was ∙ set.contains-empty origin_cmp (q, d))
+    (λ d. has-digests_in h.origins q d ∙ ap (λ s. set.contains s (q, d)) was.0 ∙ set.contains-empty origin_cmp (q, d))
 stated_digests Second h is was q held = (origins-digests_of h is q, was q held)
+
+pub version_of : (v : Version) (h : Contents) → IsStated v h → HasVersion v h.reel.rules.is_profile
+version_of First h was = was.1
+version_of Second h was = tt
 
 pub are_entries : (v : Version) (h : Contents) → IsHolding h → IsStated v h → AreEntries v h.reel.rules (file_entries h)
 unfolding file_entries
 are_entries v h is was = record {
+  version = version_of v h was;
   each = each (set.items h.slices) (λ i d lt. contains_item entries_total h.slices i d lt);
   rising = λ i j d lt in_range.
       let long = length-map (set.items h.slices) (stated (digests_of h)) in

@@ -17,6 +17,7 @@ pub mod OneFault
 pub mod Unfinished
 pub mod Returned
 pub mod OneInput
+pub mod Magics
 pub mod Heads
 pub mod Entries
 pub mod OriginReads

@@ -1,8 +1,9 @@
 -- How far the text of a holding was read, by the entries that lie whole in what was written.
-use Rattle.ffv1_hold.proofs.Common.{◌≡◌, ℕ, suc, ◌+◌, ◌<◌, ◌≤◌, true, List, [], ◌∷◌, ◌++◌, length, map, get_or, drop, Option, Some, None, IfSome, refl, sym, ap, ◌∙◌, subst, inl, inr, arith, append_assoc, append-nil, length-append, ◌⊎◌, AllByRecursion, Consumes, Appends, Entry, entries_total, Reel, IsReel, Contents, IsHolding, digests_of, Version, Second, FileEntry, head_text, entry_text, body_text, entries_text, begun_text, file_entries, file_text, IsStated, IsFileEntryOf, next_text, IsFileReel, LiesWhole, AreAllDigests, IsReadLimitOf, IsFileOf, IsFileOfSome, StaysInReadLimit, Facts, part, ReadsToNext, contains_item}
+use Rattle.ffv1_hold.proofs.Common.{◌≡◌, ℕ, suc, ◌+◌, ◌<◌, ◌≤◌, true, List, [], ◌∷◌, ◌++◌, length, map, get_or, drop, Option, Some, None, IfSome, refl, sym, ap, ◌∙◌, subst, inl, inr, arith, append_assoc, append-nil, length-append, ◌⊎◌, AllByRecursion, Consumes, Appends, Entry, entries_total, Reel, IsReel, Contents, IsHolding, digests_of, Version, Second, FileEntry, head_text, entry_text, body_text, entries_text, begun_text, file_entries, file_text, IsStated, IsFileEntryOf, next_text, IsFileReel, LiesWhole, AreAllDigests, IsReadLimitOf, IsFileOf, IsFileOfSome, StaysInReadLimit, Facts, part, ReadsToNext, contains_item, Recordings}
 use Rattle.ffv1_holding.specs.Sets as set
 use Rattle.ffv1_hold.proofs.NumberTexts.{no_tag, rest_same}
 use Rattle.ffv1_hold.proofs.BodyTexts.{same_body}
+use Rattle.ffv1_hold.proofs.HeldEntries.{version_of}
 use Rattle.ffv1_hold.proofs.TextLaws.{short_reel, entries_after, none_after, AreFitting, fitting_all, fitting_items, same_head, text_parts}
 use Rattle.ffv1_hold.proofs.Slots.{entries_text-split, entries_text-cons, entries_text-none}
 use Rattle.ffv1_hold.proofs.Returned.{taken_front}
@@ -116,7 +117,7 @@ pub record RestOf (v w : Version) (h : Contents) (r : Reel) (f : Facts) (more : 
   pub text : entries_text w rest ++ 0 ∷ [] ≡ more ++ bytes
   pub front : file_text v h ≡ (begun_text w (part r f) ++ more) ++ bytes
 
-module _ (v w : Version) (h : Contents) (r : Reel) (is : IsFileReel r) (old new : Option (List ℕ)) (file : IsFileOf old v h) (f : Facts) (more : List ℕ)
+module _ {c : Recordings} (v w : Version) (h : Contents) (r : Reel) (is : IsFileReel c r) (old new : Option (List ℕ)) (file : IsFileOf old v h) (f : Facts) (more : List ℕ)
     (well_formed : IsHolding (part r f)) (stated : IsStated w (part r f)) (taken : Consumes old new (begun_text w (part r f) ++ more)) where
   abbrev some : Contents
   some = part r f
@@ -126,6 +127,7 @@ module _ (v w : Version) (h : Contents) (r : Reel) (is : IsFileReel r) (old new 
 
   heads : (v ≡ w) × (h.reel ≡ r) × (entries_text v (file_entries h) ++ 0 ∷ [] ≡ entries_text w (file_entries some) ++ (more ++ front.0))
   heads = same_head v w h.reel r _ _ (record { reel = file.well_formed.reel; fits = file.fits.record' }) (short_reel r is)
+      (version_of v h file.fits.stated) (version_of w some stated)
       (sym (text_parts v h) ∙ front.1 ∙ append_assoc (begun_text w some) more front.0
       ∙ append_assoc (head_text w r) (entries_text w (file_entries some)) (more ++ front.0))
 
@@ -149,7 +151,7 @@ module _ (v w : Version) (h : Contents) (r : Reel) (is : IsFileReel r) (old new 
   }
 
 -- The text of a holding was read no further than its read_limit.
-module _ (v w : Version) (h : Contents) (other : Option Contents) (r : Reel) (is : IsFileReel r) (old new beside a b : Option (List ℕ)) (done : List ℕ)
+module _ {c : Recordings} (v w : Version) (h : Contents) (other : Option Contents) (r : Reel) (is : IsFileReel c r) (old new beside a b : Option (List ℕ)) (done : List ℕ)
     (file : IsFileOf old v h) (also : IsFileOfSome beside other) (s : ReadsToNext w r old new beside done) where
   abbrev read : Contents
   read = part r s.facts

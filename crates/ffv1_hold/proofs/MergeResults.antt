@@ -1,11 +1,12 @@
 -- What joining two files returns for texts of one reel, and to heads of two.
-use Rattle.ffv1_hold.proofs.Common.{◌≡◌, ℕ, ◌<◌, List, [], ◌∷◌, ◌++◌, length, Option, Some, None, Result, Ok, Err, IfErr, OnOk, IsErrOf, rules, refl, sym, ap, ◌∙◌, subst, inl, inr, arith, append_assoc, length-append, ◌⊎◌, Consumes, Appends, Consumes-nil, Appends-nil, file_limit, Version, Reel, Contents, IsSameReel, joined, HoldFileFault, magic, head_text, entries_text, begun_text, file_entries, file_text, holding_text, IsStated, Refuses, StopsIn, IsFileReel, IsPartOfReel, IsOutside, IsPartOfHead, HeadIsWhole, HeadShows, Inputs, IsFileOf, IsFileOfSome, StreamBegins, BeginsWithHead, InputRefuses, ShowsNoFault, BothRefuse, MergeRefuses, EntriesPass, UnionPasses, ReadsPart, ReadsAll, ReadsOtherHeads, WritesUnion, ReturnsUnion, ReturnsOther, WritesNoEnd, StaysInReadLimit, Facts, both, HeadsRefuse, StopsAtWrite, Stops, MergeIsRefused, part}
+use Rattle.ffv1_hold.proofs.Common.{◌≡◌, ℕ, ◌<◌, List, [], ◌∷◌, ◌++◌, length, Option, Some, None, Result, Ok, Err, IfErr, OnOk, IsErrOf, rules, refl, sym, ap, ◌∙◌, subst, inl, inr, arith, append_assoc, length-append, ◌⊎◌, Consumes, Appends, Consumes-nil, Appends-nil, file_limit, Version, Reel, Contents, IsSameReel, joined, HoldFileFault, magic, head_text, entries_text, begun_text, file_entries, file_text, holding_text, IsStated, Refuses, StopsIn, IsFileReel, IsPartOfReel, IsOutside, IsPartOfHead, HeadShows, Inputs, IsFileOf, IsFileOfSome, StreamBegins, BeginsWithHead, InputRefuses, ShowsNoFault, BothRefuse, MergeRefuses, EntriesPass, UnionPasses, ReadsPart, ReadsAll, ReadsOtherHeads, WritesUnion, ReturnsUnion, ReturnsOther, WritesNoEnd, StaysInReadLimit, Facts, both, HeadsRefuse, StopsAtWrite, Stops, MergeIsRefused, part, Recordings, IsTaken, HasVersion, HeadRefuses, sized_record, WritesAtMost}
 use Rattle.ffv1_hold.specs.declared.file_fault.HoldFileFault.TheVariants as faults
 use Rattle.ffv1_hold.proofs.Bodies.{length-be4}
-use Rattle.ffv1_hold.proofs.TextLaws.{short_reel, same_head, head_parts, after_magic, text_parts, one_file, fitting_items}
-use Rattle.ffv1_hold.proofs.HeldEntries.{holding-joined}
+use Rattle.ffv1_hold.proofs.TextLaws.{short_reel, one_reel, same_head, same_name, head_parts, after_magic, text_parts, one_file, fitting_items}
+use Rattle.ffv1_hold.proofs.HeldEntries.{holding-joined, version_of}
 use Rattle.ffv1_hold.proofs.FaultLaws.{magic_none, reel_none, sized_cut}
 use Rattle.ffv1_hold.proofs.Returned.{taken_front, taken_all, refused_outside}
+use Rattle.ffv1_hold.proofs.Magics.{begun_none}
 use Rattle.ffv1_hold.proofs.Heads.{head_is_part, head_file}
 use Rattle.ffv1_hold.proofs.MergeFacts.{IsWithin, within-left, within-right, within-both, within-trans, shorter}
 use Rattle.ffv1_hold.proofs.MergeFronts.{front_within}
@@ -14,38 +15,42 @@ use Rattle.ffv1_hold.proofs.MergeSteps.{whole_begins, head_begins}
 
 -- ---- a head that is there is not refused
 
--- no beginning of what goes on after a head shows a fault of a head
-head_none : (v : Version) (r : Reel) → IsFileReel r → (x seen y : List ℕ) (f : HoldFileFault) → head_text v r ++ x ≡ seen ++ y → HeadShows f seen → ⊥
-head_none v r is x seen y f same (inl shown) = magic_none v _ y seen f (sym (head_parts v r x) ∙ same) shown
-head_none v r is x seen y f same (inr (w, s, split, shown)) =
-    reel_none r is x y f s (after_magic v w _ _ (sym (head_parts v r x) ∙ same ∙ ap (λ t. t ++ y) split ∙ append_assoc (magic w) s y)) shown
+module _ (c : Recordings) (v : Version) (r : Reel) (is : IsFileReel c r) (has : HasVersion v r.rules.is_profile) where
+  -- no beginning of what goes on after a head shows a fault of a head
+  head_none : (x seen y : List ℕ) (f : HoldFileFault) → head_text v r ++ x ≡ seen ++ y → HeadShows c f seen → ⊥
+  head_none x seen y f same (inl shown) = magic_none c r.rules.is_profile v (is.taken, has) _ y seen f (sym (head_parts v r x) ∙ same) shown
+  head_none x seen y f same (inr (p, w, s, m, split, shown)) =
+      let magics = sym (head_parts v r x) ∙ same ∙ ap (λ t. t ++ y) split ∙ append_assoc (magic p w) s y in
+      reel_none r is x y p (sym (same_name r.rules.is_profile p v w _ _ magics)) f s (after_magic r.rules.is_profile p v w _ _ magics) shown
 
--- what has a head is no part of one
-head_whole : (v : Version) (r : Reel) → IsFileReel r → (x : List ℕ) → IsPartOfHead (head_text v r ++ x) → ⊥
-head_whole v r is x (inl part) = grind (arith, head_parts, length-append)
-head_whole v r is x (inr (w, s, split, part)) =
-    sized_cut r.config r.setup.width r.setup.height x is.fits (subst IsPartOfReel (sym (after_magic v w _ _ (sym (head_parts v r x) ∙ split))) part)
+  -- what has a head is no part of one
+  head_whole : (x : List ℕ) → IsPartOfHead c (head_text v r ++ x) → ⊥
+  head_whole x (inl part) =
+      omega (arith, part.0, ap length (head_parts v r x), length-append (magic r.rules.is_profile v) (sized_record r.config r.setup.width r.setup.height ++ x))
+  head_whole x (inr (p, w, s, m, split, part)) =
+      sized_cut r.config r.setup.width r.setup.height x is.fits
+      (subst IsPartOfReel (sym (after_magic r.rules.is_profile p v w _ _ (sym (head_parts v r x) ∙ split))) part)
 
 -- a part of a head is short
-part_short : (s : List ℕ) → IsPartOfHead s → length s < file_limit
-part_short s (inl part) = omega (arith, part.0)
-part_short s (inr (v, p, split, inl short)) = omega (arith, short, ap length split, length-append (magic v) p)
-part_short s (inr (v, p, split, inr (w, h, n, config, parts, fits, cut))) = grind (arith, length-append, length-be4)
+part_short : (c : Recordings) (s : List ℕ) → IsPartOfHead c s → length s < file_limit
+part_short c s (inl part) = omega (arith, part.0)
+part_short c s (inr (k, v, p, m, split, inl short)) = omega (arith, short, ap length split, length-append (magic k v) p)
+part_short c s (inr (k, v, p, m, split, inr (w, h, n, config, parts, fits, cut))) = grind (arith, length-append, length-be4)
 
-module _ (v : Version) (r : Reel) (is : IsFileReel r) (x : List ℕ) where
-  head_shown : (f : HoldFileFault) (new : Option (List ℕ)) → StopsIn (HeadShows f) (Some (head_text v r ++ x)) new 0 → ⊥
-  head_shown f new s = let front = taken_front (head_text v r ++ x) s.seen new s.taken in head_none v r is x s.seen front.0 f front.1 s.is
+module _ (c : Recordings) (v : Version) (r : Reel) (is : IsFileReel c r) (has : HasVersion v r.rules.is_profile) (x : List ℕ) where
+  head_shown : (f : HoldFileFault) (new : Option (List ℕ)) → StopsIn (HeadShows c f) (Some (head_text v r ++ x)) new 0 → ⊥
+  head_shown f new s = let front = taken_front (head_text v r ++ x) s.seen new s.taken in head_none c v r is has x s.seen front.0 f front.1 s.is
 
   -- a refusal of it is the device's or memory's
-  head_outside : (f : HoldFileFault) (new : Option (List ℕ)) → Refuses IsPartOfHead HeadIsWhole HeadShows (Some (head_text v r ++ x)) new 0 f → IsOutside f
+  head_outside : (f : HoldFileFault) (new : Option (List ℕ)) → HeadRefuses c (Some (head_text v r ++ x)) new f → IsOutside f
   head_outside faults.Read new s = tt
   head_outside faults.Memory new s = tt
   head_outside faults.Write new s = s
   head_outside faults.OtherReel new s = s
-  head_outside faults.Truncated new s = grind (arith, head_whole, taken_all)
+  head_outside faults.Truncated new s = head_whole c v r is has x (subst (IsPartOfHead c) (sym (taken_all _ s.seen new s.taken s.at_end)) s.unfinished)
   head_outside faults.TooLong new (inl s) = head_shown faults.TooLong new s
-  head_outside faults.TooLong new (inr s) = let short = part_short s.seen s.unfinished in absurd (omega (arith, short, s.at_limit))
-  head_outside faults.Trailing new s = absurd s.whole.3
+  head_outside faults.TooLong new (inr s) = let short = part_short c s.seen s.unfinished in absurd (omega (arith, short, s.at_limit))
+  head_outside faults.Trailing new s = absurd s.whole.5
   head_outside faults.Magic new s = head_shown faults.Magic new s
   head_outside (faults.Setup f) new s = head_shown (faults.Setup f) new s
   head_outside faults.Tag new s = head_shown faults.Tag new s
@@ -55,31 +60,32 @@ module _ (v : Version) (r : Reel) (is : IsFileReel r) (x : List ℕ) where
 -- ---- heads of two reels
 
 -- an input that begins with two heads has one
-one_head : (input : Option (List ℕ)) (v : Version) (r q : Reel) → IsFileReel r → StreamBegins input (head_text v r) → BeginsWithHead input q → r ≡ q
+one_head : {c : Recordings} (input : Option (List ℕ)) (v : Version) (r q : Reel) → IsFileReel c r → StreamBegins input (head_text v r) → BeginsWithHead c input q
+    → r ≡ q
 one_head None v r q is begins head = absurd (cc)
 one_head (Some xs) v r q is begins head =
     let same : xs ≡ head_text head.version q ++ head.rest = cc in
-    (same_head v head.version r q begins.0 head.rest (short_reel r is) (short_reel q head.is) (sym begins.1 ∙ same)).1
+    (one_reel v head.version r q begins.0 head.rest (short_reel r is) (short_reel q head.is) (sym begins.1 ∙ same)).0
 
-head_refused : (old new : Option (List ℕ)) (g : Reel) (f : HoldFileFault) → BeginsWithHead old g
-    → Refuses IsPartOfHead HeadIsWhole HeadShows old new 0 f → IsOutside f
-head_refused old new g f head refused = grind (arith, head_outside)
+head_refused : (c : Recordings) (old new : Option (List ℕ)) (g : Reel) (f : HoldFileFault) → BeginsWithHead c old g → HeadRefuses c old new f → IsOutside f
+head_refused c old new g f head refused =
+    head_outside c head.version g head.is head.has head.rest f new (subst (λ (o : Option (List ℕ)). HeadRefuses c o new f) head.split refused)
 
-module _ (i : Inputs) (w v : Option (List ℕ)) (g h : Reel) (left : BeginsWithHead i.left_old g) (right : BeginsWithHead i.right_old h) (other : ¬ (g ≡ h)) where
+module _ (i : Inputs) (w v : Option (List ℕ)) (g h : Reel) (left : BeginsWithHead i.recordings i.left_old g) (right : BeginsWithHead i.recordings i.right_old h) (other : ¬ (g ≡ h)) where
   other_refused : (f : HoldFileFault) → MergeIsRefused i w v f → IsOutside f ⊎ (f ≡ faults.OtherReel)
-  other_refused f (inl (inl (refused, same), untouched)) = inl (head_refused _ _ g f left refused)
-  other_refused f (inl (inr (inl (head, refused)), untouched)) = inl (head_refused _ _ h f right refused)
+  other_refused f (inl (inl (refused, same), untouched)) = inl (head_refused i.recordings _ _ g f left refused)
+  other_refused f (inl (inr (inl (head, refused)), untouched)) = inl (head_refused i.recordings _ _ h f right refused)
   other_refused f (inl (inr (inr (is, heads)), untouched)) = inr is
   other_refused f (inr s) =
       absurd (other (sym (one_head _ s.left_version s.reel g s.is s.left_head left) ∙ one_head _ s.right_version s.reel h s.is s.right_head right))
 
-  file_reel : (old new : Option (List ℕ)) (x : Contents) → ReadsAll old new x → IsFileReel x.reel
-  file_reel old new x a = record { reel = a.well_formed.reel; profile = a.file.fits.profile; fits = a.file.fits.record' }
+  file_reel : (old new : Option (List ℕ)) (x : Contents) → IsTaken i.recordings x.reel.rules.is_profile → ReadsAll old new x → IsFileReel i.recordings x.reel
+  file_reel old new x taken a = record { reel = a.well_formed.reel; taken = taken; fits = a.file.fits.record' }
 
   other_written : WritesUnion i w v → ⊥
   other_written u =
-      let one = one_head _ _ u.left.reel g (file_reel _ _ u.left u.read.left_read) (head_begins _ _ _ u.left (0 ∷ []) u.read.left_read.file.taken) left in
-      let two = one_head _ _ u.right.reel h (file_reel _ _ u.right u.read.right_read) (head_begins _ _ _ u.right (0 ∷ []) u.read.right_read.file.taken) right in
+      let one = one_head _ _ u.left.reel g (file_reel _ _ u.left u.taken u.read.left_read) (head_begins _ _ _ u.left (0 ∷ []) u.read.left_read.file.taken) left in
+      let two = one_head _ _ u.right.reel h (file_reel _ _ u.right (subst (λ (k : Reel). IsTaken i.recordings k.rules.is_profile) u.read.same u.taken) u.read.right_read) (head_begins _ _ _ u.right (0 ∷ []) u.read.right_read.file.taken) right in
       other (sym one ∙ u.read.same ∙ two)
 
   pub returns_other : (r : Result (Unit {0}) HoldFileFault) → OnOk r (WritesUnion i w v) → IfErr r (MergeIsRefused i w v) → ReturnsOther r
@@ -101,6 +107,7 @@ part_of_text old new v h q file p =
     let front = taken_front (file_text v h) (begun_text w q ++ p.more) new
     (subst (λ (o : Option (List ℕ)). Consumes o new (begun_text w q ++ p.more)) file.text p.taken) in
     let heads = same_head v w h.reel q.reel _ _ (record { reel = file.well_formed.reel; fits = file.fits.record' }) (record { reel = p.well_formed.reel; fits = p.record' })
+    (version_of v h file.fits.stated) (version_of w q p.stated)
     (sym (text_parts v h) ∙ front.1 ∙ append_assoc (begun_text w q) p.more front.0 ∙ append_assoc (head_text w q.reel) es (p.more ++ front.0)) in
     let version = heads.0 in
     let more = front_entries w (file_entries h) (file_entries q) [] (p.more ++ front.0)
@@ -111,11 +118,16 @@ part_of_text old new v h q file p =
 whole_is : (old new : Option (List ℕ)) (v : Version) (h q : Contents) → IsFileOf old v h → ReadsAll old new q → q ≡ h
 whole_is old new v h q file a = grind (arith, taken_all, one_file)
 
-file_refused : (old new : Option (List ℕ)) (v : Version) (h : Contents) (f : HoldFileFault) → IsFileOf old v h → InputRefuses old new f → IsOutside f
-file_refused old new v h f file refused = grind (arith, refused_outside)
+file_refused : (c : Recordings) (old new : Option (List ℕ)) (v : Version) (h : Contents) (f : HoldFileFault) → IsTaken c h.reel.rules.is_profile
+    → IsFileOf old v h → InputRefuses c old new f → IsOutside f
+file_refused c old new v h f taken file refused =
+    refused_outside c v h file.well_formed taken file.fits f new (subst (λ (o : Option (List ℕ)). InputRefuses c o new f) file.text refused)
 
-module _ (i : Inputs) (a b : Option (List ℕ)) (v w : Version) (g h : Contents) (same : IsSameReel g h) (left : IsFileOf i.left_old v g)
-    (right : IsFileOf i.right_old w h) where
+module _ (i : Inputs) (a b : Option (List ℕ)) (v w : Version) (g h : Contents) (same : IsSameReel g h)
+    (taken : IsTaken i.recordings g.reel.rules.is_profile) (left : IsFileOf i.left_old v g) (right : IsFileOf i.right_old w h) where
+  right_taken : IsTaken i.recordings h.reel.rules.is_profile
+  right_taken = subst (λ (k : Reel). IsTaken i.recordings k.rules.is_profile) same taken
+
   -- the entries so far are no more than those of both
   entries_within : EntriesPass i → file_limit < length (holding_text (joined g h))
   entries_within p =
@@ -138,14 +150,16 @@ module _ (i : Inputs) (a b : Option (List ℕ)) (v w : Version) (g h : Contents)
 
   heads_same : ReadsOtherHeads i → ⊥
   heads_same o =
-      let head : (old : Option (List ℕ)) (u : Version) (x : Contents) → IsFileOf old u x → BeginsWithHead old x.reel = λ old u x file. record {
-        is = record { reel = file.well_formed.reel; profile = file.fits.profile; fits = file.fits.record' };
+      let head : (old : Option (List ℕ)) (u : Version) (x : Contents) → IsTaken i.recordings x.reel.rules.is_profile → IsFileOf old u x
+      → BeginsWithHead i.recordings old x.reel = λ old u x own file. record {
+        is = record { reel = file.well_formed.reel; taken = own; fits = file.fits.record' };
         version = u;
+        has = version_of u x file.fits.stated;
         rest = entries_text u (file_entries x) ++ 0 ∷ [];
         split = file.text ∙ ap Some (text_parts u x);
       } in
-      let one = one_head _ o.left_version o.left g.reel o.left_is (whole_begins _ _ _ o.left_taken) (head _ v g left) in
-      let two = one_head _ o.right_version o.right h.reel o.right_is (whole_begins _ _ _ o.right_taken) (head _ w h right) in
+      let one = one_head _ o.left_version o.left g.reel o.left_is (whole_begins _ _ _ o.left_taken) (head _ v g taken left) in
+      let two = one_head _ o.right_version o.right h.reel o.right_is (whole_begins _ _ _ o.right_taken) (head _ w h right_taken right) in
       o.other (one ∙ same ∙ sym two)
 
   abbrev Outcome : HoldFileFault → Type 0
@@ -167,12 +181,12 @@ module _ (i : Inputs) (a b : Option (List ℕ)) (v w : Version) (g h : Contents)
   both_refused faults.Memory b = absurd b
 
   refused : (f : HoldFileFault) → MergeIsRefused i a b f → Outcome f
-  refused f (inl (inl (r, untaken), untouched)) = inl (file_refused _ _ v g f left (head_file _ _ f r))
-  refused f (inl (inr (inl (head, r)), untouched)) = inl (file_refused _ _ w h f right (head_file _ _ f r))
+  refused f (inl (inl (r, untaken), untouched)) = inl (file_refused i.recordings _ _ v g f taken left (head_file i.recordings _ _ f r))
+  refused f (inl (inr (inl (head, r)), untouched)) = inl (file_refused i.recordings _ _ w h f right_taken right (head_file i.recordings _ _ f r))
   refused f (inl (inr (inr (is, heads)), untouched)) = absurd (heads_same heads)
   refused f (inr s) = elim s.fault [
-    | inl (inl r) ↦ inl (file_refused _ _ v g f left r.0)
-    | inl (inr r) ↦ inl (file_refused _ _ w h f right r.0)
+    | inl (inl r) ↦ inl (file_refused i.recordings _ _ v g f taken left r.0)
+    | inl (inr r) ↦ inl (file_refused i.recordings _ _ w h f right_taken right r.0)
     | inr b ↦ both_refused f b
   ]
 
@@ -183,18 +197,22 @@ module _ (i : Inputs) (a b : Option (List ℕ)) (v w : Version) (g h : Contents)
 -- ---- what a refusal says, one fact at a time
 
 -- of an input of which nothing was read
-nothing_shown : (old new : Option (List ℕ)) → new ≡ old → ShowsNoFault old new
-nothing_shown old new same = grind (arith, Consumes-nil)
+nothing_shown : (c : Recordings) (old new : Option (List ℕ)) → new ≡ old → ShowsNoFault c old new
+nothing_shown c old new same = record {
+  seen = [];
+  taken = subst (λ (o : Option (List ℕ)). Consumes old o []) (sym same) (Consumes-nil old);
+  well_formed = inl (inl (omega arith, begun_none c));
+}
 
 module _ (i : Inputs) (w v : Option (List ℕ)) where
   pub join_refuses : (f : HoldFileFault) → MergeIsRefused i w v f → MergeRefuses i f
-  join_refuses f (inl (inl (r, untaken), untouched)) = inl (inl (head_file _ _ f r, nothing_shown _ _ untaken))
-  join_refuses f (inl (inr (inl ((u, q, is, taken), r)), untouched)) = inl (inr (
-    head_file _ _ f r,
+  join_refuses f (inl (inl (r, untaken), untouched)) = inl (inl (head_file i.recordings _ _ f r, nothing_shown i.recordings _ _ untaken))
+  join_refuses f (inl (inr (inl ((u, q, is, has, taken), r)), untouched)) = inl (inr (
+    head_file i.recordings _ _ f r,
     record {
       seen = head_text u q;
       taken = taken;
-      well_formed = inl (head_is_part u q is);
+      well_formed = inl (head_is_part u q is has);
     },
   ))
   join_refuses f (inl (inr (inr (is, heads)), untouched)) = inr (subst (BothRefuse i) (sym is) heads)
@@ -210,7 +228,7 @@ module _ (i : Inputs) (w v : Option (List ℕ)) where
   heads_write (inr (inr (is, heads))) = absurd (cc)
 
   -- after a failed write both heads are of one reel
-  pub write_stops : MergeIsRefused i w v faults.Write → (q : Reel) × IsFileReel q × StopsAtWrite i q w v
+  pub write_stops : MergeIsRefused i w v faults.Write → (q : Reel) × IsFileReel i.recordings q × StopsAtWrite i q w v
   write_stops (inl (heads, untouched)) = absurd (heads_write heads)
   write_stops (inr s) = (s.reel, s.is, s.write refl)
 
@@ -242,3 +260,13 @@ module _ (i : Inputs) (w v : Option (List ℕ)) where
   pub never_other : (Q : Type 0) (r : Result (Unit {0}) HoldFileFault) → IfErr r (Stops i w v) → IsErrOf r faults.OtherReel → Q
   never_other Q (Ok x) err is = absurd (search rules)
   never_other Q (Err f) err is = grind arith
+
+  -- no more was written than the limit
+  pub wrote_most : (r : Result (Unit {0}) HoldFileFault) → OnOk r (WritesAtMost w v file_limit) → IfErr r (MergeIsRefused i w v) → WritesAtMost w v file_limit
+  wrote_most (Ok x) ok err = ok
+  wrote_most (Err f) ok (inl (heads, untouched)) = record {
+    done = [];
+    written = subst (λ (o : Option (List ℕ)). Appends w o []) (sym untouched) (Appends-nil w);
+    few = omega arith;
+  }
+  wrote_most (Err f) ok (inr s) = s.most

@@ -1,5 +1,5 @@
 -- Where joining two files stands before the first entries, and after the last ones.
-use Rattle.ffv1_hold.proofs.Common.{◌≡◌, ℕ, ◌+◌, ◌≤◌, List, [], ◌∷◌, ◌++◌, length, Option, Some, None, IfSome, IfNone, refl, sym, ap, ◌∙◌, subst, inl, inr, arith, append-nil, length-append, Consumes, Appends, IsAtEnd, AllByRecursion, Appends-trans, file_limit, TileRules, WritesFront, front-append, front-after, entries_total, entries_antisymmetric, origins_total, origins_antisymmetric, Reel, Contents, IsHolding, HoldFileFault, Version, Second, FileEntry, head_text, begun_text, file_text, holding_text, IsStated, Takes, Refuses, last_of, Follows, IsFileEntryOf, next_text, IsFileReel, IsPartOfEntry, EntryShows, EndIsWhole, LiesWhole, AreAllDigests, StreamBegins, InputRefuses, OneRefuses, ShowsNoFault, ReadsAll, ReadsPart, ReadsSoFar, UnionPasses, WritesUnion, WritesAtMost, Start, inputs_from, Facts, part, no_facts, both, FollowsAll, IsPassed, IsReadUpTo, ReadsToNext, IsOpened, Stands, Stops, Ends}
+use Rattle.ffv1_hold.proofs.Common.{◌≡◌, ℕ, ◌+◌, ◌≤◌, List, [], ◌∷◌, ◌++◌, length, Option, Some, None, IfSome, IfNone, refl, sym, ap, ◌∙◌, subst, inl, inr, arith, append-nil, length-append, Consumes, Appends, IsAtEnd, AllByRecursion, Appends-trans, file_limit, TileRules, WritesFront, front-append, front-after, entries_total, entries_antisymmetric, origins_total, origins_antisymmetric, Reel, Contents, IsHolding, HoldFileFault, Version, Second, FileEntry, head_text, begun_text, file_text, holding_text, IsStated, Takes, Refuses, last_of, Follows, IsFileEntryOf, next_text, IsFileReel, IsPartOfEntry, EntryShows, EndIsWhole, LiesWhole, AreAllDigests, StreamBegins, InputRefuses, OneRefuses, ShowsNoFault, ReadsAll, ReadsPart, ReadsSoFar, UnionPasses, WritesUnion, WritesAtMost, Start, inputs_from, Facts, part, no_facts, both, FollowsAll, IsPassed, IsReadUpTo, ReadsToNext, IsOpened, Stands, Stops, Ends, Recordings, HasVersion}
 use Rattle.ffv1_holding.specs.Sets as set
 use Rattle.ffv1_hold.specs.declared.file_fault.HoldFileFault.TheVariants as faults
 use Rattle.ffv1_hold.proofs.Slots.{entries_text-none, length-head_text}
@@ -20,36 +20,36 @@ begun-both_none : (r : Reel) → begun_text Second (part r (both no_facts no_fac
 begun-both_none r = ap (λ x. begun_text Second (part r x)) both-none ∙ begun-none Second r
 
 -- the head was read, and no entry
-pub first_passed : (old new : Option (List ℕ)) (v : Version) (r : Reel) (place : ℕ) → IsFileReel r → Takes old new 0 place (head_text v r)
+pub first_passed : {c : Recordings} (old new : Option (List ℕ)) (v : Version) (r : Reel) (place : ℕ) → IsFileReel c r → HasVersion v r.rules.is_profile → Takes old new 0 place (head_text v r)
     → IsPassed old new v r no_facts place None
-first_passed old new v r place is t = record {
+first_passed old new v r place is has t = record {
   well_formed = holding_none r is.reel;
-  stated = stated_none v r;
+  stated = stated_none v r has;
   text = subst (Takes old new 0 place) (sym (begun-none v r)) t;
   last' = sym (ap last_of (entries-none r));
 }
 
 -- the head was read, and the first entry or the end after it
-pub head_held : (old now new : Option (List ℕ)) (v w : Version) (r : Reel) (from to : ℕ) (last next : Option FileEntry) (rules : TileRules) → IsFileReel r
-    → last ≡ None → w ≡ v → rules ≡ r.rules → Takes old now 0 from (head_text v r) → Takes now new from to (next_text w next)
+pub head_held : {c : Recordings} (old now new : Option (List ℕ)) (v w : Version) (r : Reel) (from to : ℕ) (last next : Option FileEntry) (rules : TileRules)
+    → IsFileReel c r → HasVersion v r.rules.is_profile → last ≡ None → w ≡ v → rules ≡ r.rules → Takes old now 0 from (head_text v r) → Takes now new from to (next_text w next)
     → IfSome next (IsFileEntryOf w rules) → IfSome next (λ e. Follows last e.0) → IfNone next (IsAtEnd new) → IsReadUpTo old new v r no_facts to next
-head_held old now new v w r from to last next rules is none version same head text entry follows end =
-    let p = subst (λ (l : Option FileEntry). IsPassed old now v r no_facts from l) (sym none) (first_passed old now v r from is head) in
+head_held old now new v w r from to last next rules is has none version same head text entry follows end =
+    let p = subst (λ (l : Option FileEntry). IsPassed old now v r no_facts from l) (sym none) (first_passed old now v r from is has head) in
     advanced old now new v w r no_facts from to last next rules version same p text entry follows end
 
 -- the first entry is refused
-pub first_refuses : (old now new : Option (List ℕ)) (v w : Version) (r : Reel) (from : ℕ) (last : Option FileEntry) (rules : TileRules) (f : HoldFileFault)
-    → last ≡ None → w ≡ v → rules ≡ r.rules → IsFileReel r → Takes old now 0 from (head_text v r)
-    → Refuses (IsPartOfEntry w rules last) EndIsWhole (EntryShows w rules last) now new from f → InputRefuses old new f
-first_refuses old now new v w r from last rules f none version same is head refused =
+pub first_refuses : {c : Recordings} (old now new : Option (List ℕ)) (v w : Version) (r : Reel) (from : ℕ) (last : Option FileEntry) (rules : TileRules) (f : HoldFileFault)
+    → last ≡ None → w ≡ v → rules ≡ r.rules → IsFileReel c r → HasVersion v r.rules.is_profile → Takes old now 0 from (head_text v r)
+    → Refuses (IsPartOfEntry w rules last) EndIsWhole (EntryShows w rules last) now new from f → InputRefuses c old new f
+first_refuses old now new v w r from last rules f none version same is has head refused =
     input_refuses old now new v w r no_facts from last rules f version same is
-    (subst (λ (l : Option FileEntry). IsPassed old now v r no_facts from l) (sym none) (first_passed old now v r from is head)) refused
+    (subst (λ (l : Option FileEntry). IsPassed old now v r no_facts from l) (sym none) (first_passed old now v r from is has head)) refused
 
 after_none : (r : Reel) (next : Option FileEntry) → FollowsAll r no_facts next
 after_none r None = tt
 after_none r (Some e) = subst (λ (l : Option FileEntry). Follows l e.0) (sym (ap last_of (entries-none r))) tt
 
-pub first_stands : (s : Start) (l r w : Option (List ℕ)) (lp rp room : ℕ) (ln rn : Option FileEntry) → IsFileReel s.reel
+pub first_stands : (s : Start) (l r w : Option (List ℕ)) (lp rp room : ℕ) (ln rn : Option FileEntry) → IsFileReel s.recordings s.reel
     → IsReadUpTo s.left l s.left_version s.reel no_facts lp ln → IsReadUpTo s.right r s.right_version s.reel no_facts rp rn → Appends s.sink w (head_text Second s.reel)
     → room + (20 + length s.reel.config) ≡ file_limit → Stands s l r w lp rp room ln rn
 first_stands s l r w lp rp room ln rn is left right written room_left =
@@ -67,12 +67,12 @@ first_stands s l r w lp rp room ln rn is left right written room_left =
     }
 
 -- an input whose head alone was read
-head_after : (old new beside : Option (List ℕ)) (v : Version) (r : Reel) (done : List ℕ) → IsFileReel r → Consumes old new (head_text v r)
+head_after : {c : Recordings} (old new beside : Option (List ℕ)) (v : Version) (r : Reel) (done : List ℕ) → IsFileReel c r → HasVersion v r.rules.is_profile → Consumes old new (head_text v r)
     → ReadsToNext v r old new beside done
-head_after old new beside v r done is taken = record {
+head_after old new beside v r done is has taken = record {
   facts = no_facts;
   well_formed = holding_none r is.reel;
-  stated = stated_none v r;
+  stated = stated_none v r has;
   whole = λ u h other file other_file. subst (AllByRecursion (LiesWhole (AreAllDigests h other) r done)) (sym (entries-none r)) tt;
   more = [];
   next = inl refl;
@@ -81,10 +81,10 @@ head_after old new beside v r done is taken = record {
 
 module _ (s : Start) (q : Reel) (l0 r0 w0 : Option (List ℕ)) (lp rp : ℕ) (o : IsOpened s q l0 r0 w0 lp rp) where
   left_first : IsPassed s.left l0 s.left_version s.reel no_facts lp None
-  left_first = first_passed _ _ s.left_version s.reel lp o.reel o.left_head
+  left_first = first_passed _ _ s.left_version s.reel lp o.reel o.left_has o.left_head
 
   right_first : IsPassed s.right r0 s.right_version s.reel no_facts rp None
-  right_first = first_passed _ _ s.right_version s.reel rp o.reel o.right_head
+  right_first = first_passed _ _ s.right_version s.reel rp o.reel o.right_has o.right_head
 
   left_part : ReadsPart s.left l0 (part s.reel no_facts)
   left_part = passed_part _ _ s.left_version s.reel no_facts lp None o.reel left_first
@@ -98,10 +98,10 @@ module _ (s : Start) (q : Reel) (l0 r0 w0 : Option (List ℕ)) (lp rp : ℕ) (o 
   right_begins : StreamBegins s.right (head_text s.right_version s.reel)
   right_begins = whole_begins _ _ _ o.right_head.taken
 
-  left_shows_none : ShowsNoFault s.left l0
+  left_shows_none : ShowsNoFault s.recordings s.left l0
   left_shows_none = passed_shows_none _ _ s.left_version s.reel no_facts lp None o.reel left_first
 
-  right_shows_none : ShowsNoFault s.right r0
+  right_shows_none : ShowsNoFault s.recordings s.right r0
   right_shows_none = passed_shows_none _ _ s.right_version s.reel no_facts rp None o.reel right_first
 
   setup_is : (rules : TileRules) → rules ≡ q.rules → rules ≡ s.reel.rules
@@ -114,13 +114,13 @@ module _ (s : Start) (q : Reel) (l0 r0 w0 : Option (List ℕ)) (lp rp : ℕ) (o 
       → rules ≡ q.rules → Takes l0 l lp to (next_text w next) → IfSome next (IsFileEntryOf w rules) → IfSome next (λ e. Follows last e.0)
       → IfNone next (IsAtEnd l) → IsReadUpTo s.left l s.left_version s.reel no_facts to next
   left_held l to last next w rules none version same text entry follows end =
-      head_held _ _ _ s.left_version w s.reel lp to last next rules o.reel none version (setup_is rules same) o.left_head text entry follows end
+      head_held _ _ _ s.left_version w s.reel lp to last next rules o.reel o.left_has none version (setup_is rules same) o.left_head text entry follows end
 
   pub right_held : (r : Option (List ℕ)) (to : ℕ) (last next : Option FileEntry) (w : Version) (rules : TileRules) → last ≡ None → w ≡ s.right_version
       → rules ≡ q.rules → Takes r0 r rp to (next_text w next) → IfSome next (IsFileEntryOf w rules) → IfSome next (λ e. Follows last e.0)
       → IfNone next (IsAtEnd r) → IsReadUpTo s.right r s.right_version s.reel no_facts to next
   right_held r to last next w rules none version same text entry follows end =
-      head_held _ _ _ s.right_version w s.reel rp to last next rules o.reel none version (setup_is rules same) o.right_head text entry follows end
+      head_held _ _ _ s.right_version w s.reel rp to last next rules o.reel o.right_has none version (setup_is rules same) o.right_head text entry follows end
 
   pub opened_stands : (l r new : Option (List ℕ)) (left_place right_place room : ℕ) (ln rn : Option FileEntry)
       → IsReadUpTo s.left l s.left_version s.reel no_facts left_place ln → IsReadUpTo s.right r s.right_version s.reel no_facts right_place rn
@@ -141,7 +141,8 @@ module _ (s : Start) (q : Reel) (l0 r0 w0 : Option (List ℕ)) (lp rp : ℕ) (o 
       stops_writing (inputs_from s l0 r0) s.reel o.reel s.left_version s.right_version left_begins right_begins s.sink new left_shows_none right_shows_none
       (record { left = part s.reel no_facts; right = part s.reel no_facts; read = heads; front = front }) w.done w.written
       (omega (arith, o.reel.fits, ap length w.split, length-append w.done w.rest, length-head_text Second s.reel))
-      (head_after _ _ _ s.left_version s.reel w.done o.reel o.left_head.taken) (head_after _ _ _ s.right_version s.reel w.done o.reel o.right_head.taken)
+      (head_after _ _ _ s.left_version s.reel w.done o.reel o.left_has o.left_head.taken)
+      (head_after _ _ _ s.right_version s.reel w.done o.reel o.right_has o.right_head.taken)
 
   -- the first entry of an input was refused
   first_stops : (l r new : Option (List ℕ)) (f : HoldFileFault) → OneRefuses (inputs_from s l r) f → Appends w0 new (head_text Second q)
@@ -156,14 +157,14 @@ module _ (s : Start) (q : Reel) (l0 r0 w0 : Option (List ℕ)) (lp rp : ℕ) (o 
       → w ≡ s.left_version → rules ≡ q.rules → Refuses (IsPartOfEntry w rules last) EndIsWhole (EntryShows w rules last) l0 l lp f
       → Appends w0 new (head_text Second q) → Stops (inputs_from s l r0) s.sink new f
   first_left_stops l new last w rules f none version same refused wrote =
-      let input = first_refuses _ _ _ s.left_version w s.reel lp last rules f none version (setup_is rules same) o.reel o.left_head refused in
+      let input = first_refuses _ _ _ s.left_version w s.reel lp last rules f none version (setup_is rules same) o.reel o.left_has o.left_head refused in
       first_stops l r0 new f (inl (input, right_shows_none)) wrote
 
   pub first_right_stops : (l r new : Option (List ℕ)) (to : ℕ) (ln last : Option FileEntry) (w : Version) (rules : TileRules) (f : HoldFileFault)
       → last ≡ None → w ≡ s.right_version → rules ≡ q.rules → Refuses (IsPartOfEntry w rules last) EndIsWhole (EntryShows w rules last) r0 r rp f
       → IsReadUpTo s.left l s.left_version s.reel no_facts to ln → Appends w0 new (head_text Second q) → Stops (inputs_from s l r) s.sink new f
   first_right_stops l r new to ln last w rules f none version same refused held wrote =
-      let input = first_refuses _ _ _ s.right_version w s.reel rp last rules f none version (setup_is rules same) o.reel o.right_head refused in
+      let input = first_refuses _ _ _ s.right_version w s.reel rp last rules f none version (setup_is rules same) o.reel o.right_has o.right_head refused in
       first_stops l r new f (inr (input, held_shows_none _ _ s.left_version s.reel no_facts to ln o.reel held)) wrote
 
 -- ---- after the last entries
@@ -196,11 +197,11 @@ module _ (s : Start) (left right sink : Option (List ℕ)) (room : ℕ) (e : End
   union_length : length (holding_text (part s.reel all)) ≡ length (begun_text Second (part s.reel all)) + 1
   union_length = length-append (begun_text Second (part s.reel all)) (0 ∷ [])
 
-  whole_shows_none : (old new : Option (List ℕ)) (x : Facts) → ReadsAll old new (part s.reel x) → ShowsNoFault old new
+  whole_shows_none : (old new : Option (List ℕ)) (x : Facts) → ReadsAll old new (part s.reel x) → ShowsNoFault s.recordings old new
   whole_shows_none old new x a = record {
     seen = file_text a.file.version (part s.reel x);
     taken = a.file.taken;
-    well_formed = inr (part s.reel x, a.well_formed, a.file.fits.record', (a.file.version, a.file.fits.stated, refl, a.file.fits.profile));
+    well_formed = inr (part s.reel x, a.well_formed, e.is, (a.file.version, a.file.fits.stated, refl));
   }
 
   -- there is no room for the end tag
@@ -241,7 +242,8 @@ module _ (s : Start) (left right sink : Option (List ℕ)) (room : ℕ) (e : End
     left = part s.reel e.lefts;
     right = part s.reel e.rights;
     read = e.read;
-    fits = fits_within (part s.reel all) all_well_formed e.is.profile (e.is.fits, omega (arith, e.room_left, some, union_length));
+    taken = e.is.taken;
+    fits = fits_within (part s.reel all) all_well_formed (e.is.fits, omega (arith, e.room_left, some, union_length));
     written = Appends-trans s.sink sink new (begun_text Second (part s.reel all)) (0 ∷ []) e.written w;
   }
 

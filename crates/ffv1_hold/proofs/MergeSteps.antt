@@ -1,5 +1,5 @@
 -- What one entry more does to where joining two files stands.
-use Rattle.ffv1_hold.proofs.Common.{◌≡◌, ℕ, ◌+◌, ◌<◌, ◌≤◌, List, [], ◌∷◌, ◌++◌, length, Option, Some, None, IfSome, IfNone, refl, sym, ap, ◌∙◌, subst, inl, inr, arith, append_assoc, append-nil, length-append, Ordering, Less, Equal, Greater, Consumes, Appends, IsAtEnd, Appends-trans, record_limit, file_limit, TileRules, WritesFront, front-append, front-after, Reel, Contents, IsHolding, AreDigests, HoldFileFault, Version, Second, FileEntry, head_text, entry_text, entries_text, begun_text, file_entries, IsStated, Takes, Refuses, last_of, Follows, IsFileEntryOf, next_text, IsFileReel, IsPartOfFile, FileIsWhole, FileShows, IsPartOfEntry, EntryShows, EndIsWhole, ReadsPart, ReadsAll, ReadsSoFar, EntriesPass, InputRefuses, ShowsNoFault, OneRefuses, MergeRefuses, StreamBegins, BeginsWithPart, WritesFrontSoFar, Inputs, WritesNoEnd, WritesAtMost, Start, AreVersions, inputs_from, Facts, part, with_file_entry, both, IsPassed, IsReadUpTo, ReadsToNext, FollowsAll, Stands, Stops, Ends, with_digests, IsTurn, EntryStops, StopsAtWrite}
+use Rattle.ffv1_hold.proofs.Common.{◌≡◌, ℕ, ◌+◌, ◌<◌, ◌≤◌, List, [], ◌∷◌, ◌++◌, length, Option, Some, None, IfSome, IfNone, refl, sym, ap, ◌∙◌, subst, inl, inr, arith, append_assoc, append-nil, length-append, Ordering, Less, Equal, Greater, Consumes, Appends, IsAtEnd, Appends-trans, record_limit, file_limit, TileRules, WritesFront, front-append, front-after, Reel, Contents, IsHolding, AreDigests, HoldFileFault, Version, Second, FileEntry, head_text, entry_text, entries_text, begun_text, file_entries, IsStated, Takes, Refuses, last_of, Follows, IsFileEntryOf, next_text, IsFileReel, IsPartOfFile, FileIsWhole, FileShows, IsPartOfEntry, EntryShows, EndIsWhole, ReadsPart, ReadsAll, ReadsSoFar, EntriesPass, InputRefuses, ShowsNoFault, OneRefuses, MergeRefuses, StreamBegins, BeginsWithPart, WritesFrontSoFar, Inputs, WritesNoEnd, WritesAtMost, Start, AreVersions, inputs_from, Facts, part, with_file_entry, both, IsPassed, IsReadUpTo, ReadsToNext, FollowsAll, Stands, Stops, Ends, with_digests, IsTurn, EntryStops, StopsAtWrite, Recordings, IsPartOfEntries}
 use Rattle.ffv1_hold.specs.declared.file_fault.HoldFileFault.TheVariants as faults
 use Rattle.ffv1_hold.proofs.ReadRefusals.{Takes-trans, Refuses-after}
 use Rattle.ffv1_hold.proofs.Entries.{part_of_entries, entries_show}
@@ -50,36 +50,41 @@ begun-split : (v : Version) (r : Reel) (f : Facts) (x : List ℕ) → begun_text
     ≡ head_text v r ++ (entries_text v (file_entries (part r f)) ++ x)
 begun-split v r f x = append_assoc (head_text v r) (entries_text v (file_entries (part r f))) x
 
-begun-is_part : (v : Version) (r : Reel) (f : Facts) → IsFileReel r → IsHolding (part r f) → IsStated v (part r f) → IsPartOfFile (begun_text v (part r f))
-begun-is_part v r f is well_formed stated = grind (arith, begun-split, append-nil, file_from_entries_part, part_of_entries, are_entries)
+begun-is_part : {c : Recordings} (v : Version) (r : Reel) (f : Facts) → IsFileReel c r → IsHolding (part r f) → IsStated v (part r f)
+    → IsPartOfFile c (begun_text v (part r f))
+begun-is_part v r f is well_formed stated =
+    let es = file_entries (part r f) in
+    file_from_entries_part v r is _ (subst (IsPartOfEntries v r.rules) (append-nil (entries_text v es))
+    (part_of_entries v r.rules es (are_entries v (part r f) well_formed stated) [] (inl refl)))
 
 -- an entry that is refused is a fault of the file
-pub input_refuses : (old now new : Option (List ℕ)) (v w : Version) (r : Reel) (f : Facts) (place : ℕ) (last : Option FileEntry) (rules : TileRules)
-    (fault : HoldFileFault) → w ≡ v → rules ≡ r.rules → IsFileReel r → IsPassed old now v r f place last
-    → Refuses (IsPartOfEntry w rules last) EndIsWhole (EntryShows w rules last) now new place fault → InputRefuses old new fault
-input_refuses old now new v w r f place last rules fault version same is p refused =
+pub input_refuses : {c : Recordings} (old now new : Option (List ℕ)) (v w : Version) (r : Reel) (f : Facts) (place : ℕ) (last : Option FileEntry) (rules : TileRules)
+    (fault : HoldFileFault) → w ≡ v → rules ≡ r.rules → IsFileReel c r → IsPassed old now v r f place last
+    → Refuses (IsPartOfEntry w rules last) EndIsWhole (EntryShows w rules last) now new place fault → InputRefuses c old new fault
+input_refuses {c} old now new v w r f place last rules fault version same is p refused =
     let es = file_entries (part r f) in
     let entries = are_entries v (part r f) p.well_formed p.stated in
-    Refuses-after (IsPartOfEntry w rules last) IsPartOfFile EndIsWhole FileIsWhole (EntryShows w rules last) FileShows old now new 0 place
+    Refuses-after (IsPartOfEntry w rules last) (IsPartOfFile c) EndIsWhole (FileIsWhole c) (EntryShows w rules last) (FileShows c) old now new 0 place
     (begun_text v (part r f)) fault p.text refused
-    (λ x h. subst IsPartOfFile (sym (begun-split v r f x)) (file_from_entries_part v r is _ (part_of_entries v r.rules es entries x
+    (λ x h. subst (IsPartOfFile c) (sym (begun-split v r f x)) (file_from_entries_part v r is _ (part_of_entries v r.rules es entries x
     (subst (λ (l : Option FileEntry). IsPartOfEntry v r.rules l x) p.last' (subst (λ (y : TileRules). IsPartOfEntry v y last x) same
     (subst (λ (u : Version). IsPartOfEntry u rules last x) version h))))))
-    (λ g x h. subst (FileIsWhole g) (sym (begun-split v r f x)) (file_from_whole_entries v r is g _ (part r f, x, p.well_formed, p.stated, refl, refl, h)))
-    (λ g x h. subst (FileShows g) (sym (begun-split v r f x)) (file_from_entries_fault v r is g _
+    (λ g x h. subst (FileIsWhole c g) (sym (begun-split v r f x)) (file_from_whole_entries v r is g _ (part r f, x, p.well_formed, p.stated, refl, refl, h)))
+    (λ g x h. subst (FileShows c g) (sym (begun-split v r f x)) (file_from_entries_fault v r is g _
     (entries_show v r.rules es entries g x (subst (λ (l : Option FileEntry). EntryShows v r.rules l g x) p.last'
     (subst (λ (y : TileRules). EntryShows v y last g x) same (subst (λ (u : Version). EntryShows u rules last g x) version h))))))
 
-pub passed_shows_none : (old new : Option (List ℕ)) (v : Version) (r : Reel) (f : Facts) (place : ℕ) (last : Option FileEntry) → IsFileReel r
-    → IsPassed old new v r f place last → ShowsNoFault old new
-passed_shows_none old new v r f place last is p = grind (arith, begun-is_part)
+pub passed_shows_none : {c : Recordings} (old new : Option (List ℕ)) (v : Version) (r : Reel) (f : Facts) (place : ℕ) (last : Option FileEntry) → IsFileReel c r
+    → IsPassed old new v r f place last → ShowsNoFault c old new
+passed_shows_none old new v r f place last is p =
+    record { seen = begun_text v (part r f); taken = p.text.taken; well_formed = inl (begun-is_part v r f is p.well_formed p.stated) }
 
-pub held_shows_none : (old new : Option (List ℕ)) (v : Version) (r : Reel) (f : Facts) (place : ℕ) (next : Option FileEntry) → IsFileReel r
-    → IsReadUpTo old new v r f place next → ShowsNoFault old new
+pub held_shows_none : {c : Recordings} (old new : Option (List ℕ)) (v : Version) (r : Reel) (f : Facts) (place : ℕ) (next : Option FileEntry) → IsFileReel c r
+    → IsReadUpTo old new v r f place next → ShowsNoFault c old new
 held_shows_none old new v r f place None is h = record {
   seen = begun_text v (part r f) ++ 0 ∷ [];
   taken = h.text.taken;
-  well_formed = inr (part r f, h.well_formed, is.fits, (v, h.stated, refl, is.profile));
+  well_formed = inr (part r f, h.well_formed, is, (v, h.stated, refl));
 }
 held_shows_none old new v r f place (Some e) is h = passed_shows_none old new v r (with_file_entry f e) place (Some e) is (passed old new v r f place e h)
 
@@ -87,11 +92,11 @@ pub part_read : (old new : Option (List ℕ)) (v : Version) (h : Contents) → I
     → Consumes old new (begun_text v h ++ more) → ReadsPart old new h
 part_read old new v h well_formed fits stated more taken = record { well_formed = well_formed; record' = fits; version = v; stated = stated; more = more; taken = taken }
 
-pub held_part : (old new : Option (List ℕ)) (v : Version) (r : Reel) (f : Facts) (place : ℕ) (next : Option FileEntry) → IsFileReel r
+pub held_part : {c : Recordings} (old new : Option (List ℕ)) (v : Version) (r : Reel) (f : Facts) (place : ℕ) (next : Option FileEntry) → IsFileReel c r
     → IsReadUpTo old new v r f place next → ReadsPart old new (part r f)
 held_part old new v r f place next is h = part_read old new v (part r f) h.well_formed is.fits h.stated (next_text v next) h.text.taken
 
-pub passed_part : (old new : Option (List ℕ)) (v : Version) (r : Reel) (f : Facts) (place : ℕ) (last : Option FileEntry) → IsFileReel r
+pub passed_part : {c : Recordings} (old new : Option (List ℕ)) (v : Version) (r : Reel) (f : Facts) (place : ℕ) (last : Option FileEntry) → IsFileReel c r
     → IsPassed old new v r f place last → ReadsPart old new (part r f)
 passed_part old new v r f place last is p = grind (arith, part_read, append-nil)
 
@@ -113,10 +118,10 @@ head_begins old new v h more t = grind (arith, taken_begins, append_assoc)
 -- ---- refusals after both heads
 
 one_refused_outside : (i : Inputs) (f : HoldFileFault) → OneRefuses i f → (f ≡ faults.Write → ⊥) × (f ≡ faults.OtherReel → ⊥)
-one_refused_outside i f (inl r) = (λ is. subst (InputRefuses i.left_old i.left_new) is r.0, λ is. subst (InputRefuses i.left_old i.left_new) is r.0)
-one_refused_outside i f (inr r) = (λ is. subst (InputRefuses i.right_old i.right_new) is r.0, λ is. subst (InputRefuses i.right_old i.right_new) is r.0)
+one_refused_outside i f (inl r) = (λ is. subst (InputRefuses i.recordings i.left_old i.left_new) is r.0, λ is. subst (InputRefuses i.recordings i.left_old i.left_new) is r.0)
+one_refused_outside i f (inr r) = (λ is. subst (InputRefuses i.recordings i.right_old i.right_new) is r.0, λ is. subst (InputRefuses i.recordings i.right_old i.right_new) is r.0)
 
-module _ (i : Inputs) (r : Reel) (is : IsFileReel r) (v w : Version) (left_head : StreamBegins i.left_old (head_text v r))
+module _ (i : Inputs) (r : Reel) (is : IsFileReel i.recordings r) (v w : Version) (left_head : StreamBegins i.left_old (head_text v r))
     (right_head : StreamBegins i.right_old (head_text w r)) (old new : Option (List ℕ)) where
   stopped : (f : HoldFileFault) → MergeRefuses i f → (f ≡ faults.OtherReel → ⊥) → ((f ≡ faults.Write → ⊥) → WritesNoEnd i old new)
       → (f ≡ faults.Write → StopsAtWrite i r old new) → WritesAtMost old new file_limit → Stops i old new f
@@ -138,7 +143,7 @@ module _ (i : Inputs) (r : Reel) (is : IsFileReel r) (v w : Version) (left_head 
   stops_reading x y left right written few f fault = stops_between x y left right written few f (inl fault) (one_refused_outside i f fault)
 
   -- the sink is the fault
-  pub stops_writing : ShowsNoFault i.left_old i.left_new → ShowsNoFault i.right_old i.right_new → WritesFrontSoFar i old new
+  pub stops_writing : ShowsNoFault i.recordings i.left_old i.left_new → ShowsNoFault i.recordings i.right_old i.right_new → WritesFrontSoFar i old new
       → (done : List ℕ) → Appends old new done → length done ≤ file_limit → ReadsToNext v r i.left_old i.left_new i.right_old done
       → ReadsToNext w r i.right_old i.right_new i.left_old done → Stops i old new faults.Write
   stops_writing left right front done written few left_read right_read = grind (arith, stopped)
@@ -186,10 +191,10 @@ module _ (s : Start) (left right sink : Option (List ℕ)) (lp rp room : ℕ) (l
   right_part : ReadsPart s.right right (part s.reel st.rights)
   right_part = held_part _ _ s.right_version s.reel st.rights rp rn st.reel st.right_held
 
-  pub left_shows_none : ShowsNoFault s.left left
+  pub left_shows_none : ShowsNoFault s.recordings s.left left
   left_shows_none = held_shows_none _ _ s.left_version s.reel st.lefts lp ln st.reel st.left_held
 
-  right_shows_none : ShowsNoFault s.right right
+  right_shows_none : ShowsNoFault s.recordings s.right right
   right_shows_none = held_shows_none _ _ s.right_version s.reel st.rights rp rn st.reel st.right_held
 
   -- with no other digests an entry is itself
@@ -390,7 +395,7 @@ module _ (s : Start) (left right sink : Option (List ℕ)) (lp rp room : ℕ) (l
       left_now : IsReadUpTo s.left l s.left_version s.reel (with_file_entry st.lefts e) lp' ln'
       left_now = left_on turn.0 l lp' ln' text entry follows end
 
-      pub left_now_shows_none : ShowsNoFault s.left l
+      pub left_now_shows_none : ShowsNoFault s.recordings s.left l
       left_now_shows_none = held_shows_none _ _ s.left_version s.reel _ lp' ln' st.reel left_now
 
       pub equal_stands : (r : Option (List ℕ)) (to : ℕ) (next : Option FileEntry) (u x : Version) → u ≡ v → x ≡ w → Takes right r rp to (next_text w next)
@@ -411,7 +416,7 @@ module _ (s : Start) (left right sink : Option (List ℕ)) (lp rp room : ℕ) (l
         stops_after e others o turn new room' wrote less l right f (inl (input, right_shows_none))
 
     -- reading the right one on failed
-    pub right_refused : (o : Ordering) → IsTurn ln rn e others o → (own : FileEntry) → rn ≡ Some own → (l r : Option (List ℕ)) → ShowsNoFault s.left l
+    pub right_refused : (o : Ordering) → IsTurn ln rn e others o → (own : FileEntry) → rn ≡ Some own → (l r : Option (List ℕ)) → ShowsNoFault s.recordings s.left l
         → (f : HoldFileFault) → Refuses (IsPartOfEntry w rules rn) EndIsWhole (EntryShows w rules rn) right r rp f
         → Stops (inputs_from s l r) s.sink new f
     right_refused o turn own is l r shown f refused =
@@ -419,7 +424,7 @@ module _ (s : Start) (left right sink : Option (List ℕ)) (lp rp room : ℕ) (l
         stops_after e others o turn new room' wrote less l r f (inr (input, shown))
 
 -- both inputs ended
-all_read : (old new : Option (List ℕ)) (v : Version) (r : Reel) (f : Facts) (place : ℕ) → IsFileReel r → IsReadUpTo old new v r f place None
+all_read : {c : Recordings} (old new : Option (List ℕ)) (v : Version) (r : Reel) (f : Facts) (place : ℕ) → IsFileReel c r → IsReadUpTo old new v r f place None
     → ReadsAll old new (part r f)
 all_read old new v r f place is h = grind (arith, text)
 

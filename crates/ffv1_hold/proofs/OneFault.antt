@@ -1,10 +1,10 @@
 -- No two faults are shown by beginnings of one input.
-use Rattle.ffv1_hold.proofs.Common.{◌≡◌, ℕ, ◌<◌, ◌≤◌, ◌^◌, List, [], ◌∷◌, ◌++◌, length, Option, Some, None, refl, sym, ap, ◌∙◌, subst, inl, inr, arith, append_assoc, ◌⊎◌, record_limit, SetupFault, TileRules, FirstSetupFault, one_setup_fault, HoldFileFault, Version, Reel, FileEntry, be4, magic, sized_record, head_text, body_text, entries_text, last_of, AreEntries, EntryShows, ReelShows, MagicShows, FileShows}
+use Rattle.ffv1_hold.proofs.Common.{◌≡◌, ℕ, ◌<◌, ◌≤◌, ◌^◌, List, [], ◌∷◌, ◌++◌, length, Option, Some, None, refl, sym, ap, ◌∙◌, subst, inl, inr, arith, append_assoc, ◌⊎◌, record_limit, SetupFault, TileRules, FirstRecordFault, Recordings, Bool, HasVersion, IsFileReel, IsMagic, IsMisnamed, recordings_of, HoldFileFault, Version, Reel, FileEntry, be4, magic, sized_record, head_text, body_text, entries_text, last_of, AreEntries, EntryShows, ReelShows, MagicShows, FileShows}
 use Rattle.ffv1_hold.specs.declared.file_fault.HoldFileFault.TheVariants as faults
 use Rattle.ffv1_hold.proofs.NumberTexts.{no_tag, rest_same, number_same, after_number}
 use Rattle.ffv1_hold.proofs.BodyTexts.{same_body, body_one}
-use Rattle.ffv1_hold.proofs.TextLaws.{short_reel, entries_after, none_after, AreFitting, fitting_all, same_sized, same_head, after_magic, head_parts, sized_parts}
-use Rattle.ffv1_hold.proofs.FaultLaws.{last_from, last_of-none, AreValid, valid_list, entry_kinds, right_none, magic_none, reel_none}
+use Rattle.ffv1_hold.proofs.TextLaws.{short_reel, entries_after, none_after, AreFitting, fitting_all, same_sized, same_head, same_name, after_magic, head_parts, sized_parts}
+use Rattle.ffv1_hold.proofs.FaultLaws.{last_from, last_of-none, AreValid, valid_list, entry_kinds, right_none, magic_none, reel_none, not_both}
 
 module _ (v : Version) (rules : TileRules) where
   -- two faults of one entry
@@ -41,14 +41,37 @@ module _ (v : Version) (rules : TileRules) where
 abbrev pub ShowsRecordLength : HoldFileFault → List ℕ → Type 0
 ShowsRecordLength f s = (w h n : ℕ) × (f ≡ faults.TooLong) × (s ≡ be4 w ++ be4 h ++ be4 n) × (record_limit < n) × (n < 2 ^ 32)
 
-abbrev pub ShowsSetup : HoldFileFault → List ℕ → Type 0
-ShowsSetup f s = (k : SetupFault) × (config : List ℕ) × (w h : ℕ) × (f ≡ faults.Setup k) × (s ≡ sized_record config w h) × (length config ≤ record_limit)
-    × (w < 2 ^ 32) × (h < 2 ^ 32) × FirstSetupFault config w h k
+-- the fault of a record that was read whole after a magic
+abbrev pub IsRecordFault : Bool → HoldFileFault → List ℕ → ℕ → ℕ → Type 0
+IsRecordFault p (faults.Setup f) config w h = FirstRecordFault (recordings_of p) config w h f
+IsRecordFault p faults.Magic config w h = IsMisnamed p config w h
+IsRecordFault p _ config w h = ⊥
 
-pub reel_kinds : (f : HoldFileFault) (s : List ℕ) → ReelShows f s → ShowsRecordLength f s ⊎ ShowsSetup f s
-reel_kinds faults.TooLong s (w, h, n, split, over, small) = inl (w, h, n, refl, split, over, small)
-reel_kinds (faults.Setup k) s (config, w, h, split, fits, wide, high, first) = inr (k, config, w, h, refl, split, fits, wide, high, first)
-reel_kinds _ s shown = absurd shown
+abbrev pub ShowsRecord : Bool → HoldFileFault → List ℕ → Type 0
+ShowsRecord p f s =
+    (config : List ℕ) × (w h : ℕ) × (s ≡ sized_record config w h) × (length config ≤ record_limit) × (w < 2 ^ 32) × (h < 2 ^ 32) × IsRecordFault p f config w h
+
+pub reel_kinds : (p : Bool) (f : HoldFileFault) (s : List ℕ) → ReelShows p f s → ShowsRecordLength f s ⊎ ShowsRecord p f s
+reel_kinds p faults.TooLong s (w, h, n, split, over, small) = inl (w, h, n, refl, split, over, small)
+reel_kinds p (faults.Setup k) s shown = inr shown
+reel_kinds p faults.Magic s shown = inr shown
+reel_kinds p _ s shown = absurd shown
+
+after_setup_fault : (p : Bool) (f : SetupFault) (g : HoldFileFault) (config : List ℕ) (w h : ℕ) → IsRecordFault p (faults.Setup f) config w h
+    → IsRecordFault p g config w h → faults.Setup f ≡ g
+after_setup_fault p f (faults.Setup g) config w h a b = let both = sym a ∙ b in cc
+after_setup_fault p f faults.Magic config w h a b = absurd (not_both p f config w h a b)
+after_setup_fault p f _ config w h a b = absurd b
+
+after_misnamed : (p : Bool) (g : HoldFileFault) (config : List ℕ) (w h : ℕ) → IsMisnamed p config w h → IsRecordFault p g config w h → faults.Magic ≡ g
+after_misnamed p (faults.Setup g) config w h a b = absurd (not_both p g config w h b a)
+after_misnamed p faults.Magic config w h a b = refl
+after_misnamed p _ config w h a b = absurd b
+
+one_record_fault : (p : Bool) (f g : HoldFileFault) (config : List ℕ) (w h : ℕ) → IsRecordFault p f config w h → IsRecordFault p g config w h → f ≡ g
+one_record_fault p (faults.Setup f) g config w h a b = after_setup_fault p f g config w h a b
+one_record_fault p faults.Magic g config w h a b = after_misnamed p g config w h a b
+one_record_fault p _ g config w h a b = absurd a
 
 record_apart : (w h n : ℕ) (config : List ℕ) (v k : ℕ) (y z : List ℕ) → record_limit < n → n < 2 ^ 32 → length config ≤ record_limit
     → (be4 w ++ be4 h ++ be4 n) ++ y ≡ sized_record config v k ++ z → ⊥
@@ -59,47 +82,66 @@ record_apart w h n config v k y z over small fits same =
     let is = number_same n (length config) _ _ two small (omega arith) in
     omega arith
 
-reel_one : (f g : HoldFileFault) (s t y z : List ℕ) → s ++ y ≡ t ++ z → ReelShows f s → ReelShows g t → f ≡ g
-reel_one f g s t y z same a b = elim (reel_kinds f s a) [
-  | inl x ↦ elim (reel_kinds g t b) [
+reel_one : (p : Bool) (f g : HoldFileFault) (s t y z : List ℕ) → s ++ y ≡ t ++ z → ReelShows p f s → ReelShows p g t → f ≡ g
+reel_one p f g s t y z same a b = elim (reel_kinds p f s a) [
+  | inl x ↦ elim (reel_kinds p g t b) [
     | inl v ↦ x.3 ∙ sym v.3
-    | inr v ↦ absurd (record_apart x.0 x.1 x.2 v.1 v.2 v.3 y z x.5 x.6 v.6 (sym (ap (λ q. q ++ y) x.4) ∙ same ∙ ap (λ q. q ++ z) v.5))
+    | inr v ↦ absurd (record_apart x.0 x.1 x.2 v.0 v.1 v.2 y z x.5 x.6 v.4 (sym (ap (λ q. q ++ y) x.4) ∙ same ∙ ap (λ q. q ++ z) v.3))
   ]
-  | inr x ↦ elim (reel_kinds g t b) [
-    | inl v ↦ absurd (record_apart v.0 v.1 v.2 x.1 x.2 x.3 z y v.5 v.6 x.6 (sym (ap (λ q. q ++ z) v.4) ∙ sym same ∙ ap (λ q. q ++ y) x.5))
+  | inr x ↦ elim (reel_kinds p g t b) [
+    | inl v ↦ absurd (record_apart v.0 v.1 v.2 x.0 x.1 x.2 z y v.5 v.6 x.4 (sym (ap (λ q. q ++ z) v.4) ∙ sym same ∙ ap (λ q. q ++ y) x.3))
     | inr v ↦
-        let parts = same_sized x.1 v.1 x.2 x.3 v.2 v.3 y z x.6 v.6 x.7 x.8 v.7 v.8 (sym (ap (λ q. q ++ y) x.5) ∙ same ∙ ap (λ q. q ++ z) v.5) in
-        let moved : FirstSetupFault v.1 v.2 v.3 x.0 = subst (λ c. FirstSetupFault c v.2 v.3 x.0) parts.config
-        (subst (λ w. FirstSetupFault x.1 w v.3 x.0) parts.width (subst (λ h. FirstSetupFault x.1 x.2 h x.0) parts.height x.9)) in
-        x.4 ∙ ap faults.Setup (one_setup_fault v.1 v.2 v.3 x.0 v.0 moved v.9) ∙ sym v.4
+        let parts = same_sized x.0 v.0 x.1 x.2 v.1 v.2 y z x.4 v.4 x.5 x.6 v.5 v.6 (sym (ap (λ q. q ++ y) x.3) ∙ same ∙ ap (λ q. q ++ z) v.3) in
+        let moved : IsRecordFault p f v.0 v.1 v.2 = subst (λ c. IsRecordFault p f c v.1 v.2) parts.config
+        (subst (λ w. IsRecordFault p f x.0 w v.2) parts.width (subst (λ h. IsRecordFault p f x.0 x.1 h) parts.height x.7)) in
+        one_record_fault p f g v.0 v.1 v.2 moved v.7
   ]
 ]
 
-magic_is : (f : HoldFileFault) (s : List ℕ) → MagicShows f s → f ≡ faults.Magic
-magic_is faults.Magic s shown = refl
-magic_is _ s shown = absurd shown
+magic_is : (q : Recordings) (f : HoldFileFault) (s : List ℕ) → MagicShows q f s → f ≡ faults.Magic
+magic_is q faults.Magic s shown = refl
+magic_is q _ s shown = absurd shown
 
 -- ---- the whole file
 
-pub head_on : (v : Version) (r : Reel) (x y : List ℕ) → (head_text v r ++ x) ++ y ≡ magic v ++ (sized_record r.config r.setup.width r.setup.height ++ (x ++ y))
+pub head_on : (v : Version) (r : Reel) (x y : List ℕ) → (head_text v r ++ x) ++ y ≡ magic r.rules.is_profile v ++ (sized_record r.config r.setup.width r.setup.height ++ (x ++ y))
 head_on v r x y = append_assoc (head_text v r) x y ∙ head_parts v r (x ++ y)
 
-pub one_fault : (f g : HoldFileFault) (s t y z : List ℕ) → s ++ y ≡ t ++ z → FileShows f s → FileShows g t → f ≡ g
-one_fault f g s t y z same (inl a) (inl b) = magic_is f s a ∙ sym (magic_is g t b)
-one_fault f g s t y z same (inl a) (inr (inl (w, u, split, b))) = grind (arith, magic_none, append_assoc)
-one_fault f g s t y z same (inl a) (inr (inr (w, r, u, r_is, split, b))) = grind (arith, magic_none, head_on)
-one_fault f g s t y z same (inr (inl (w, u, split, a))) (inl b) = grind (arith, magic_none, append_assoc)
-one_fault f g s t y z same (inr (inr (w, r, u, r_is, split, a))) (inl b) = grind (arith, magic_none, head_on)
-one_fault f g s t y z same (inr (inl (w, u, u_split, a))) (inr (inl (x, v, v_split, b))) = grind (arith, reel_one, after_magic, append_assoc)
-one_fault f g s t y z same (inr (inl (w, u, u_split, a))) (inr (inr (x, r, v, r_is, v_split, b))) =
-    absurd (reel_none r r_is (v ++ z) y f u (after_magic x w _ _ (sym (head_on x r v z)
-    ∙ sym (ap (λ q. q ++ z) v_split) ∙ sym same ∙ ap (λ q. q ++ y) u_split ∙ append_assoc (magic w) u y)) a)
-one_fault f g s t y z same (inr (inr (w, r, u, r_is, u_split, a))) (inr (inl (x, v, v_split, b))) =
-    absurd (reel_none r r_is (u ++ y) z g v (after_magic w x _ _ (sym (head_on w r u y)
-    ∙ sym (ap (λ q. q ++ y) u_split) ∙ same ∙ ap (λ q. q ++ z) v_split ∙ append_assoc (magic x) v z)) b)
-one_fault f g s t y z same (inr (inr (w, r, u, r_is, u_split, (fs, p, f_all, f_inner, a)))) (inr (inr (x, q, v, q_is, v_split, (gs, o, g_all, g_inner, b)))) =
-    let heads = same_head w x r q (u ++ y) (v ++ z) (short_reel r r_is) (short_reel q q_is) (sym (append_assoc (head_text w r) u y)
-    ∙ sym (ap (λ k. k ++ y) u_split) ∙ same ∙ ap (λ k. k ++ z) v_split ∙ append_assoc (head_text x q) v z) in
+-- a magic that is read shows no fault of one
+after_a_magic : (q : Recordings) (p : Bool) (v : Version) → IsMagic q p v → (f : HoldFileFault) (s u y z : List ℕ) → s ++ y ≡ (magic p v ++ u) ++ z
+    → MagicShows q f s → ⊥
+after_a_magic q p v m f s u y z same a = magic_none q p v m (u ++ z) y s f (sym (append_assoc (magic p v) u z) ∙ sym same) a
+
+after_a_head : (q : Recordings) (v : Version) (r : Reel) → IsFileReel q r → HasVersion v r.rules.is_profile → (f : HoldFileFault) (s u y z : List ℕ)
+    → s ++ y ≡ (head_text v r ++ u) ++ z → MagicShows q f s → ⊥
+after_a_head q v r is has f s u y z same a =
+    magic_none q r.rules.is_profile v (is.taken, has) (sized_record r.config r.setup.width r.setup.height ++ (u ++ z)) y s f (sym (head_on v r u z) ∙ sym same) a
+
+-- a record that is refused is no reel's
+after_a_reel : {q : Recordings} (p : Bool) (w x : Version) (r : Reel) → IsFileReel q r → (f : HoldFileFault) (u v y z : List ℕ)
+    → (magic p w ++ u) ++ y ≡ (head_text x r ++ v) ++ z → ReelShows p f u → ⊥
+after_a_reel p w x r is f u v y z same a =
+    let magics = sym (head_on x r v z) ∙ sym same ∙ append_assoc (magic p w) u y in
+    reel_none r is (v ++ z) y p (sym (same_name r.rules.is_profile p x w _ _ magics)) f u (after_magic r.rules.is_profile p x w _ _ magics) a
+
+pub one_fault : (q : Recordings) (f g : HoldFileFault) (s t y z : List ℕ) → s ++ y ≡ t ++ z → FileShows q f s → FileShows q g t → f ≡ g
+one_fault q f g s t y z same (inl a) (inl b) = magic_is q f s a ∙ sym (magic_is q g t b)
+one_fault q f g s t y z same (inl a) (inr (inl (p, w, u, m, split, b))) = absurd (after_a_magic q p w m f s u y z (same ∙ ap (λ k. k ++ z) split) a)
+one_fault q f g s t y z same (inl a) (inr (inr (w, r, u, r_is, split, b))) =
+    absurd (after_a_head q w r r_is b.2.version f s u y z (same ∙ ap (λ k. k ++ z) split) a)
+one_fault q f g s t y z same (inr (inl (p, w, u, m, split, a))) (inl b) = absurd (after_a_magic q p w m g t u z y (sym same ∙ ap (λ k. k ++ y) split) b)
+one_fault q f g s t y z same (inr (inr (w, r, u, r_is, split, a))) (inl b) =
+    absurd (after_a_head q w r r_is a.2.version g t u z y (sym same ∙ ap (λ k. k ++ y) split) b)
+one_fault q f g s t y z same (inr (inl (p, w, u, m, u_split, a))) (inr (inl (o, x, v, n, v_split, b))) =
+    let magics = sym (append_assoc (magic p w) u y) ∙ sym (ap (λ k. k ++ y) u_split) ∙ same ∙ ap (λ k. k ++ z) v_split ∙ append_assoc (magic o x) v z in
+    reel_one p f g u v y z (after_magic p o w x _ _ magics) a (subst (λ k. ReelShows k g v) (sym (same_name p o w x _ _ magics)) b)
+one_fault q f g s t y z same (inr (inl (p, w, u, m, u_split, a))) (inr (inr (x, r, v, r_is, v_split, b))) =
+    absurd (after_a_reel p w x r r_is f u v y z (sym (ap (λ k. k ++ y) u_split) ∙ same ∙ ap (λ k. k ++ z) v_split) a)
+one_fault q f g s t y z same (inr (inr (w, r, u, r_is, u_split, a))) (inr (inl (p, x, v, m, v_split, b))) =
+    absurd (after_a_reel p x w r r_is g v u z y (sym (ap (λ k. k ++ z) v_split) ∙ sym same ∙ ap (λ k. k ++ y) u_split) b)
+one_fault q f g s t y z same (inr (inr (w, r, u, r_is, u_split, (fs, p, f_all, f_inner, a)))) (inr (inr (x, o, v, o_is, v_split, (gs, k, g_all, g_inner, b)))) =
+    let heads = same_head w x r o (u ++ y) (v ++ z) (short_reel r r_is) (short_reel o o_is) f_all.version g_all.version (sym (append_assoc (head_text w r) u y)
+    ∙ sym (ap (λ k. k ++ y) u_split) ∙ same ∙ ap (λ k. k ++ z) v_split ∙ append_assoc (head_text x o) v z) in
     let rules = ap (λ (k : Reel). k.rules) heads.1 in
     let fs_all = subst (λ (k : Version). AreEntries k r.rules fs) heads.0 f_all in
-    cc (entries_one x q.rules None fs gs (subst (λ (k : TileRules). AreValid x k None fs) rules (valid_list x r.rules fs fs_all)) (valid_list x q.rules gs g_all) (fitting_all x r r_is.reel fs fs_all.each) (fitting_all x q q_is.reel gs g_all.each) f g p o y z (sym (ap (λ k. k ++ y) (f_inner ∙ ap (λ (n : Version). entries_text n fs ++ p) heads.0)) ∙ heads.2 ∙ ap (λ k. k ++ z) g_inner) (subst (λ (l : Option FileEntry). EntryShows x q.rules l f p) (last_of-none fs) (subst (λ (k : TileRules). EntryShows x k (last_of fs) f p) rules (subst (λ (k : Version). EntryShows k r.rules (last_of fs) f p) heads.0 a))) (subst (λ (l : Option FileEntry). EntryShows x q.rules l g o) (last_of-none gs) b))
+    cc (entries_one x o.rules None fs gs (subst (λ (n : TileRules). AreValid x n None fs) rules (valid_list x r.rules fs fs_all)) (valid_list x o.rules gs g_all) (fitting_all x r r_is.reel fs fs_all.each) (fitting_all x o o_is.reel gs g_all.each) f g p k y z (sym (ap (λ j. j ++ y) (f_inner ∙ ap (λ (n : Version). entries_text n fs ++ p) heads.0)) ∙ heads.2 ∙ ap (λ j. j ++ z) g_inner) (subst (λ (l : Option FileEntry). EntryShows x o.rules l f p) (last_of-none fs) (subst (λ (k : TileRules). EntryShows x k (last_of fs) f p) rules (subst (λ (k : Version). EntryShows k r.rules (last_of fs) f p) heads.0 a))) (subst (λ (l : Option FileEntry). EntryShows x o.rules l g k) (last_of-none gs) b))

@@ -1,6 +1,6 @@
 -- The digests that a text gives a slice, by what was read of it: where the next entry follows the slice, the entries that were read give
 -- all of them.
-use Rattle.ffv1_hold.proofs.Common.{◌≡◌, ℕ, suc, ◌<◌, cond, Bool, true, false, ◌||◌, List, [], ◌∷◌, ◌++◌, length, map, get_or, Option, Some, None, IfSome, refl, sym, ap, ◌∙◌, subst, inr, arith, append-nil, true≢false, list_any, Consumes, is_eq, eq_by_cmp, Less, false_from_ne_true, Entry, entry_cmp, entries_total, origins_total, origins_antisymmetric, IsRising, Reel, digests_in, Contents, IsHolding, digests_of, joined, rising_rest, items-rising, or_cases, Version, Second, FileEntry, entry_text, entries_text, begun_text, file_entries, IsStated, IsFileEntryOf, file_entry_cmp, next_text, IsFileReel, AreAllDigests, IsFileOf, IsFileOfSome, ReadsAll, Facts, part, both, IsReadUpTo, FollowsAll, ReadsToNext}
+use Rattle.ffv1_hold.proofs.Common.{◌≡◌, ℕ, suc, ◌<◌, cond, Bool, true, false, ◌||◌, List, [], ◌∷◌, ◌++◌, length, map, get_or, Option, Some, None, IfSome, refl, sym, ap, ◌∙◌, subst, inr, arith, append-nil, true≢false, list_any, Consumes, is_eq, eq_by_cmp, Less, false_from_ne_true, Entry, entry_cmp, entries_total, origins_total, origins_antisymmetric, IsRising, Reel, digests_in, Contents, IsHolding, digests_of, joined, rising_rest, items-rising, or_cases, Version, Second, FileEntry, entry_text, entries_text, begun_text, file_entries, IsStated, IsFileEntryOf, file_entry_cmp, next_text, IsFileReel, AreAllDigests, IsFileOf, IsFileOfSome, ReadsAll, Facts, part, both, IsReadUpTo, FollowsAll, ReadsToNext, Recordings}
 use Rattle.ffv1_holding.specs.Sets as set
 use Rattle.ffv1_hold.proofs.DigestSets.{has, entry_tie, has-digests_in, digests_rise, same_digests}
 use Rattle.ffv1_hold.proofs.HeldEntries.{above_all, are_entries}
@@ -73,7 +73,7 @@ pub all_read_to : (old new : Option (List ℕ)) (r : Reel) (f : Facts) (a : Read
 all_read_to old new r f a = record { well_formed = a.well_formed; stated = a.file.fits.stated; entry = tt; taken = a.file.taken }
 
 -- what follows the entries that were read, the next one and others, gives no digests of a slice before it
-rest_states_none : (w : Version) (r : Reel) → IsFileReel r → (e : Entry) (rest : List FileEntry) (bytes : List ℕ) (next : Option FileEntry)
+rest_states_none : {c : Recordings} (w : Version) (r : Reel) → IsFileReel c r → (e : Entry) (rest : List FileEntry) (bytes : List ℕ) (next : Option FileEntry)
     → IfSome next (IsFileEntryOf w r.rules) → IfSome next (λ n. entry_cmp e n.0 ≡ Less) → AreFitting w rest → IsRising file_entry_cmp rest
     → entries_text w rest ++ 0 ∷ [] ≡ next_text w next ++ bytes → stated_in rest e ≡ []
 rest_states_none w r is e [] bytes None entry below fit up same = refl
@@ -84,7 +84,7 @@ rest_states_none w r is e rest bytes (Some x) entry below fit up same =
     cc (stated_above x front.0 e (subst (IsRising file_entry_cmp) front.1 up) below)
 
 -- the entries that were read give all digests of a slice before the next one
-digests_read : (v w : Version) (h : Contents) (r : Reel) (is : IsFileReel r) (old new : Option (List ℕ)) (f : Facts) (next : Option FileEntry) → IsFileOf old v h
+digests_read : {c : Recordings} (v w : Version) (h : Contents) (r : Reel) (is : IsFileReel c r) (old new : Option (List ℕ)) (f : Facts) (next : Option FileEntry) → IsFileOf old v h
     → IsReadTo old new w r f next → (e : Entry) → IfSome next (λ n. entry_cmp e n.0 ≡ Less) → digests_of h e ≡ digests_of (part r f) e
 digests_read v w h r is old new f next file read e below =
     let some = file_entries (part r f) in
@@ -141,7 +141,7 @@ left_gives r f g h k e left right = digests_both r f g h k e left right
 pub right_gives : (r : Reel) (f g : Facts) → GiveBoth r g f (both f g)
 right_gives r f g h k e right left = digests_both r f g k h e left right ∙ digests-swap k h e
 
-module _ (r : Reel) (is : IsFileReel r) (old new beside now : Option (List ℕ)) (v w : Version) (f g all : Facts) (next also : Option FileEntry)
+module _ {c : Recordings} (r : Reel) (is : IsFileReel c r) (old new beside now : Option (List ℕ)) (v w : Version) (f g all : Facts) (next also : Option FileEntry)
     (read : IsReadTo old new v r f next) (other_read : IsReadTo beside now w r g also) (inside : IsWithin f all) (follows : FollowsAll r all next)
     (also_follows : FollowsAll r all also) (give : GiveBoth r f g all) where
   are_all : (u : Version) (h : Contents) (other : Option Contents) → IsFileOf old u h → IsFileOfSome beside other → (e : Entry) → set.contains f.0 e ≡ true

@@ -1,10 +1,10 @@
 -- Texts of holdings are read in one way only.
-use Rattle.ffv1_hold.proofs.Common.{◌≡◌, ℕ, ◌<◌, ◌≤◌, ◌^◌, ◌==◌, List, [], ◌∷◌, ◌++◌, length, get_or, refl, sym, ap, ◌∙◌, subst, arith, append_assoc, AllByRecursion, record_limit, reel_small, HeadLimits, reel_limits, reel_tiles_few, slice_in_grid, Reel, IsReel, Contents, IsHolding, Version, First, Second, FileEntry, be4, magic, version_number, sized_record, head_text, body_text, entry_text, entries_text, file_entries, file_text, IsStated, IsTextOf, HasText, IsFileEntryOf, IsFileReel, same_reel, ◌*◌}
+use Rattle.ffv1_hold.proofs.Common.{◌≡◌, ℕ, ◌<◌, ◌≤◌, ◌^◌, ◌==◌, Bool, true, false, List, [], ◌∷◌, ◌++◌, length, get_or, refl, sym, ap, ◌∙◌, subst, arith, append_assoc, AllByRecursion, record_limit, reel_small, HeadLimits, reel_limits, reel_tiles_few, slice_in_grid, Reel, IsReel, Contents, IsHolding, Version, First, Second, FileEntry, HasVersion, Recordings, be4, magic, sized_record, head_text, body_text, entry_text, entries_text, file_entries, file_text, IsStated, IsTextOf, HasText, IsFileEntryOf, IsFileReel, same_reel, ◌*◌}
 use Rattle.ffv1_hold.proofs.NumberTexts.{same_front, same_back, no_tag, rest_same, number_same, after_number}
 use Rattle.ffv1_hold.proofs.DigestTexts.{has_text_after}
 use Rattle.ffv1_hold.proofs.BodyTexts.{same_body}
 use Rattle.ffv1_hold.proofs.Slots.{entries_text-none, entries_text-cons}
-use Rattle.ffv1_hold.proofs.HeldEntries.{are_entries, same_contents}
+use Rattle.ffv1_hold.proofs.HeldEntries.{are_entries, same_contents, version_of}
 
 -- ---- entries and the end tag
 
@@ -61,35 +61,56 @@ pub same_sized : (c d : List ℕ) (w h v k : ℕ) (x y : List ℕ) → length c 
     → sized_record c w h ++ x ≡ sized_record d v k ++ y → record { width : w ≡ v; height : h ≡ k; config : c ≡ d; rest : x ≡ y }
 same_sized c d w h v k x y c_fits d_fits w_fits h_fits v_fits k_fits e = grind (arith, sized_parts, after_number, number_same, same_front, same_back)
 
-pub head_parts : (v : Version) (r : Reel) (x : List ℕ) → head_text v r ++ x ≡ magic v ++ (sized_record r.config r.setup.width r.setup.height ++ x)
+pub head_parts : (v : Version) (r : Reel) (x : List ℕ) → head_text v r ++ x ≡ magic r.rules.is_profile v ++ (sized_record r.config r.setup.width r.setup.height ++ x)
 unfolding head_text
-head_parts v r x = append_assoc (magic v) (sized_record r.config r.setup.width r.setup.height) x
+head_parts v r x = append_assoc (magic r.rules.is_profile v) (sized_record r.config r.setup.width r.setup.height) x
 
-same_number : (v w : Version) → version_number v ≡ version_number w → v ≡ w
-same_number First First e = refl
-same_number First Second e = absurd (omega arith)
-same_number Second First e = absurd (omega arith)
-same_number Second Second e = refl
+-- two magics that begin the same bytes are of the same recordings, ..
+pub same_name : (p q : Bool) (v w : Version) (x y : List ℕ) → magic p v ++ x ≡ magic q w ++ y → p ≡ q
+same_name true true v w x y e = refl
+same_name true false v w x y e = let letter = ap (λ z. get_or z 4 0) e in absurd (omega arith)
+same_name false true v w x y e = let letter = ap (λ z. get_or z 4 0) e in absurd (omega arith)
+same_name false false v w x y e = refl
 
--- two magics that begin the same bytes are of one version
-pub same_version : (v w : Version) (x y : List ℕ) → magic v ++ x ≡ magic w ++ y → v ≡ w
-same_version v w x y e = same_number v w (ap (λ z. get_or z 7 0) e)
+-- .. and of one version
+pub same_version : (p : Bool) (v w : Version) → HasVersion v p → HasVersion w p → (x y : List ℕ) → magic p v ++ x ≡ magic p w ++ y → v ≡ w
+same_version p First First v_has w_has x y e = refl
+same_version p First Second v_has w_has x y e =
+    let number = ap (λ z. get_or z 7 0) (subst (λ b. magic b First ++ x ≡ magic b Second ++ y) v_has e) in absurd (omega arith)
+same_version p Second First v_has w_has x y e =
+    let number = ap (λ z. get_or z 7 0) (subst (λ b. magic b Second ++ x ≡ magic b First ++ y) w_has e) in absurd (omega arith)
+same_version p Second Second v_has w_has x y e = refl
 
-pub after_magic : (v w : Version) (x y : List ℕ) → magic v ++ x ≡ magic w ++ y → x ≡ y
-after_magic v w x y e = same_back (magic v) (magic w) x y refl e
+pub after_magic : (p q : Bool) (v w : Version) (x y : List ℕ) → magic p v ++ x ≡ magic q w ++ y → x ≡ y
+after_magic p q v w x y e = same_back (magic p v) (magic q w) x y refl e
 
 -- a reel whose record is within its limit
 pub record IsShortReel (r : Reel) : Type 0 where
   pub reel : IsReel r
   pub fits : length r.config ≤ record_limit
 
-pub short_reel : (r : Reel) → IsFileReel r → IsShortReel r
+pub short_reel : {q : Recordings} (r : Reel) → IsFileReel q r → IsShortReel r
 short_reel r is = record { reel = is.reel; fits = is.fits }
 
--- two heads that begin the same bytes are the same
-pub same_head : (v w : Version) (r s : Reel) (x y : List ℕ) → IsShortReel r → IsShortReel s → head_text v r ++ x ≡ head_text w s ++ y
-    → (v ≡ w) × (r ≡ s) × (x ≡ y)
-same_head v w r s x y r_is s_is e = grind (arith, reel_small, head_parts, after_magic, same_sized, same_version, same_reel)
+-- two heads that begin the same bytes are of one reel, and the same follows them
+pub one_reel : (v w : Version) (r s : Reel) (x y : List ℕ) → IsShortReel r → IsShortReel s → head_text v r ++ x ≡ head_text w s ++ y → (r ≡ s) × (x ≡ y)
+one_reel v w r s x y r_is s_is e = grind (arith, reel_small, head_parts, after_magic, same_sized, same_reel)
+
+-- and of one version, where both have theirs
+pub same_head : (v w : Version) (r s : Reel) (x y : List ℕ) → IsShortReel r → IsShortReel s → HasVersion v r.rules.is_profile
+    → HasVersion w s.rules.is_profile → head_text v r ++ x ≡ head_text w s ++ y → (v ≡ w) × (r ≡ s) × (x ≡ y)
+same_head v w r s x y r_is s_is v_has w_has e =
+    let one = one_reel v w r s x y r_is s_is e in
+    let p = r.rules.is_profile in
+    let same = ap (λ (k : Reel). k.rules.is_profile) (sym one.0) in
+    let magics = sym (head_parts v r x) ∙ e ∙ head_parts w s y in (
+      same_version p v w v_has (subst (HasVersion w) same w_has) (sized_record r.config r.setup.width r.setup.height ++ x)
+          (sized_record s.config s.setup.width s.setup.height ++ y)
+          (subst (λ b. magic p v ++ (sized_record r.config r.setup.width r.setup.height ++ x)
+          ≡ magic b w ++ (sized_record s.config s.setup.width s.setup.height ++ y)) same magics),
+      one.0,
+      one.1,
+    )
 
 -- ---- whole texts
 
@@ -101,6 +122,7 @@ pub one_file : (v w : Version) (g h : Contents) → IsHolding g → IsHolding h 
     → IsStated v g → IsStated w h → file_text v g ≡ file_text w h → g ≡ h
 one_file v w g h g_is h_is g_fits h_fits g_stated h_stated e =
     let heads = same_head v w g.reel h.reel _ _ (record { reel = g_is.reel; fits = g_fits }) (record { reel = h_is.reel; fits = h_fits })
+    (version_of v g g_stated) (version_of w h h_stated)
     (sym (text_parts v g) ∙ e ∙ text_parts w h) in
     let stated = subst (λ (u : Version). IsStated u h) (sym heads.0) h_stated in
     let tail = heads.2 ∙ ap (λ (u : Version). entries_text u (file_entries h) ++ 0 ∷ []) (sym heads.0) in
@@ -108,4 +130,4 @@ one_file v w g h g_is h_is g_fits h_fits g_stated h_stated e =
 
 pub one_text : (g h : Contents) (text : List ℕ) → IsHolding g → IsHolding h → length g.reel.config ≤ record_limit → length h.reel.config ≤ record_limit
     → IsTextOf text g → IsTextOf text h → g ≡ h
-one_text g h text g_is h_is g_fits h_fits (v, g_stated, e, _) (w, h_stated, f, _) = one_file v w g h g_is h_is g_fits h_fits g_stated h_stated (sym e ∙ f)
+one_text g h text g_is h_is g_fits h_fits (v, g_stated, e) (w, h_stated, f) = one_file v w g h g_is h_is g_fits h_fits g_stated h_stated (sym e ∙ f)

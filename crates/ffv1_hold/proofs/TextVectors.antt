@@ -1,5 +1,5 @@
 -- The text of the entries of two slices of tile 0 (samples 1 and 0 of a tile of one sample), in both versions, and of a digest.
-use Rattle.ffv1_hold.proofs.Common.{◌≡◌, ℕ, List, [], ◌∷◌, ◌++◌, refl, First, Second, FileEntry, magic, be2, be4, slice_text, origins_text, body_text, entries_text}
+use Rattle.ffv1_hold.proofs.Common.{◌≡◌, ℕ, List, [], ◌∷◌, ◌++◌, refl, First, Second, FileEntry, magic, be2, be4, slice_text, origins_text, body_text, entries_text, true, false}
 
 abbrev zero_sample : List ℕ
 zero_sample = 253 ∷ 246 ∷ 128 ∷ 0 ∷ 0 ∷ 3 ∷ 0 ∷ 28 ∷ 62 ∷ 160 ∷ 155 ∷ []
@@ -27,8 +27,11 @@ two_digests : (d e : List ℕ) → origins_text (d ∷ e ∷ []) ≡ 0 ∷ 0 ∷
 unfolding origins_text be4
 two_digests d e = refl
 
-first_magic : magic First ≡ 70 ∷ 70 ∷ 86 ∷ 49 ∷ 72 ∷ 76 ∷ 68 ∷ 1 ∷ []
+first_magic : magic true First ≡ 70 ∷ 70 ∷ 86 ∷ 49 ∷ 72 ∷ 76 ∷ 68 ∷ 1 ∷ []
 first_magic = refl
 
-second_magic : magic Second ≡ 70 ∷ 70 ∷ 86 ∷ 49 ∷ 72 ∷ 76 ∷ 68 ∷ 2 ∷ []
+second_magic : magic true Second ≡ 70 ∷ 70 ∷ 86 ∷ 49 ∷ 72 ∷ 76 ∷ 68 ∷ 2 ∷ []
 second_magic = refl
+
+any_magic : magic false Second ≡ 70 ∷ 70 ∷ 86 ∷ 49 ∷ 65 ∷ 78 ∷ 89 ∷ 1 ∷ []
+any_magic = refl

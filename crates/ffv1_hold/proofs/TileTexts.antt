@@ -120,5 +120,5 @@ stated_begun h is fits q there =
     let within = own_within h q items (sym (set.contains-items h.slices q) ∙ there) in
     omega (arith, within, fits, length-append (head_text Second h.reel) (entries_text Second (map (own h) items)), length-entries_text h is items)
 
-pub fits_within : (h : Contents) → IsHolding h → h.reel.rules.is_profile ≡ true → (length h.reel.config ≤ record_limit) × (length (holding_text h) ≤ file_limit) → FitsInFile Second h
-fits_within h is profile fits = grind (arith, stated, stated_begun, length-append)
+pub fits_within : (h : Contents) → IsHolding h → (length h.reel.config ≤ record_limit) × (length (holding_text h) ≤ file_limit) → FitsInFile Second h
+fits_within h is fits = grind (arith, stated, stated_begun, length-append)

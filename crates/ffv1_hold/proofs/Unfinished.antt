@@ -1,9 +1,9 @@
 -- No beginning of an unfinished file shows a fault.
-use Rattle.ffv1_hold.proofs.Common.{◌≡◌, ℕ, ◌<◌, ◌^◌, List, [], ◌∷◌, ◌++◌, length, take, drop, Option, Some, None, refl, sym, ap, ◌∙◌, subst, inl, inr, arith, append_assoc, append-nil, length-append, take-append-drop, record_limit, TileRules, HoldFileFault, Version, Second, Reel, FileEntry, be4, magic, head_text, body_text, entries_text, last_of, AreEntries, IsPartOfEntry, EntryShows, IsPartOfReel, ReelShows, IsPartOfFile, FileShows}
+use Rattle.ffv1_hold.proofs.Common.{◌≡◌, ℕ, ◌<◌, ◌^◌, List, [], ◌∷◌, ◌++◌, length, take, drop, Option, Some, None, refl, sym, ap, ◌∙◌, subst, inl, inr, arith, append_assoc, append-nil, length-append, take-append-drop, record_limit, Bool, Recordings, TileRules, HoldFileFault, Version, sized_record, Reel, FileEntry, be4, magic, head_text, body_text, entries_text, last_of, AreEntries, IsPartOfEntry, EntryShows, IsPartOfReel, ReelShows, IsPartOfFile, FileShows}
 use Rattle.ffv1_hold.proofs.Bodies.{length-be4}
 use Rattle.ffv1_hold.proofs.NumberTexts.{rest_same, number_same, after_number}
 use Rattle.ffv1_hold.proofs.BodyTexts.{same_body, body_cut, part_body_none}
-use Rattle.ffv1_hold.proofs.TextLaws.{short_reel, entries_after, none_after, AreFitting, fitting_all, same_head, after_magic, head_parts}
+use Rattle.ffv1_hold.proofs.TextLaws.{short_reel, entries_after, none_after, AreFitting, fitting_all, same_head, same_name, after_magic, head_parts}
 use Rattle.ffv1_hold.proofs.FaultLaws.{last_from, last_of-none, AreValid, valid_list, entry_kinds, right_none, part_after, part_tag, magic_none, reel_none, sized_cut}
 use Rattle.ffv1_hold.proofs.OneFault.{reel_kinds, head_on}
 
@@ -61,35 +61,48 @@ record_cut w h n y over small (inr (v, k, m, config, split, few, cut)) =
     let is = number_same n m _ _ two small (omega arith) in
     omega arith
 
-part_reel_none : (f : HoldFileFault) (p s y : List ℕ) → p ≡ s ++ y → IsPartOfReel p → ReelShows f s → ⊥
-part_reel_none f p s y same part shown = elim (reel_kinds f s shown) [
+part_reel_none : (k : Bool) (f : HoldFileFault) (p s y : List ℕ) → p ≡ s ++ y → IsPartOfReel p → ReelShows k f s → ⊥
+part_reel_none k f p s y same part shown = elim (reel_kinds k f s shown) [
   | inl x ↦ record_cut x.0 x.1 x.2 y x.5 x.6 (subst IsPartOfReel (same ∙ ap (λ q. q ++ y) x.4) part)
-  | inr x ↦ sized_cut x.1 x.2 x.3 y x.6 (subst IsPartOfReel (same ∙ ap (λ q. q ++ y) x.5) part)
+  | inr x ↦ sized_cut x.0 x.1 x.2 y x.4 (subst IsPartOfReel (same ∙ ap (λ q. q ++ y) x.3) part)
 ]
 
 -- ---- the whole file
 
 -- a part of the magic begins it
-magic_from : (s : List ℕ) → s ≡ take (length s) (magic Second) → magic Second ++ [] ≡ s ++ drop (length s) (magic Second)
-magic_from s is = append-nil (magic Second) ∙ sym (take-append-drop (length s) (magic Second)) ∙ ap (λ q. q ++ drop (length s) (magic Second)) (sym is)
+magic_from : (k : Bool) (v : Version) (s : List ℕ) → s ≡ take (length s) (magic k v) → magic k v ++ [] ≡ s ++ drop (length s) (magic k v)
+magic_from k v s is = append-nil (magic k v) ∙ sym (take-append-drop (length s) (magic k v)) ∙ ap (λ q. q ++ drop (length s) (magic k v)) (sym is)
 
-pub part_shows_none : (f : HoldFileFault) (s t y : List ℕ) → s ≡ t ++ y → IsPartOfFile s → FileShows f t → ⊥
-part_shows_none f s t y same (inl (few, is)) (inl a) =
-    magic_none Second [] (y ++ drop (length s) (magic Second)) t f (magic_from s is ∙ ap (λ q. q ++ drop (length s) (magic Second)) same
-    ∙ append_assoc t y (drop (length s) (magic Second))) a
-part_shows_none f s t y same (inl (few, is)) (inr (inl (w, u, split, a))) = grind (arith, length-append)
-part_shows_none f s t y same (inl (few, is)) (inr (inr (w, r, u, r_is, split, a))) = grind (arith, length-append, head_parts)
-part_shows_none f s t y same (inr (inl (x, p, s_split, part))) (inl a) = magic_none x p y t f (sym s_split ∙ same) a
-part_shows_none f s t y same (inr (inl (x, p, s_split, part))) (inr (inl (w, u, split, a))) =
-    part_reel_none f p u y (after_magic x w _ _ (sym s_split ∙ same ∙ ap (λ q. q ++ y) split ∙ append_assoc (magic w) u y)) part a
-part_shows_none f s t y same (inr (inl (x, p, s_split, part))) (inr (inr (w, r, u, r_is, split, a))) =
+pub part_shows_none : (c : Recordings) (f : HoldFileFault) (s t y : List ℕ) → s ≡ t ++ y → IsPartOfFile c s → FileShows c f t → ⊥
+part_shows_none c f s t y same (inl (few, b)) (inl a) =
+    let rest = drop (length s) (magic b.of_profile b.version) in
+    magic_none c b.of_profile b.version b.is_magic [] (y ++ rest) t f (magic_from b.of_profile b.version s b.begins ∙ ap (λ q. q ++ rest) same
+    ∙ append_assoc t y rest) a
+part_shows_none c f s t y same (inl (few, b)) (inr (inl (k, w, u, m, split, a))) =
+    omega (arith, few, ap length same, length-append t y, ap length split, length-append (magic k w) u)
+part_shows_none c f s t y same (inl (few, b)) (inr (inr (w, r, u, r_is, split, a))) =
+    omega (
+      arith,
+      few,
+      ap length same,
+      length-append t y,
+      ap length (split ∙ head_parts w r u),
+      length-append (magic r.rules.is_profile w) (sized_record r.config r.setup.width r.setup.height ++ u),
+    )
+part_shows_none c f s t y same (inr (inl (k, x, p, m, s_split, part))) (inl a) = magic_none c k x m p y t f (sym s_split ∙ same) a
+part_shows_none c f s t y same (inr (inl (k, x, p, m, s_split, part))) (inr (inl (j, w, u, n, split, a))) =
+    let magics = sym s_split ∙ same ∙ ap (λ q. q ++ y) split ∙ append_assoc (magic j w) u y in
+    part_reel_none j f p u y (after_magic k j x w _ _ magics) part a
+part_shows_none c f s t y same (inr (inl (k, x, p, m, s_split, part))) (inr (inr (w, r, u, r_is, split, a))) =
     sized_cut r.config r.setup.width r.setup.height (u ++ y) r_is.fits
-    (subst IsPartOfReel (after_magic x w _ _ (sym s_split ∙ same ∙ ap (λ q. q ++ y) split ∙ head_on w r u y)) part)
-part_shows_none f s t y same (inr (inr (x, q, p, q_is, s_split, part))) (inl a) = magic_none x _ y t f (sym (head_parts x q p) ∙ sym s_split ∙ same) a
-part_shows_none f s t y same (inr (inr (x, q, p, q_is, s_split, part))) (inr (inl (w, u, split, a))) =
-    reel_none q q_is p y f u (after_magic x w _ _ (sym (head_parts x q p) ∙ sym s_split ∙ same ∙ ap (λ z. z ++ y) split ∙ append_assoc (magic w) u y)) a
-part_shows_none f s t y same (inr (inr (x, q, p, q_is, s_split, (es, m, entries, inner, part)))) (inr (inr (w, r, u, r_is, split, (fs, n, more, after, a)))) =
-    let heads = same_head x w q r p (u ++ y) (short_reel q q_is) (short_reel r r_is) (sym s_split ∙ same ∙ ap (λ z. z ++ y) split ∙ append_assoc (head_text w r) u y) in
+    (subst IsPartOfReel (after_magic k _ x w _ _ (sym s_split ∙ same ∙ ap (λ q. q ++ y) split ∙ head_on w r u y)) part)
+part_shows_none c f s t y same (inr (inr (x, q, p, q_is, s_split, part))) (inl a) =
+    magic_none c q.rules.is_profile x (q_is.taken, part.2.version) _ y t f (sym (head_parts x q p) ∙ sym s_split ∙ same) a
+part_shows_none c f s t y same (inr (inr (x, q, p, q_is, s_split, part))) (inr (inl (j, w, u, n, split, a))) =
+    let magics = sym (head_parts x q p) ∙ sym s_split ∙ same ∙ ap (λ z. z ++ y) split ∙ append_assoc (magic j w) u y in
+    reel_none q q_is p y j (sym (same_name q.rules.is_profile j x w _ _ magics)) f u (after_magic q.rules.is_profile j x w _ _ magics) a
+part_shows_none c f s t y same (inr (inr (x, q, p, q_is, s_split, (es, m, entries, inner, part)))) (inr (inr (w, r, u, r_is, split, (fs, n, more, after, a)))) =
+    let heads = same_head x w q r p (u ++ y) (short_reel q q_is) (short_reel r r_is) entries.version more.version (sym s_split ∙ same ∙ ap (λ z. z ++ y) split ∙ append_assoc (head_text w r) u y) in
     let rules = ap (λ (x : Reel). x.rules) heads.1 in
     let fs_all = subst (λ (k : Version). AreEntries k r.rules fs) (sym heads.0) more in
     entries_unfinished x q.rules None es fs f m n y (valid_list x q.rules es entries) (fitting_all x q q_is.reel es entries.each)

@@ -1,23 +1,24 @@
--- Which bytes begin a holding file, and which show a fault in it. Judged are, in byte order: the magic, which gives the version; the
--- record's length; the setup, after the record; each tag; each slice's length; after a slice's bytes whether they are a slice of its
+-- Which bytes begin a holding file, and which show a fault in it. Judged are, in byte order: the magic, which gives the version, and whether
+-- the recording is of the profile; the record's length; the setup, after the record, and then whether the magic is right; each tag; each slice's length; after a slice's bytes whether they are a slice of its
 -- tile, and then whether it stands in order; and in version 2 the count of its digests, and each digest, whether it stands in order.
-use Rattle.std.specs.Prelude.{ℕ, true, ◌≡◌, ◌≢◌, ◌==◌, ◌+◌, ◌^◌, ◌<◌, ◌≤◌, ◌⊎◌, List, [], ◌∷◌, ◌++◌, length, take, Option, Some, Result, Ok, Err}
+use Rattle.std.specs.Prelude.{ℕ, Bool, true, false, ◌≡◌, ◌==◌, ◌+◌, ◌^◌, ◌<◌, ◌≤◌, ◌⊎◌, List, [], ◌∷◌, ◌++◌, length, take, Option, Some, Result, Ok, Err}
 use Rattle.std.specs.List.{flat_map}
 use Rattle.std.specs.Io.KnownBytes.{IsAtEnd}
 use Rattle.ffv1_bits.specs.Limits.{slice_limit, record_limit, file_limit}
 use Rattle.ffv1_devices.specs.Logs.{ReadLog, GoesOn}
-use Rattle.ffv1_range.specs.TileHeaders.{TileRules}
-use Rattle.ffv1_range.specs.SetupFaults.{FirstSetupFault}
+use Rattle.ffv1_range.specs.Setup.{RecordingValue}
+use Rattle.ffv1_range.specs.TileHeaders.{TileRules, is_in_profile}
 use Rattle.ffv1_slice.specs.Slices.{IsSliceOf}
 use Rattle.ffv1_hold.specs.declared.file_fault.HoldFileFault.{HoldFileFault}
 use Rattle.ffv1_hold.specs.declared.file_fault.HoldFileFault.TheVariants as faults
 use Rattle.ffv1_hold.specs.declared.version.Version.{Version}
 use Rattle.ffv1_hold.specs.declared.version.Version.TheVariants.{First, Second}
 use Rattle.ffv1_holding.specs.SliceOrder.{Entry}
-use Rattle.ffv1_holding.specs.Reels.{Reel, IsReel, WantsMemory}
-use Rattle.ffv1_holding.specs.declared.recordings.Recordings.TheVariants.{Profile}
+use Rattle.ffv1_holding.specs.Reels.{Reel, IsReel, IsRecordingFor, FirstRecordFault, WantsMemory}
+use Rattle.ffv1_holding.specs.declared.recordings.Recordings.{Recordings}
+use Rattle.ffv1_holding.specs.declared.recordings.Recordings.TheVariants.{Profile, Any}
 use Rattle.ffv1_holding.specs.Contents.{Contents, IsHolding, IsEntryOf}
-use Rattle.ffv1_hold.specs.HoldingText.{TakesFile, FileEntry, origins_limit, magic, be2, be4, sized_record, head_text, slice_text, entries_text, IsTextOf}
+use Rattle.ffv1_hold.specs.HoldingText.{TakesFile, FileEntry, HasVersion, origins_limit, magic, be2, be4, sized_record, head_text, slice_text, entries_text, IsTextOf}
 use Rattle.ffv1_hold.specs.Reading.{Refuses, StopsAt}
 use Rattle.ffv1_hold.specs.FileEntries.{last_of, Follows, FollowsDigest, IsDigest, AreOrigins, AreEntries}
 
@@ -96,61 +97,98 @@ abbrev pub EntriesShow : Version → TileRules → HoldFileFault → List ℕ �
 EntriesShow v rules f s = (es : List FileEntry) × (seen : List ℕ) × AreEntries v rules es × (s ≡ entries_text v es ++ seen)
     × EntryShows v rules (last_of es) f seen
 
--- the record is one of the profile at the reel's size, and within its limit
-pub record IsFileReel (r : Reel) : Type 0 where
+-- ---- the size and the record
+
+-- the files that are read: those of recordings of the profile, or of any
+abbrev pub IsTaken : Recordings → Bool → Type 0
+IsTaken Profile of_profile = of_profile ≡ true
+IsTaken Any of_profile = Unit {0}
+
+-- as which recordings the record after a magic is read
+abbrev pub recordings_of : Bool → Recordings
+recordings_of true = Profile
+recordings_of false = Any
+
+-- the record is one at the reel's size, of those that are read, and within its limit
+pub record IsFileReel (recordings : Recordings) (r : Reel) : Type 0 where
   pub reel : IsReel r
-  pub profile : r.rules.is_profile ≡ true
+  pub taken : IsTaken recordings r.rules.is_profile
   pub fits : length r.config ≤ record_limit
 
 -- a beginning of the size and the record
 abbrev pub IsPartOfReel : List ℕ → Type 0
 IsPartOfReel s = (length s < 12) ⊎ ((w h n : ℕ) × (config : List ℕ) × (s ≡ be4 w ++ be4 h ++ be4 n ++ config) × (n ≤ record_limit) × (length config < n))
 
-abbrev pub ReelShows : HoldFileFault → List ℕ → Type 0
-ReelShows faults.TooLong s = (w h n : ℕ) × (s ≡ be4 w ++ be4 h ++ be4 n) × (record_limit < n) × (n < 2 ^ 32)
-ReelShows (faults.Setup f) s = (config : List ℕ) × (w h : ℕ) × (s ≡ sized_record config w h) × (length config ≤ record_limit) × (w < 2 ^ 32) × (h < 2 ^ 32)
-    × FirstSetupFault config w h f
-ReelShows _ s = ⊥
+-- a record of the profile after the magic of other recordings
+abbrev pub IsMisnamed : Bool → List ℕ → ℕ → ℕ → Type 0
+IsMisnamed true config width height = ⊥
+IsMisnamed false config width height =
+    (recording : RecordingValue) × IsRecordingFor Any config width height recording × (is_in_profile recording ≡ true)
+
+abbrev pub ReelShows : Bool → HoldFileFault → List ℕ → Type 0
+ReelShows of_profile faults.TooLong s = (w h n : ℕ) × (s ≡ be4 w ++ be4 h ++ be4 n) × (record_limit < n) × (n < 2 ^ 32)
+ReelShows of_profile (faults.Setup f) s =
+    (config : List ℕ) × (w h : ℕ) × (s ≡ sized_record config w h) × (length config ≤ record_limit) × (w < 2 ^ 32) × (h < 2 ^ 32)
+    × FirstRecordFault (recordings_of of_profile) config w h f
+ReelShows of_profile faults.Magic s =
+    (config : List ℕ) × (w h : ℕ) × (s ≡ sized_record config w h) × (length config ≤ record_limit) × (w < 2 ^ 32) × (h < 2 ^ 32)
+    × IsMisnamed of_profile config w h
+ReelShows of_profile _ s = ⊥
 
 -- the size and the record are whole, after which memory for the setup is wanted
-abbrev pub ReelIsWhole : HoldFileFault → List ℕ → Type 0
-ReelIsWhole faults.Memory s = (config : List ℕ) × (w h : ℕ) × (s ≡ sized_record config w h) × (length config ≤ record_limit) × (w < 2 ^ 32) × (h < 2 ^ 32)
-    × WantsMemory Profile config w h
-ReelIsWhole _ s = ⊥
+abbrev pub ReelIsWhole : Bool → HoldFileFault → List ℕ → Type 0
+ReelIsWhole of_profile faults.Memory s = (config : List ℕ) × (w h : ℕ) × (s ≡ sized_record config w h) × (length config ≤ record_limit) × (w < 2 ^ 32) × (h < 2 ^ 32)
+    × WantsMemory (recordings_of of_profile) config w h
+ReelIsWhole of_profile _ s = ⊥
 
--- a beginning of the magic, before its version
-abbrev pub IsPartOfMagic : List ℕ → Type 0
-IsPartOfMagic s = (length s < 8) × (s ≡ take (length s) (magic Second))
+-- ---- the magic
 
--- what begins the magic of no version, though all before its last byte begins one
-abbrev pub MagicShows : HoldFileFault → List ℕ → Type 0
-MagicShows faults.Magic s = (seen : List ℕ) × (wrong : ℕ) × (s ≡ seen ++ wrong ∷ []) × IsPartOfMagic seen × ((v : Version) → s ≢ take (length s) (magic v))
-MagicShows _ s = ⊥
+-- files are read that have this magic
+abbrev pub IsMagic : Recordings → Bool → Version → Type 0
+IsMagic recordings of_profile v = IsTaken recordings of_profile × HasVersion v of_profile
 
--- ---- the magic, the size and the record
+-- The bytes begin the magic of files that are read.
+pub record BeginsMagic (recordings : Recordings) (s : List ℕ) : Type 0 where
+  pub of_profile : Bool
+  pub version : Version
+  pub is_magic : IsMagic recordings of_profile version
+  pub begins : s ≡ take (length s) (magic of_profile version)
+
+-- a beginning of a magic
+abbrev pub IsPartOfMagic : Recordings → List ℕ → Type 0
+IsPartOfMagic recordings s = (length s < 8) × BeginsMagic recordings s
+
+-- what begins no magic, though all before its last byte begins one
+abbrev pub MagicShows : Recordings → HoldFileFault → List ℕ → Type 0
+MagicShows recordings faults.Magic s = (seen : List ℕ) × (wrong : ℕ) × (s ≡ seen ++ wrong ∷ []) × IsPartOfMagic recordings seen × (¬ BeginsMagic recordings s)
+MagicShows recordings _ s = ⊥
+
+-- ---- the whole file
 
 -- a beginning of a file that shows no fault yet: of its magic, of its size and record, or of its entries and the end
-abbrev pub IsPartOfFile : List ℕ → Type 0
-IsPartOfFile s = IsPartOfMagic s
-    ⊎ ((v : Version) × (part : List ℕ) × (s ≡ magic v ++ part) × IsPartOfReel part)
-    ⊎ ((v : Version) × (r : Reel) × (part : List ℕ) × IsFileReel r × (s ≡ head_text v r ++ part) × IsPartOfEntries v r.rules part)
+abbrev pub IsPartOfFile : Recordings → List ℕ → Type 0
+IsPartOfFile recordings s = IsPartOfMagic recordings s
+    ⊎ ((of_profile : Bool) × (v : Version) × (part : List ℕ) × IsMagic recordings of_profile v × (s ≡ magic of_profile v ++ part) × IsPartOfReel part)
+    ⊎ ((v : Version) × (r : Reel) × (part : List ℕ) × IsFileReel recordings r × (s ≡ head_text v r ++ part) × IsPartOfEntries v r.rules part)
 
 -- the beginning of a file whose last byte shows the fault
-abbrev pub FileShows : HoldFileFault → List ℕ → Type 0
-FileShows f s = MagicShows f s
-    ⊎ ((v : Version) × (seen : List ℕ) × (s ≡ magic v ++ seen) × ReelShows f seen)
-    ⊎ ((v : Version) × (r : Reel) × (seen : List ℕ) × IsFileReel r × (s ≡ head_text v r ++ seen) × EntriesShow v r.rules f seen)
+abbrev pub FileShows : Recordings → HoldFileFault → List ℕ → Type 0
+FileShows recordings f s = MagicShows recordings f s
+    ⊎ ((of_profile : Bool) × (v : Version) × (seen : List ℕ) × IsMagic recordings of_profile v × (s ≡ magic of_profile v ++ seen) × ReelShows of_profile f seen)
+    ⊎ ((v : Version) × (r : Reel) × (seen : List ℕ) × IsFileReel recordings r × (s ≡ head_text v r ++ seen) × EntriesShow v r.rules f seen)
 
--- a text of a holding whose record is within its limit
-abbrev pub IsHoldingText : List ℕ → Type 0
-IsHoldingText s = (h : Contents) × IsHolding h × (length h.reel.config ≤ record_limit) × IsTextOf s h
+-- a text of a holding whose reel is one of a file
+abbrev pub IsHoldingText : Recordings → List ℕ → Type 0
+IsHoldingText recordings s = (h : Contents) × IsHolding h × IsFileReel recordings h.reel × IsTextOf s h
 
 -- What is whole where a fault comes that no byte of it shows: a text, whose end is looked for, or a head, whose setup needs memory.
-abbrev pub FileIsWhole : HoldFileFault → List ℕ → Type 0
-FileIsWhole faults.Read s = IsHoldingText s
-FileIsWhole faults.Trailing s = IsHoldingText s
-FileIsWhole faults.Memory s = (v : Version) × (reel : List ℕ) × (s ≡ magic v ++ reel) × ReelIsWhole faults.Memory reel
-FileIsWhole _ s = ⊥
+abbrev pub FileIsWhole : Recordings → HoldFileFault → List ℕ → Type 0
+FileIsWhole recordings faults.Read s = IsHoldingText recordings s
+FileIsWhole recordings faults.Trailing s = IsHoldingText recordings s
+FileIsWhole recordings faults.Memory s =
+    (of_profile : Bool) × (v : Version) × (reel : List ℕ) × IsMagic recordings of_profile v × (s ≡ magic of_profile v ++ reel)
+    × ReelIsWhole of_profile faults.Memory reel
+FileIsWhole recordings _ s = ⊥
 
 -- the device or memory is the fault, and not the bytes
 abbrev pub IsOutside : HoldFileFault → Type 0
@@ -159,8 +197,9 @@ IsOutside faults.Memory = Unit {0}
 IsOutside _ = ⊥
 
 -- The fault of an input: what reading it to its end, or to the fault, comes to where neither device nor memory fails.
-abbrev pub IsFaultOf : List ℕ → HoldFileFault → Type 0
-IsFaultOf input f = (¬ IsOutside f) × ((left : Option (List ℕ)) × Refuses IsPartOfFile FileIsWhole FileShows (Some input) left 0 f)
+abbrev pub IsFaultOf : Recordings → List ℕ → HoldFileFault → Type 0
+IsFaultOf recordings input f = (¬ IsOutside f)
+    × ((left : Option (List ℕ)) × Refuses (IsPartOfFile recordings) (FileIsWhole recordings) (FileShows recordings) (Some input) left 0 f)
 
 -- what is returned for the text of a holding
 abbrev pub Returns : Contents → Result Contents HoldFileFault → Type 0
@@ -168,14 +207,15 @@ Returns h (Ok g) = g ≡ h
 Returns h (Err f) = IsOutside f
 
 -- A source was read to its end, and was the file of a holding.
-pub record ReadsHolding (old new : ReadLog) (h : Contents) : Type 0 where
+pub record ReadsHolding (recordings : Recordings) (old new : ReadLog) (h : Contents) : Type 0 where
   pub well_formed : IsHolding h
+  pub taken : IsTaken recordings h.reel.rules.is_profile
   pub file : TakesFile old.remaining new.remaining h
   pub at_end : IsAtEnd new.remaining
   pub tries' : GoesOn old.tries new.tries
   pub few : new.taken ≤ old.taken + file_limit
 
 -- that, or reading stopped at the first fault
-abbrev pub ReadsFile : Result Contents HoldFileFault → ReadLog → ReadLog → Type 0
-ReadsFile (Ok h) old new = ReadsHolding old new h
-ReadsFile (Err f) old new = StopsAt IsPartOfFile FileIsWhole FileShows old new 0 f
+abbrev pub ReadsFile : Recordings → Result Contents HoldFileFault → ReadLog → ReadLog → Type 0
+ReadsFile recordings (Ok h) old new = ReadsHolding recordings old new h
+ReadsFile recordings (Err f) old new = StopsAt (IsPartOfFile recordings) (FileIsWhole recordings) (FileShows recordings) old new 0 f

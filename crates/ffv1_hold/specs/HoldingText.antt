@@ -1,5 +1,6 @@
--- The texts of a holding (own): holding files of version 1, which give its slices, and of version 2, which give their origins too.
-use Rattle.std.specs.Prelude.{ℕ, ◌≡◌, ◌≤◌, true, List, [], ◌∷◌, ◌++◌, length, map, Option}
+-- The texts of a holding (own): holding files of version 1, which give its slices, and of version 2, which give their origins too. Those of
+-- recordings out of the profile have a name of their own, and no version 1.
+use Rattle.std.specs.Prelude.{ℕ, ◌≡◌, ◌≤◌, Bool, true, List, [], ◌∷◌, ◌++◌, length, map, Option, if◌then◌else◌}
 use Rattle.std.specs.List.{flat_map}
 use Rattle.std.specs.Io.KnownBytes.{Consumes}
 use Rattle.std.specs.Int.{w16, w32, to_be_bytes}
@@ -31,13 +32,15 @@ abbrev pub version_number : Version → ℕ
 version_number First = 1
 version_number Second = 2
 
--- FFV1HLD
-abbrev pub name : List ℕ
-name = 70 ∷ 70 ∷ 86 ∷ 49 ∷ 72 ∷ 76 ∷ 68 ∷ []
+-- What files begin with, by whether their recordings are of the profile: FFV1HLD and the version; or FFV1ANY and 1, where the version is 2.
+abbrev pub magic : Bool → Version → List ℕ
+magic of_profile v = 70 ∷ 70 ∷ 86 ∷ 49 ∷ (if of_profile then 72 else 65) ∷ (if of_profile then 76 else 78) ∷ (if of_profile then 68 else 89)
+    ∷ (if of_profile then version_number v else 1) ∷ []
 
--- the name and the version
-abbrev pub magic : Version → List ℕ
-magic v = name ++ version_number v ∷ []
+-- version 1 is of recordings of the profile alone
+abbrev pub HasVersion : Version → Bool → Type 0
+HasVersion First of_profile = of_profile ≡ true
+HasVersion Second of_profile = Unit {0}
 
 -- a width, a height and a record
 unfoldable pub sized_record : List ℕ → ℕ → ℕ → List ℕ
@@ -45,7 +48,7 @@ sized_record config width height = be4 width ++ be4 height ++ be4 (length config
 
 -- what stands before the entries
 unfoldable pub head_text : Version → Reel → List ℕ
-head_text v r = magic v ++ sized_record r.config r.setup.width r.setup.height
+head_text v r = magic r.rules.is_profile v ++ sized_record r.config r.setup.width r.setup.height
 
 -- a slice: its tile, its length and its bytes
 unfoldable pub slice_text : Entry → List ℕ
@@ -86,18 +89,17 @@ file_text v h = begun_text v h ++ 0 ∷ []
 abbrev pub holding_text : Contents → List ℕ
 holding_text h = file_text Second h
 
--- what the version can give: in version 1 no origins, in version 2 at most 2^26 of each slice
+-- what the version can give: in version 1 no origins, of recordings of the profile; in version 2 at most 2^26 of each slice
 abbrev pub IsStated : Version → Contents → Type 0
-IsStated First h = h.origins ≡ set.empty
+IsStated First h = (h.origins ≡ set.empty) × HasVersion First h.reel.rules.is_profile
 IsStated Second h = (e : Entry) → set.contains h.slices e ≡ true → length (digests_of h e) ≤ origins_limit
 
--- a text of a holding of the profile: that of version 2, or, where it has no origins, that of version 1
+-- a text of a holding: that of version 2, or, where it is of the profile and has no origins, that of version 1
 abbrev pub IsTextOf : List ℕ → Contents → Type 0
-IsTextOf text h = (v : Version) × IsStated v h × (text ≡ file_text v h) × (h.reel.rules.is_profile ≡ true)
+IsTextOf text h = (v : Version) × IsStated v h × (text ≡ file_text v h)
 
--- A holding of the profile has a file of a version where that can give its origins, and its text and its record are within their limits.
+-- A holding has a file of a version where that can give its origins, and its text and its record are within their limits.
 pub record FitsInFile (v : Version) (h : Contents) : Type 0 where
-  pub profile : h.reel.rules.is_profile ≡ true
   pub stated : IsStated v h
   pub record' : length h.reel.config ≤ record_limit
   pub text : length (file_text v h) ≤ file_limit

@@ -3,10 +3,11 @@ use Rattle.std.specs.Prelude.{◌≡◌, ℕ, ◌++◌, ◌≤◌, List, length,
 use Rattle.ffv1_bits.specs.Limits.{record_limit}
 use Rattle.ffv1_holding.specs.Contents.{Contents, IsHolding}
 use Rattle.ffv1_hold.specs.declared.file_fault.HoldFileFault.{HoldFileFault}
+use Rattle.ffv1_holding.specs.declared.recordings.Recordings.{Recordings}
 use Rattle.ffv1_hold.specs.declared.version.Version.{Version}
 use Rattle.ffv1_hold.specs.HoldingText.{IsTextOf, FitsInFile, file_text}
 use Rattle.ffv1_hold.specs.ReadLimits.{IsReadLimitOf}
-use Rattle.ffv1_hold.specs.FileFaults.{IsPartOfFile, IsHoldingText, FileShows, IsFaultOf}
+use Rattle.ffv1_hold.specs.FileFaults.{IsTaken, IsPartOfFile, IsHoldingText, FileShows, IsFaultOf}
 pub use Rattle.ffv1_holding.specs.Laws.{CopiesHoldTheOriginal, NearCopiesHoldTheOriginal, HeldIsFound, OriginIsACopy}
 
 -- Two holdings with one text, of whatever version, are equal, and each holding has the text `holding_text` of version 2: so each
@@ -17,16 +18,21 @@ OneText = (g h : Contents) (text : List ℕ) → IsHolding g → IsHolding h →
 
 -- No beginning of a holding's text shows a fault, and a whole text is no unfinished one.
 abbrev pub TextShowsNoFault : Type 0
-TextShowsNoFault = (text : List ℕ) → IsHoldingText text → ((seen rest : List ℕ) (fault : HoldFileFault) → text ≡ seen ++ rest → ¬ FileShows fault seen)
-    × (¬ IsPartOfFile text)
+TextShowsNoFault =
+    (recordings : Recordings) (text : List ℕ) → IsHoldingText recordings text
+    → ((seen rest : List ℕ) (fault : HoldFileFault) → text ≡ seen ++ rest → ¬ FileShows recordings fault seen) × (¬ IsPartOfFile recordings text)
 
 -- No beginning of an unfinished file shows a fault.
 abbrev pub PartShowsNoFault : Type 0
-PartShowsNoFault = (part seen rest : List ℕ) (fault : HoldFileFault) → IsPartOfFile part → part ≡ seen ++ rest → ¬ FileShows fault seen
+PartShowsNoFault =
+    (recordings : Recordings) (part seen rest : List ℕ) (fault : HoldFileFault) → IsPartOfFile recordings part → part ≡ seen ++ rest
+    → ¬ FileShows recordings fault seen
 
 -- A text of a holding has no fault, where it and its record are within their limits.
 abbrev pub TextHasNoFault : Type 0
-TextHasNoFault = (v : Version) (h : Contents) → IsHolding h → FitsInFile v h → (fault : HoldFileFault) → ¬ IsFaultOf (file_text v h) fault
+TextHasNoFault =
+    (recordings : Recordings) (v : Version) (h : Contents) → IsHolding h → IsTaken recordings h.reel.rules.is_profile → FitsInFile v h
+    → (fault : HoldFileFault) → ¬ IsFaultOf recordings (file_text v h) fault
 
 -- Each text, beside another holding or none, and each bytes that were written have exactly one read_limit.
 abbrev pub OneReadLimit : Type 0
@@ -35,9 +41,10 @@ OneReadLimit = (v : Version) (h : Contents) (other : Option Contents) (bytes : L
 
 -- An input has one fault at most.
 abbrev pub OneFault : Type 0
-OneFault = (input : List ℕ) (f g : HoldFileFault) → IsFaultOf input f → IsFaultOf input g → f ≡ g
+OneFault = (recordings : Recordings) (input : List ℕ) (f g : HoldFileFault) → IsFaultOf recordings input f → IsFaultOf recordings input g → f ≡ g
 
 -- No two faults are shown by beginnings of one input, however long they are.
 abbrev pub OneShownFault : Type 0
-OneShownFault = (input seen rest others rest' : List ℕ) (f g : HoldFileFault) → input ≡ seen ++ rest → input ≡ others ++ rest' → FileShows f seen
-    → FileShows g others → f ≡ g
+OneShownFault =
+    (recordings : Recordings) (input seen rest others rest' : List ℕ) (f g : HoldFileFault) → input ≡ seen ++ rest → input ≡ others ++ rest'
+    → FileShows recordings f seen → FileShows recordings g others → f ≡ g

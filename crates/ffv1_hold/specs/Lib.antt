@@ -6,6 +6,7 @@ pub mod FileFaults
 pub mod ReadLimits
 pub mod MergeLogs
 pub mod MergedStreams
+pub mod JoinedStreams
 pub mod Laws
 pub mod Headline
 pub mod Plans

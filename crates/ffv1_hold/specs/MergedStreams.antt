@@ -6,25 +6,28 @@ use Rattle.ffv1_devices.specs.Logs.{ReadLog}
 use Rattle.ffv1_devices.specs.Writing.{WritesFront}
 use Rattle.ffv1_holding.specs.Reels.{Reel}
 use Rattle.ffv1_holding.specs.Contents.{Contents, IsHolding, IsSameReel, joined}
+use Rattle.ffv1_holding.specs.declared.recordings.Recordings.{Recordings}
 use Rattle.ffv1_hold.specs.declared.file_fault.HoldFileFault.{HoldFileFault}
 use Rattle.ffv1_hold.specs.declared.file_fault.HoldFileFault.TheVariants as faults
 use Rattle.ffv1_hold.specs.declared.version.Version.{Version}
 use Rattle.ffv1_hold.specs.declared.version.Version.TheVariants.{Second}
-use Rattle.ffv1_hold.specs.HoldingText.{head_text, begun_text, file_text, holding_text, IsStated, FitsInFile, TakesFile}
+use Rattle.ffv1_hold.specs.HoldingText.{HasVersion, head_text, begun_text, file_text, holding_text, IsStated, FitsInFile, TakesFile}
 use Rattle.ffv1_hold.specs.Reading.{Refuses}
-use Rattle.ffv1_hold.specs.FileFaults.{IsFileReel, IsPartOfFile, IsHoldingText, FileIsWhole, FileShows, IsOutside}
+use Rattle.ffv1_hold.specs.FileFaults.{IsTaken, IsFileReel, IsPartOfFile, IsHoldingText, FileIsWhole, FileShows, IsOutside}
 use Rattle.ffv1_hold.specs.ReadLimits.{IsReadLimitOf}
 
--- what both inputs have left, before and after
+-- which files are read, and what both inputs have left, before and after
 pub record Inputs : Type 0 where
+  pub recordings : Recordings
   pub left_old : Option (List ℕ)
   pub left_new : Option (List ℕ)
   pub right_old : Option (List ℕ)
   pub right_new : Option (List ℕ)
 
 -- the same, by the logs of both
-abbrev pub inputs_read : (left_old left_new right_old right_new : ReadLog) → Inputs
-inputs_read left_old left_new right_old right_new = record {
+abbrev pub inputs_read : Recordings → (left_old left_new right_old right_new : ReadLog) → Inputs
+inputs_read recordings left_old left_new right_old right_new = record {
+  recordings = recordings;
   left_old = left_old.remaining;
   left_new = left_new.remaining;
   right_old = right_old.remaining;
@@ -61,6 +64,7 @@ pub record WritesUnion (i : Inputs) (old new : Option (List ℕ)) : Type 0 where
   pub left : Contents
   pub right : Contents
   pub read : ReadsBoth i left right
+  pub taken : IsTaken i.recordings left.reel.rules.is_profile
   pub fits : FitsInFile Second (joined left right)
   pub written : Appends old new (holding_text (joined left right))
 
@@ -75,18 +79,21 @@ ReturnsUnion union (Err f) = IsOutside f ⊎ ((f ≡ faults.Write) ⊎ ((f ≡ f
 pub record ReadsOtherHeads (i : Inputs) : Type 0 where
   pub left : Reel
   pub right : Reel
-  pub left_is : IsFileReel left
-  pub right_is : IsFileReel right
+  pub left_is : IsFileReel i.recordings left
+  pub right_is : IsFileReel i.recordings right
   pub left_version : Version
   pub right_version : Version
+  pub left_has : HasVersion left_version left.rules.is_profile
+  pub right_has : HasVersion right_version right.rules.is_profile
   pub left_taken : Consumes i.left_old i.left_new (head_text left_version left)
   pub right_taken : Consumes i.right_old i.right_new (head_text right_version right)
   pub other : ¬ (left ≡ right)
 
--- the input begins with a head of the reel
-pub record BeginsWithHead (input : Option (List ℕ)) (r : Reel) : Type 0 where
-  pub is : IsFileReel r
+-- the input begins with a head of the reel, which is one of a file that is read
+pub record BeginsWithHead (recordings : Recordings) (input : Option (List ℕ)) (r : Reel) : Type 0 where
+  pub is : IsFileReel recordings r
   pub version : Version
+  pub has : HasVersion version r.rules.is_profile
   pub rest : List ℕ
   pub split : input ≡ Some (head_text version r ++ rest)
 
@@ -128,26 +135,27 @@ pub record UnionPasses (i : Inputs) : Type 0 where
 
 -- ---- refusals
 
--- the fault of an input, as `read_hold` returns it
-abbrev pub InputRefuses : Option (List ℕ) → Option (List ℕ) → HoldFileFault → Type 0
-InputRefuses old new f = Refuses IsPartOfFile FileIsWhole FileShows old new 0 f
+-- the fault of an input, as `read_holding` returns it
+abbrev pub InputRefuses : Recordings → Option (List ℕ) → Option (List ℕ) → HoldFileFault → Type 0
+InputRefuses recordings old new f = Refuses (IsPartOfFile recordings) (FileIsWhole recordings) (FileShows recordings) old new 0 f
 
 -- What was taken of an input shows no fault: it is unfinished, or a text of a holding.
-pub record ShowsNoFault (old new : Option (List ℕ)) : Type 0 where
+pub record ShowsNoFault (recordings : Recordings) (old new : Option (List ℕ)) : Type 0 where
   pub seen : List ℕ
   pub taken : Consumes old new seen
-  pub well_formed : IsPartOfFile seen ⊎ IsHoldingText seen
+  pub well_formed : IsPartOfFile recordings seen ⊎ IsHoldingText recordings seen
 
 -- one input is refused, and what was taken of the other shows no fault
 abbrev pub OneRefuses : Inputs → HoldFileFault → Type 0
-OneRefuses i f = (InputRefuses i.left_old i.left_new f × ShowsNoFault i.right_old i.right_new)
-    ⊎ (InputRefuses i.right_old i.right_new f × ShowsNoFault i.left_old i.left_new)
+OneRefuses i f = (InputRefuses i.recordings i.left_old i.left_new f × ShowsNoFault i.recordings i.right_old i.right_new)
+    ⊎ (InputRefuses i.recordings i.right_old i.right_new f × ShowsNoFault i.recordings i.left_old i.left_new)
 
 -- neither shows a fault, and the fault is of both together, or of the sink
 abbrev pub BothRefuse : Inputs → HoldFileFault → Type 0
-BothRefuse i faults.Write = ShowsNoFault i.left_old i.left_new × ShowsNoFault i.right_old i.right_new
+BothRefuse i faults.Write = ShowsNoFault i.recordings i.left_old i.left_new × ShowsNoFault i.recordings i.right_old i.right_new
 BothRefuse i faults.OtherReel = ReadsOtherHeads i
-BothRefuse i faults.TooLong = (EntriesPass i × (ShowsNoFault i.left_old i.left_new × ShowsNoFault i.right_old i.right_new)) ⊎ UnionPasses i
+BothRefuse i faults.TooLong =
+    (EntriesPass i × (ShowsNoFault i.recordings i.left_old i.left_new × ShowsNoFault i.recordings i.right_old i.right_new)) ⊎ UnionPasses i
 BothRefuse i _ = ⊥
 
 -- what a fault says of the bytes that were taken of the inputs

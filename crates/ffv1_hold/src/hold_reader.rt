@@ -4,7 +4,7 @@ ghost use Rattle.std.specs.Io.KnownBytes.{IsAtEnd};
 ghost use Rattle.ffv1_bits.specs.Limits.{file_limit};
 ghost use Rattle.ffv1_range.specs.TileHeaders.{rules_of};
 ghost use Rattle.ffv1_hold.specs.Inner.Reading.{ReadsText};
-ghost use Rattle.ffv1_hold.specs.HoldingText.{head_text};
+ghost use Rattle.ffv1_hold.specs.HoldingText.{HasVersion, head_text};
 ghost use Rattle.ffv1_hold.specs.FileEntries.{Follows, IsFileEntryOf};
 ghost use Rattle.ffv1_hold.specs.Inner.FileEntries.{next_text};
 ghost use Rattle.ffv1_hold.specs.FileFaults.{IsFileReel, IsPartOfEntry, EntryShows};
@@ -15,7 +15,7 @@ use crate::file_fault::HoldFileFault;
 use crate::head::{read_magic, read_reel};
 use crate::version::Version;
 use ffv1_devices::{Source, next_byte};
-use ffv1_holding::Reel;
+use ffv1_holding::{Recordings, Reel};
 use ffv1_range::Recording;
 use std::alloc::Global;
 
@@ -45,16 +45,19 @@ impl HoldReader {
     pub(crate) fn read_head<S: Source>(
         &mut self,
         alloc: Global,
+        recordings: Recordings,
         source: &mut S,
-    ) -> Result<Reel, HoldFileFault>
+    ) -> Result<Reel<Recording>, HoldFileFault>
         requires { self.old.place ≡ 0 }
-        ensures read { ReadsText (head_text self.new.version) IsPartOfHead HeadIsWhole HeadShows
+        ensures read { ReadsText (head_text self.new.version) (IsPartOfHead recordings) (HeadIsWhole recordings) (HeadShows recordings)
             (S.log source.old) (S.log source.new) 0 self.new.place result }
-        ensures reel { IfOk result IsFileReel }
+        ensures reel { IfOk result (IsFileReel recordings) }
+        ensures has { IfOk result (λ r. HasVersion self.new.version r.rules.is_profile) }
         ensures held { self.new.held ≡ self.old.held }
     {
-        self.version = read_magic(source, &mut self.place)?;
-        read_reel(alloc, source, &mut self.place)
+        let magic = read_magic(recordings, source, &mut self.place)?;
+        self.version = magic.version;
+        read_reel(alloc, source, &mut self.place, magic.of_profile)
     }
 
     /// Reads the next entry over the one that is held, or the end tag and the end of the input.

@@ -10,6 +10,7 @@ mod file_fault;
 mod head;
 mod hold_reader;
 mod laws;
+mod magic;
 mod merging;
 mod number;
 mod origins;
@@ -24,14 +25,14 @@ pub use ffv1_devices::{
     write_field,
 };
 pub use ffv1_holding::{
-    HoldFault, Holding, Join, JoinAllFault, RestoreFault, SliceSet, TakeAllFault, Taken, TileState,
-    copies_hold_the_original, held_is_found, join_all, near_copies_hold_the_original,
-    origin_is_a_copy,
+    HoldFault, Holding, Join, JoinAllFault, Recordings, RestoreFault, SliceSet, TakeAllFault,
+    Taken, TileState, copies_hold_the_original, held_is_found, join_all,
+    near_copies_hold_the_original, origin_is_a_copy,
 };
 pub use file_fault::HoldFileFault;
 pub use laws::{one_fault, one_read_limit, one_text, text_shows_no_fault};
-pub use merging::join_streams;
+pub use merging::{join_streams, join_streams_of};
 pub use plan::{Plan, PlanFault, run, same_copies};
-pub use reading::read_hold;
+pub use reading::{read_hold, read_holding};
 pub use saving::write_hold;
 pub use version::Version;

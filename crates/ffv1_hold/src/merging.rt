@@ -4,14 +4,13 @@ ghost use Rattle.std.specs.Io.KnownBytes.{Appends};
 ghost use Rattle.ffv1_bits.specs.Limits.{record_limit, file_limit};
 ghost use Rattle.ffv1_devices.specs.Logs.{WriteLog};
 ghost use Rattle.ffv1_range.specs.TileHeaders.{rules_of};
-ghost use Rattle.ffv1_holding.specs.Reels.{Reel as ReelValue};
-ghost use Rattle.ffv1_holding.specs.Contents.{Contents, IsSameReel, joined};
-ghost use Rattle.ffv1_hold.specs.HoldingText.{head_text, entry_text};
-ghost use Rattle.ffv1_hold.specs.declared.version.Version.{Version};
+ghost use Rattle.ffv1_holding.specs.declared.recordings.Recordings.TheVariants.{Profile};
+ghost use Rattle.ffv1_hold.specs.HoldingText.{HasVersion, head_text, entry_text};
 ghost use Rattle.ffv1_hold.specs.FileEntries.{IsFileEntryOf};
 ghost use Rattle.ffv1_hold.specs.Inner.Reading.{Takes};
 ghost use Rattle.ffv1_hold.specs.FileFaults.{IsFileReel};
-ghost use Rattle.ffv1_hold.specs.MergedStreams.{inputs_read, IsFileOf, IsFileOfSome, WritesUnion, ReturnsUnion, BeginsWithHead, ReturnsOther, MergeRefuses, WritesNoEnd, WritesFrontSoFar, WritesAtMost, StaysInReadLimit};
+ghost use Rattle.ffv1_hold.specs.MergedStreams.{inputs_read, WritesUnion, WritesAtMost};
+ghost use Rattle.ffv1_hold.specs.JoinedStreams.{JoinsStreams, devices};
 ghost use Rattle.ffv1_hold.specs.Inner.Merging.{Start, AreVersions, inputs_from, IsOpened, Stands, Stops, MergeIsRefused, HeadsRefuse, Ends, IsTurn, IsWritten, with_digests};
 ghost use Rattle.ffv1_hold.specs.MergeLogs.{MergeWent};
 ghost use Rattle.ffv1_hold.specs.Inner.MergeLogs.{WritesEntry};
@@ -24,69 +23,57 @@ use crate::union::union_count;
 use crate::version::Version;
 use ffv1_bits::FILE_LIMIT;
 use ffv1_devices::{Sink, Source, write_field};
-use ffv1_holding::Reel;
+use ffv1_holding::{Recordings, Reel};
 use ffv1_range::Recording;
 use std::alloc::Global;
 use std::cmp::Ordering;
 
-/// Joins two holding files of either version as streams: reads both, and writes the file of the union, of version 2.
-///
-/// Both heads are read and judged before anything is written. Then the smaller of the inputs' next entries is
-/// written, once where both have its slice, and then with the digests of both, and its input is read on: at most one
-/// entry of each input is held, and the next one is read over it, block after block, and compared with it. Returns `OtherReel` exactly if
-/// both heads were read and their record, width or height differ, before anything is written.
-/// Returns `TooLong` if an input passes its limits, or if what is written would pass 2^31 bytes; each other fault is the one that
-/// `read_hold` returns for that input. The end tag is written only where both inputs were read to their ends
-/// and show no fault. `Read` and `Write` are returned only if a source or the sink counted a failure: an interrupted try is
-/// made again, and 65 in a row are a failure. After `Write` each input that is a text was read at most to the end of its
-/// first entry that is not whole in what was written, or to its own end where all are whole: an entry is whole there
-/// once its slice stands there with exactly the digests that both inputs give it, where the other one is a text too, and
-/// else with its own among others. Returns `Memory` if an allocation fails.
+/// Joins two holding files of recordings of the profile, of either version, as streams, and writes the file of the union, of version 2. It is
+/// `join_streams_of` of such files.
 pub fn join_streams<R: Source, Q: Source, W: Sink>(
     alloc: Global,
     left: &mut R,
     right: &mut Q,
     sink: &mut W,
 ) -> Result<(), HoldFileFault>
-    // Both inputs are files of holdings of one reel, and the text of their union was written.
-    ensures joined { OnOk result (WritesUnion (inputs_read (R.log left.old) (R.log left.new) (Q.log right.old) (Q.log right.new)) (W.log sink.old).contents (W.log sink.new).contents) }
-
-    // For such inputs the result is that, `Read`, `Write` or `Memory`, or `TooLong` where the union has no text.
-    ensures only { (v w : Version) (g h : Contents) → IsSameReel g h → IsFileOf (R.log left.old).remaining v g → IsFileOf (Q.log right.old).remaining w h
-        → ReturnsUnion (joined g h) result }
-
-    // For inputs that begin with heads of two reels the result is `OtherReel`, `Read` or `Memory`.
-    ensures other { (g h : ReelValue) → BeginsWithHead (R.log left.old).remaining g → BeginsWithHead (Q.log right.old).remaining h → ¬ (g ≡ h)
-        → ReturnsOther result }
+    ensures streams { JoinsStreams Profile result (devices (R.log left.old) (Q.log right.old) (W.log sink.old)) (devices (R.log left.new) (Q.log right.new) (W.log sink.new)) }
     ensures untouched { IsErrOf result HoldFileFault.OtherReel → sink.new ≡ sink.old }
+{
+    join_streams_of(alloc, Recordings::Profile, left, right, sink)
+}
 
-    // The bytes that were read show the fault, and it is the first: what was taken of the other input shows none.
-    ensures fault { IfErr result (MergeRefuses (inputs_read (R.log left.old) (R.log left.new) (Q.log right.old) (Q.log right.new))) }
-
-    // After `Write` no more was taken of an input that is a text than up to its read_limit: where the other one is a text too, with the
-    // digests of both.
-    ensures left_read_limit { (v : Version) (h : Contents) (other : Option Contents) → IsFileOf (R.log left.old).remaining v h
-        → IsFileOfSome (Q.log right.old).remaining other → IsErrOf result HoldFileFault.Write
-        → StaysInReadLimit v h other (R.log left.old).remaining (R.log left.new).remaining (W.log sink.old).contents (W.log sink.new).contents }
-    ensures right_read_limit { (v : Version) (h : Contents) (other : Option Contents) → IsFileOf (Q.log right.old).remaining v h
-        → IsFileOfSome (R.log left.old).remaining other → IsErrOf result HoldFileFault.Write
-        → StaysInReadLimit v h other (Q.log right.old).remaining (Q.log right.new).remaining (W.log sink.old).contents (W.log sink.new).contents }
-
-    // What was written: after `Write` a front of a text, after another refusal no end tag.
-    ensures write { IsErrOf result HoldFileFault.Write → WritesFrontSoFar (inputs_read (R.log left.old) (R.log left.new) (Q.log right.old) (Q.log right.new)) (W.log sink.old).contents (W.log sink.new).contents }
-    ensures no_end { IfErr result (λ f. f ≢ HoldFileFault.Write → WritesNoEnd (inputs_read (R.log left.old) (R.log left.new) (Q.log right.old) (Q.log right.new)) (W.log sink.old).contents (W.log sink.new).contents) }
-    ensures most { WritesAtMost (W.log sink.old).contents (W.log sink.new).contents file_limit }
-    // At `Read` one input was given up, at `Write` the sink, and no other device; no more was taken than the limits.
-    ensures went { MergeWent result (record { left = R.log left.old; right = Q.log right.old; sink = W.log sink.old })
-        (record { left = R.log left.new; right = Q.log right.new; sink = W.log sink.new }) (0, 0) (file_limit, file_limit) }
+/// Joins two holding files of these recordings as streams: reads both, as `read_holding` reads them, and writes the file of the union, of
+/// version 2.
+///
+/// Both heads are read and judged before anything is written. Then the smaller of the inputs' next entries is
+/// written, once where both have its slice, and then with the digests of both, and its input is read on: at most one
+/// entry of each input is held, and the next one is read over it, block after block, and compared with it. Returns `OtherReel` exactly if
+/// both heads were read and their record, width or height differ, before anything is written.
+/// Returns `TooLong` if an input passes its limits, or if what is written would pass 2^31 bytes; each other fault is the one that
+/// `read_holding` returns for that input. The end tag is written only where both inputs were read to their ends
+/// and show no fault. `Read` and `Write` are returned only if a source or the sink counted a failure: an interrupted try is
+/// made again, and 65 in a row are a failure. After `Write` each input that is a text was read at most to the end of its
+/// first entry that is not whole in what was written, or to its own end where all are whole: an entry is whole there
+/// once its slice stands there with exactly the digests that both inputs give it, where the other one is a text too, and
+/// else with its own among others. Returns `Memory` if an allocation fails.
+pub fn join_streams_of<R: Source, Q: Source, W: Sink>(
+    alloc: Global,
+    recordings: Recordings,
+    left: &mut R,
+    right: &mut Q,
+    sink: &mut W,
+) -> Result<(), HoldFileFault>
+    ensures streams { JoinsStreams recordings result (devices (R.log left.old) (Q.log right.old) (W.log sink.old)) (devices (R.log left.new) (Q.log right.new) (W.log sink.new)) }
+    ensures untouched { IsErrOf result HoldFileFault.OtherReel → sink.new ≡ sink.old }
 {
     let mut merge = Merge::new();
-    merge_files(alloc, &mut merge, left, right, sink)
+    merge_files(alloc, recordings, &mut merge, left, right, sink)
 }
 
 /// Reads both heads, and then joins what is after them. Nothing was read or written yet.
 fn merge_files<R: Source, Q: Source, W: Sink>(
     alloc: Global,
+    recordings: Recordings,
     merge: &mut Merge,
     left: &mut R,
     right: &mut Q,
@@ -97,14 +84,14 @@ fn merge_files<R: Source, Q: Source, W: Sink>(
     requires left_held { merge.old.lefts.held ≡ None }
     requires right_held { merge.old.rights.held ≡ None }
     requires room { merge.old.room ≡ file_limit }
-    ensures ok { OnOk result (WritesUnion (inputs_read (R.log left.old) (R.log left.new) (Q.log right.old) (Q.log right.new)) (W.log sink.old).contents (W.log sink.new).contents) }
+    ensures ok { OnOk result (WritesUnion (inputs_read recordings (R.log left.old) (R.log left.new) (Q.log right.old) (Q.log right.new)) (W.log sink.old).contents (W.log sink.new).contents) }
     ensures most { OnOk result (WritesAtMost (W.log sink.old).contents (W.log sink.new).contents file_limit) }
-    ensures err { IfErr result (MergeIsRefused (inputs_read (R.log left.old) (R.log left.new) (Q.log right.old) (Q.log right.new)) (W.log sink.old).contents (W.log sink.new).contents) }
+    ensures err { IfErr result (MergeIsRefused (inputs_read recordings (R.log left.old) (R.log left.new) (Q.log right.old) (Q.log right.new)) (W.log sink.old).contents (W.log sink.new).contents) }
     ensures untouched { IsErrOf result HoldFileFault.OtherReel → sink.new ≡ sink.old }
     ensures went { MergeWent result (record { left = R.log left.old; right = Q.log right.old; sink = W.log sink.old })
         (record { left = R.log left.new; right = Q.log right.new; sink = W.log sink.new }) (0, 0) (file_limit, file_limit) }
 {
-    let reel = merge.read_heads(alloc, left, right)?;
+    let reel = merge.read_heads(alloc, recordings, left, right)?;
     merge.merge_after_heads(alloc, &reel, left, right, sink)
 }
 
@@ -136,23 +123,26 @@ impl Merge {
     fn read_heads<R: Source, Q: Source>(
         &mut self,
         alloc: Global,
+        recordings: Recordings,
         left: &mut R,
         right: &mut Q,
-    ) -> Result<Reel, HoldFileFault>
+    ) -> Result<Reel<Recording>, HoldFileFault>
         requires left_start { self.old.lefts.place ≡ 0 }
         requires right_start { self.old.rights.place ≡ 0 }
         ensures left { IfOk result (λ r. Takes (R.log left.old).remaining (R.log left.new).remaining 0 self.new.lefts.place (head_text self.new.lefts.version r)) }
         ensures right { IfOk result (λ r. Takes (Q.log right.old).remaining (Q.log right.new).remaining 0 self.new.rights.place (head_text self.new.rights.version r)) }
-        ensures reel { IfOk result IsFileReel }
+        ensures reel { IfOk result (IsFileReel recordings) }
+        ensures left_has { IfOk result (λ r. HasVersion self.new.lefts.version r.rules.is_profile) }
+        ensures right_has { IfOk result (λ r. HasVersion self.new.rights.version r.rules.is_profile) }
         ensures left_held { self.new.lefts.held ≡ self.old.lefts.held }
         ensures right_held { self.new.rights.held ≡ self.old.rights.held }
         ensures room { self.new.room ≡ self.old.room }
-        ensures err { IfErr result (HeadsRefuse (inputs_read (R.log left.old) (R.log left.new) (Q.log right.old) (Q.log right.new))) }
+        ensures err { IfErr result (HeadsRefuse (inputs_read recordings (R.log left.old) (R.log left.new) (Q.log right.old) (Q.log right.new))) }
         ensures went { (s : WriteLog) → MergeWent result (record { left = R.log left.old; right = Q.log right.old; sink = s })
             (record { left = R.log left.new; right = Q.log right.new; sink = s }) (0, 0) (self.new.lefts.place, self.new.rights.place) }
     {
-        let reel = self.lefts.read_head(alloc, left)?;
-        let other = self.rights.read_head(alloc, right)?;
+        let reel = self.lefts.read_head(alloc, recordings, left)?;
+        let other = self.rights.read_head(alloc, recordings, right)?;
         if !reel.is_same(&other) {
             return Err(HoldFileFault::OtherReel);
         }
@@ -163,7 +153,7 @@ impl Merge {
     fn merge_after_heads<R: Source, Q: Source, W: Sink>(
         &mut self,
         alloc: Global,
-        reel: &Reel,
+        reel: &Reel<Recording>,
         left: &mut R,
         right: &mut Q,
         sink: &mut W,
@@ -202,7 +192,7 @@ impl Merge {
     fn begin<R: Source, Q: Source, W: Sink>(
         &mut self,
         alloc: Global,
-        reel: &Reel,
+        reel: &Reel<Recording>,
         left: &mut R,
         right: &mut Q,
         sink: &mut W,

@@ -186,6 +186,8 @@ fn reread(alloc: Global, holding: &Holding) -> Result<Holding, HoldFileFault>
     ensures fits { OnOk result (¬ IsTooLong holding.now) }
     ensures fault { IfErr result (IsRereadFault holding.now) }
 {
+    // Its contract says that the recording is of the profile.
+    let _setup = holding.setup();
     let mut text = FromWrite::new(Vec::new(alloc));
     match write_hold(holding, &mut text) {
         Ok(()) => {}

@@ -1,51 +1,80 @@
 //! Reading a holding file (own).
-ghost use Rattle.std.specs.Prelude.{◌≡◌, ◌≤◌, [], ◌∷◌, ◌++◌, None, Some, OnOk, IfErr};
+ghost use Rattle.std.specs.Prelude.{◌≡◌, ◌≤◌, [], ◌∷◌, ◌++◌, None, Some, true, OnOk, IfOk, IfErr};
 ghost use Rattle.std.specs.Io.KnownBytes.{IsAtEnd};
 ghost use Rattle.ffv1_bits.specs.Limits.{file_limit};
 ghost use Rattle.ffv1_hold.specs.Inner.Reading.{ReadsText};
 ghost use Rattle.ffv1_holding.specs.Contents.{Contents, IsEntryOf, IsHolding, AreDigests, no_slices, with_entry};
 ghost use Rattle.ffv1_hold.specs.declared.version.Version.{Version};
-ghost use Rattle.ffv1_hold.specs.HoldingText.{entries_text, file_entries, file_text, IsStated, FitsInFile};
-ghost use Rattle.ffv1_hold.specs.FileFaults.{ReadsFile, IsPartOfEntries, EntriesShow, Returns};
+ghost use Rattle.ffv1_hold.specs.HoldingText.{HasVersion, entries_text, file_entries, file_text, IsStated, FitsInFile};
+ghost use Rattle.ffv1_hold.specs.FileFaults.{ReadsFile, IsTaken, IsPartOfEntries, EntriesShow, Returns};
+ghost use Rattle.ffv1_holding.specs.declared.recordings.Recordings.TheVariants.{Profile};
 ghost use Rattle.ffv1_hold.specs.Inner.FileFaults.{EntriesAreWhole};
 
 use crate::entry::HeldSlice;
 use crate::file_fault::HoldFileFault;
 use crate::hold_reader::HoldReader;
 use ffv1_devices::Source;
-use ffv1_holding::Holding;
+use ffv1_holding::{Holding, Recordings};
+use ffv1_range::Recording;
 use std::alloc::Global;
 
-/// Reads a holding file of either version, to the end of the input. One of version 1 gives no origins.
-///
-/// The faults are judged in byte order, those of the first eight bytes too, and at most 2^31 + 1 bytes are read. `Read` is returned only if
-/// the source counted a failure: an interrupted try is made again, and 65 in a row are a failure. Returns `Memory` if an allocation fails.
-/// Both are returned only before a fault is met; within the record, memory for its setup is wanted where `Setup::read` says.
+/// Reads a holding file of a recording of the profile, of either version, to the end of the input. One of version 1 gives no origins. It is
+/// `read_holding` of such files.
 pub fn read_hold<R: Source>(alloc: Global, source: &mut R) -> Result<Holding, HoldFileFault>
     // The whole input is the holding's text of version 2, or, where it has no origins, that of version 1. Or the bytes that were
     // read show the fault; at `Read` and `Memory` they show none: they are unfinished, or a text whose end was looked for, or a head
     // whose setup needs memory before a fault.
-    ensures read { ReadsFile result (R.log source.old) (R.log source.new) }
+    ensures read { ReadsFile Profile result (R.log source.old) (R.log source.new) }
 
     // For an input that is such a text of a holding the result is that holding, `Read` or `Memory`.
-    ensures only { (v : Version) (h : Contents) → IsHolding h → FitsInFile v h → (R.log source.old).remaining ≡ Some (file_text v h)
-        → Returns h result }
+    ensures only { (v : Version) (h : Contents) → IsHolding h → h.reel.rules.is_profile ≡ true → FitsInFile v h
+        → (R.log source.old).remaining ≡ Some (file_text v h) → Returns h result }
+{
+    let holding = read_holding(alloc, Recordings::Profile, source)?;
+    match holding.into_profile() {
+        Ok(holding) => Ok(holding),
+        // No other file is read.
+        Err(_) => Err(HoldFileFault::Magic),
+    }
+}
+
+/// Reads a holding file of these recordings, to the end of the input: of the profile, of either version; and of any, of other recordings
+/// too, which have a magic of their own.
+///
+/// The faults are judged in byte order, those of the first eight bytes too, and at most 2^31 + 1 bytes are read. `Read` is returned only if
+/// the source counted a failure: an interrupted try is made again, and 65 in a row are a failure. Returns `Memory` if an allocation fails.
+/// Both are returned only before a fault is met; within the record, memory for its setup is wanted where `read_scoped` says.
+/// `Magic` is returned also for a record of the profile after the magic of other recordings, once the record was read.
+pub fn read_holding<R: Source>(
+    alloc: Global,
+    recordings: Recordings,
+    source: &mut R,
+) -> Result<Holding<Recording>, HoldFileFault>
+    // The whole input is the holding's text of version 2, or, where it is of the profile and has no origins, that of version 1. Or the
+    // bytes that were read show the fault; at `Read` and `Memory` they show none: they are unfinished, or a text whose end was looked for,
+    // or a head whose setup needs memory before a fault.
+    ensures read { ReadsFile recordings result (R.log source.old) (R.log source.new) }
+
+    // For an input that is such a text of a holding the result is that holding, `Read` or `Memory`.
+    ensures only { (v : Version) (h : Contents) → IsHolding h → IsTaken recordings h.reel.rules.is_profile → FitsInFile v h
+        → (R.log source.old).remaining ≡ Some (file_text v h) → Returns h result }
 {
     let mut reader = HoldReader::new();
-    read_parts(alloc, source, &mut reader)
+    read_parts(alloc, recordings, source, &mut reader)
 }
 
 /// Reads the head, and then the entries.
 fn read_parts<R: Source>(
     alloc: Global,
+    recordings: Recordings,
     source: &mut R,
     reader: &mut HoldReader,
-) -> Result<Holding, HoldFileFault>
+) -> Result<Holding<Recording>, HoldFileFault>
     requires start { reader.old.place ≡ 0 }
     requires held { reader.old.held ≡ None }
-    ensures { ReadsFile result (R.log source.old) (R.log source.new) }
+    ensures { ReadsFile recordings result (R.log source.old) (R.log source.new) }
 {
-    let reel = reader.read_head(alloc, source)?;
+    let reel = reader.read_head(alloc, recordings, source)?;
     let mut holding = Holding::of_reel(alloc, reel)?;
     read_entries(alloc, source, reader, &mut holding)?;
     Ok(holding)
@@ -56,8 +85,9 @@ fn read_entries<R: Source>(
     alloc: Global,
     source: &mut R,
     reader: &mut HoldReader,
-    holding: &mut Holding,
+    holding: &mut Holding<Recording>,
 ) -> Result<(), HoldFileFault>
+    requires version { HasVersion reader.old.version holding.old.reel.rules.is_profile }
     requires place { reader.old.place ≤ file_limit }
     requires first { reader.old.held ≡ None }
     requires empty { holding.old ≡ no_slices holding.old.reel }
@@ -79,7 +109,7 @@ fn read_entries<R: Source>(
 }
 
 /// Puts an entry that was read into the holding, which is unchanged where memory for it is refused.
-fn insert(holding: &mut Holding, entry: &HeldSlice) -> Result<(), HoldFileFault>
+fn insert(holding: &mut Holding<Recording>, entry: &HeldSlice) -> Result<(), HoldFileFault>
     requires slice { IsEntryOf holding.old.reel.rules entry.now.0 }
     requires origins { AreDigests entry.now.1 }
     ensures ok { OnOk result (holding.new ≡ with_entry holding.old entry.now.0 entry.now.1) }

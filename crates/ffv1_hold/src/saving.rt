@@ -1,5 +1,5 @@
 //! Writing a holding file (own).
-ghost use Rattle.std.specs.Prelude.{true, ◌≡◌, ◌<◌, ◌≤◌, ◌↔◌, ◌++◌, ◌^◌, ◌∷◌, ◌+◌, ◌*◌, [], length, slice_index_or, IfSome, IfNone, IsErrOf, IsTrue};
+ghost use Rattle.std.specs.Prelude.{◌≡◌, ◌<◌, ◌≤◌, ◌↔◌, ◌++◌, ◌^◌, ◌∷◌, ◌+◌, ◌*◌, [], length, slice_index_or, IfSome, IfNone, IsErrOf, IsTrue};
 ghost use Rattle.ffv1_bits.specs.Limits.{slice_limit, record_limit, file_limit};
 ghost use Rattle.ffv1_holding.specs.Sets as set;
 ghost use Rattle.ffv1_devices.specs.Results.{WritesAll};
@@ -12,20 +12,25 @@ ghost use Rattle.ffv1_hold.specs.Saving.{SavesFile};
 ghost use Rattle.ffv1_hold.specs.Inner.Merging.{digests_union};
 
 use crate::file_fault::HoldFileFault;
+use crate::magic::written_magic;
 use crate::origins::ORIGINS_LIMIT;
 use crate::union::{union_count, write_union};
 use crate::version::Version;
 use ffv1_bits::{FILE_LIMIT, RECORD_LIMIT};
 use ffv1_devices::{Sink, WriteFailed, write_field, write_pair};
 use ffv1_holding::{Holding, Reel};
+use ffv1_range::Recorded;
 
-/// Writes the holding file of a holding, of version 2.
+/// Writes the holding file of a holding, of version 2. Its magic says whether the recording is of the profile.
 ///
 /// Returns `TooLong` exactly if the record has more than 2^24 bytes or the file would have more than 2^31, before
 /// anything is written; more than 2^26 origins of one slice never fit. After `Write`, which is returned only if the sink counted a failure,
 /// a front of the file was written; the first failure that is no interruption is reported. No other fault is returned: nothing is
 /// allocated.
-pub fn write_hold<W: Sink>(holding: &Holding, sink: &mut W) -> Result<(), HoldFileFault>
+pub fn write_hold<S: Recorded, W: Sink>(
+    holding: &Holding<S>,
+    sink: &mut W,
+) -> Result<(), HoldFileFault>
     ensures saved { SavesFile result holding.now (W.log sink.old) (W.log sink.new) }
     ensures well_formed { IsHolding holding.now }
     ensures untouched { IsErrOf result HoldFileFault.TooLong → sink.new ≡ sink.old }
@@ -38,7 +43,7 @@ pub fn write_hold<W: Sink>(holding: &Holding, sink: &mut W) -> Result<(), HoldFi
 }
 
 /// Writes the text of a holding.
-fn write_text<S: Sink>(holding: &Holding, sink: &mut S) -> Result<(), WriteFailed>
+fn write_text<R: Recorded, S: Sink>(holding: &Holding<R>, sink: &mut S) -> Result<(), WriteFailed>
     requires fits { FitsInFile Version.Second holding.now }
     requires entries { AreWritable holding.now }
     ensures { WritesAll result (S.log sink.old) (S.log sink.new) (holding_text holding.now) }
@@ -50,18 +55,30 @@ fn write_text<S: Sink>(holding: &Holding, sink: &mut S) -> Result<(), WriteFaile
 }
 
 /// Writes what stands before the entries.
-pub(crate) fn write_head<S: Sink>(sink: &mut S, reel: &Reel) -> Result<(), WriteFailed>
+pub(crate) fn write_head<R: Recorded, S: Sink>(
+    sink: &mut S,
+    reel: &Reel<R>,
+) -> Result<(), WriteFailed>
     requires { length reel.now.config ≤ record_limit }
     ensures { WritesAll result (S.log sink.old) (S.log sink.new) (head_text Version.Second reel.now) }
 {
     let config = reel.config();
     let recording = reel.recording();
-    let head = reel_head(recording.width(), recording.height(), config.len() as u32);
+    let magic = written_magic(recording.is_in_profile());
+    let head = reel_head(
+        &magic,
+        recording.width(),
+        recording.height(),
+        config.len() as u32,
+    );
     write_pair(sink, &head, config)
 }
 
 /// Writes the entries of all tiles.
-fn write_entries<S: Sink>(sink: &mut S, holding: &Holding) -> Result<(), WriteFailed>
+fn write_entries<R: Recorded, S: Sink>(
+    sink: &mut S,
+    holding: &Holding<R>,
+) -> Result<(), WriteFailed>
     requires stated { IsStated Version.Second holding.now }
     requires entries { AreWritable holding.now }
     ensures { WritesAll result (S.log sink.old) (S.log sink.new) (entries_text Version.Second (file_entries holding.now)) }
@@ -73,7 +90,11 @@ fn write_entries<S: Sink>(sink: &mut S, holding: &Holding) -> Result<(), WriteFa
 }
 
 /// Writes the entries of one tile.
-fn write_tile<S: Sink>(sink: &mut S, holding: &Holding, tile: usize) -> Result<(), WriteFailed>
+fn write_tile<R: Recorded, S: Sink>(
+    sink: &mut S,
+    holding: &Holding<R>,
+    tile: usize,
+) -> Result<(), WriteFailed>
     requires tile { tile < reel_tiles holding.now.reel }
     requires number { tile < 2 ^ 16 }
     requires stated { IsStated Version.Second holding.now }
@@ -87,9 +108,9 @@ fn write_tile<S: Sink>(sink: &mut S, holding: &Holding, tile: usize) -> Result<(
 }
 
 /// Writes the entry of the slice of a tile at a place.
-fn write_held<S: Sink>(
+fn write_held<R: Recorded, S: Sink>(
     sink: &mut S,
-    holding: &Holding,
+    holding: &Holding<R>,
     tile: usize,
     place: usize,
 ) -> Result<(), WriteFailed>
@@ -145,26 +166,24 @@ fn entry_head(tile: u16, length: u32) -> [u8; 7]
 
 /// What stands before the record.
 #[tactic(auto, unfolding(crate::specs::HoldingText::be4))]
-fn reel_head(width: u32, height: u32, length: u32) -> [u8; 20]
-    ensures { result ≡ magic Version.Second ++ (be4 width ++ be4 height ++ be4 length) }
+fn reel_head(magic: &[u8; 8], width: u32, height: u32, length: u32) -> [u8; 20]
+    ensures { result ≡ magic.now ++ (be4 width ++ be4 height ++ be4 length) }
 {
+    let [m0, m1, m2, m3, m4, m5, m6, m7] = *magic;
     let w = width.to_be_bytes();
     let h = height.to_be_bytes();
     let n = length.to_be_bytes();
     [
-        b'F', b'F', b'V', b'1', b'H', b'L', b'D', 2, w[0], w[1], w[2], w[3], h[0], h[1], h[2],
-        h[3], n[0], n[1], n[2], n[3],
+        m0, m1, m2, m3, m4, m5, m6, m7, w[0], w[1], w[2], w[3], h[0], h[1], h[2], h[3], n[0], n[1],
+        n[2], n[3],
     ]
 }
 
 /// Whether record and text are within their limits.
-fn fits_in_file(holding: &Holding) -> bool
+fn fits_in_file<R: Recorded>(holding: &Holding<R>) -> bool
     ensures well_formed { IsHolding holding.now }
-    ensures profile { holding.now.reel.rules.is_profile ≡ true }
     ensures fits { IsTrue result ↔ ((length holding.now.reel.config ≤ record_limit) × (length (holding_text holding.now) ≤ file_limit)) }
 {
-    // Its contract says that the recording is of the profile.
-    let _setup = holding.setup();
     let config = holding.reel().config();
     if config.len() > RECORD_LIMIT as usize {
         return false;
@@ -177,7 +196,7 @@ fn fits_in_file(holding: &Holding) -> bool
 }
 
 /// What is left of the room after the entries of all tiles, or `None` where they pass it.
-fn room_after(holding: &Holding, room: u32) -> Option<u32>
+fn room_after<R: Recorded>(holding: &Holding<R>, room: u32) -> Option<u32>
     requires well_formed { IsHolding holding.now }
     requires entries { AreWritable holding.now }
     requires room { room ≤ file_limit }
@@ -192,7 +211,7 @@ fn room_after(holding: &Holding, room: u32) -> Option<u32>
 }
 
 /// What is left of the room after the entries of one tile, or `None` where they pass it.
-fn room_after_tile(holding: &Holding, tile: usize, room: u32) -> Option<u32>
+fn room_after_tile<R: Recorded>(holding: &Holding<R>, tile: usize, room: u32) -> Option<u32>
     requires tile { tile < reel_tiles holding.now.reel }
     requires fits { AreWithinLimit (tile_slices holding.now.slices tile) }
     requires room { room ≤ file_limit }

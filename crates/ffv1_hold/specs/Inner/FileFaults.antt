@@ -1,12 +1,14 @@
 -- The parts of a holding file that have been read, and which of them show a fault.
-use Rattle.std.specs.Prelude.{ℕ, ◌≡◌, ◌⊎◌, List, [], ◌∷◌, ◌++◌}
+use Rattle.std.specs.Prelude.{ℕ, Bool, ◌≡◌, ◌≤◌, ◌⊎◌, length, List, [], ◌∷◌, ◌++◌}
 use Rattle.ffv1_hold.specs.declared.file_fault.HoldFileFault.{HoldFileFault}
 use Rattle.ffv1_hold.specs.declared.file_fault.HoldFileFault.TheVariants as faults
 use Rattle.ffv1_hold.specs.declared.version.Version.{Version}
-use Rattle.ffv1_holding.specs.Reels.{Reel}
+use Rattle.ffv1_bits.specs.Limits.{record_limit}
+use Rattle.ffv1_holding.specs.Reels.{Reel, IsReel}
+use Rattle.ffv1_holding.specs.declared.recordings.Recordings.{Recordings}
 use Rattle.ffv1_holding.specs.Contents.{Contents, IsHolding}
 use Rattle.ffv1_hold.specs.HoldingText.{magic, entries_text, file_entries, IsStated}
-use Rattle.ffv1_hold.specs.FileFaults.{IsPartOfReel, ReelShows, ReelIsWhole, IsPartOfMagic, MagicShows}
+use Rattle.ffv1_hold.specs.FileFaults.{IsPartOfReel, ReelShows, ReelIsWhole, IsMagic, IsPartOfMagic, MagicShows}
 
 -- the end tag, after which the end is looked for
 abbrev pub EndIsWhole : HoldFileFault → List ℕ → Type 0
@@ -21,15 +23,24 @@ EntriesAreWhole v reel f s = (h : Contents) × (tag : List ℕ) × IsHolding h �
 
 -- ---- the head
 
--- a beginning of them that shows no fault yet
-abbrev pub IsPartOfHead : List ℕ → Type 0
-IsPartOfHead s = IsPartOfMagic s ⊎ ((v : Version) × (part : List ℕ) × (s ≡ magic v ++ part) × IsPartOfReel part)
+-- the record after a magic is one that has it, and within its limit
+pub record IsReelAfter (of_profile : Bool) (r : Reel) : Type 0 where
+  pub reel : IsReel r
+  pub named : r.rules.is_profile ≡ of_profile
+  pub fits : length r.config ≤ record_limit
 
-abbrev pub HeadShows : HoldFileFault → List ℕ → Type 0
-HeadShows f s = MagicShows f s ⊎ ((v : Version) × (seen : List ℕ) × (s ≡ magic v ++ seen) × ReelShows f seen)
+-- a beginning of them that shows no fault yet
+abbrev pub IsPartOfHead : Recordings → List ℕ → Type 0
+IsPartOfHead recordings s = IsPartOfMagic recordings s
+    ⊎ ((of_profile : Bool) × (v : Version) × (part : List ℕ) × IsMagic recordings of_profile v × (s ≡ magic of_profile v ++ part) × IsPartOfReel part)
+
+abbrev pub HeadShows : Recordings → HoldFileFault → List ℕ → Type 0
+HeadShows recordings f s = MagicShows recordings f s
+    ⊎ ((of_profile : Bool) × (v : Version) × (seen : List ℕ) × IsMagic recordings of_profile v × (s ≡ magic of_profile v ++ seen) × ReelShows of_profile f seen)
 
 -- they are whole, after which memory for the setup is wanted
-abbrev pub HeadIsWhole : HoldFileFault → List ℕ → Type 0
-HeadIsWhole f s = (v : Version) × (reel : List ℕ) × (s ≡ magic v ++ reel) × ReelIsWhole f reel
+abbrev pub HeadIsWhole : Recordings → HoldFileFault → List ℕ → Type 0
+HeadIsWhole recordings f s =
+    (of_profile : Bool) × (v : Version) × (reel : List ℕ) × IsMagic recordings of_profile v × (s ≡ magic of_profile v ++ reel) × ReelIsWhole of_profile f reel
 
 -- ---- the whole file

@@ -10,11 +10,12 @@ use Rattle.ffv1_holding.specs.SliceOrder.{entry_cmp, bytes_cmp, origin_cmp, with
 use Rattle.ffv1_holding.specs.Sets as set
 use Rattle.ffv1_holding.specs.Reels.{Reel}
 use Rattle.ffv1_holding.specs.Contents.{Contents, IsHolding}
+use Rattle.ffv1_holding.specs.declared.recordings.Recordings.{Recordings}
 use Rattle.ffv1_hold.specs.declared.file_fault.HoldFileFault.{HoldFileFault}
 use Rattle.ffv1_hold.specs.declared.file_fault.HoldFileFault.TheVariants as faults
 use Rattle.ffv1_hold.specs.declared.version.Version.{Version}
 use Rattle.ffv1_hold.specs.declared.version.Version.TheVariants.{Second}
-use Rattle.ffv1_hold.specs.HoldingText.{FileEntry, origins_limit, head_text, entry_text, begun_text, file_entries, IsStated}
+use Rattle.ffv1_hold.specs.HoldingText.{FileEntry, HasVersion, origins_limit, head_text, entry_text, begun_text, file_entries, IsStated}
 use Rattle.ffv1_hold.specs.Inner.Reading.{Takes}
 use Rattle.ffv1_hold.specs.Reading.{Refuses}
 use Rattle.ffv1_hold.specs.FileEntries.{last_of, Follows, AreOrigins, IsFileEntryOf}
@@ -24,8 +25,9 @@ use Rattle.ffv1_hold.specs.Inner.FileFaults.{IsPartOfHead, HeadIsWhole, HeadShow
 use Rattle.ffv1_hold.specs.ReadLimits.{LiesWhole, AreAllDigests}
 use Rattle.ffv1_hold.specs.MergedStreams.{Inputs, IsFileOf, IsFileOfSome, ReadsOtherHeads, MergeRefuses, WritesNoEnd, WritesFrontSoFar, WritesAtMost, ReadsBoth, StreamBegins}
 
--- what both inputs had left and the sink held at first, the reel of both heads, and their versions
+-- which files are read, what both inputs had left and the sink held at first, the reel of both heads, and their versions
 pub record Start : Type 0 where
+  pub recordings : Recordings
   pub left : Option (List ℕ)
   pub right : Option (List ℕ)
   pub sink : Option (List ℕ)
@@ -34,7 +36,7 @@ pub record Start : Type 0 where
   pub right_version : Version
 
 abbrev pub inputs_from : Start → Option (List ℕ) → Option (List ℕ) → Inputs
-inputs_from s left right = record { left_old = s.left; left_new = left; right_old = s.right; right_new = right }
+inputs_from s left right = record { recordings = s.recordings; left_old = s.left; left_new = left; right_old = s.right; right_new = right }
 
 -- ---- what is held of a reel
 
@@ -100,7 +102,9 @@ pub record AreVersions (s : Start) (left right : Version) : Type 0 where
 
 -- Both heads of the reel were read, and nothing was written.
 pub record IsOpened (s : Start) (r : Reel) (left right sink : Option (List ℕ)) (left_place right_place : ℕ) : Type 0 where
-  pub reel : IsFileReel s.reel
+  pub reel : IsFileReel s.recordings s.reel
+  pub left_has : HasVersion s.left_version s.reel.rules.is_profile
+  pub right_has : HasVersion s.right_version s.reel.rules.is_profile
   pub same : r ≡ s.reel
   pub left_head : Takes s.left left 0 left_place (head_text s.left_version s.reel)
   pub right_head : Takes s.right right 0 right_place (head_text s.right_version s.reel)
@@ -108,7 +112,7 @@ pub record IsOpened (s : Start) (r : Reel) (left right sink : Option (List ℕ))
 
 -- The entries of both inputs so far were written, each once, and what both hold next stands after them.
 pub record Stands (s : Start) (left right sink : Option (List ℕ)) (left_place right_place room : ℕ) (left_next right_next : Option FileEntry) : Type 0 where
-  pub reel : IsFileReel s.reel
+  pub reel : IsFileReel s.recordings s.reel
   pub lefts : Facts
   pub rights : Facts
   pub left_held : IsReadUpTo s.left left s.left_version s.reel lefts left_place left_next
@@ -120,7 +124,7 @@ pub record Stands (s : Start) (left right sink : Option (List ℕ)) (left_place 
 
 -- Both inputs were read to their ends, and their entries were written, each once.
 pub record Ends (s : Start) (left right sink : Option (List ℕ)) (room : ℕ) : Type 0 where
-  pub is : IsFileReel s.reel
+  pub is : IsFileReel s.recordings s.reel
   pub lefts : Facts
   pub rights : Facts
   pub read : ReadsBoth (inputs_from s left right) (part s.reel lefts) (part s.reel rights)
@@ -129,11 +133,15 @@ pub record Ends (s : Start) (left right sink : Option (List ℕ)) (room : ℕ) :
 
 -- ---- refusals
 
+-- why a head was refused
+abbrev pub HeadRefuses : Recordings → (old new : Option (List ℕ)) → HoldFileFault → Type 0
+HeadRefuses recordings old new f = Refuses (IsPartOfHead recordings) (HeadIsWhole recordings) (HeadShows recordings) old new 0 f
+
 -- A head was refused, of the left input or after the left one of the right, or both are of two reels.
 abbrev pub HeadsRefuse : Inputs → HoldFileFault → Type 0
-HeadsRefuse i f = (Refuses IsPartOfHead HeadIsWhole HeadShows i.left_old i.left_new 0 f × (i.right_new ≡ i.right_old))
-    ⊎ (((v : Version) × (r : Reel) × IsFileReel r × Consumes i.left_old i.left_new (head_text v r))
-    × Refuses IsPartOfHead HeadIsWhole HeadShows i.right_old i.right_new 0 f)
+HeadsRefuse i f = (HeadRefuses i.recordings i.left_old i.left_new f × (i.right_new ≡ i.right_old))
+    ⊎ (((v : Version) × (r : Reel) × IsFileReel i.recordings r × HasVersion v r.rules.is_profile × Consumes i.left_old i.left_new (head_text v r))
+    × HeadRefuses i.recordings i.right_old i.right_new f)
     ⊎ ((f ≡ faults.OtherReel) × ReadsOtherHeads i)
 
 -- after a failed write these bytes were written: a front of the text of the union of what was read
@@ -149,7 +157,7 @@ pub record StopsAtWrite (i : Inputs) (r : Reel) (old new : Option (List ℕ)) : 
 -- What a refusal after two heads of one reel says of all that was read and written.
 pub record Stops (i : Inputs) (old new : Option (List ℕ)) (f : HoldFileFault) : Type 0 where
   pub reel : Reel
-  pub is : IsFileReel reel
+  pub is : IsFileReel i.recordings reel
   pub left_version : Version
   pub right_version : Version
   pub left_head : StreamBegins i.left_old (head_text left_version reel)

@@ -1,15 +1,10 @@
--- How the version, and a digest, of a holding file are read.
+-- How a digest of a holding file is read.
 use Rattle.std.specs.Prelude.{ℕ, ◌≡◌, ◌≢◌, List, [], ◌∷◌, ◌++◌, Option}
 use Rattle.ffv1_devices.specs.Logs.{ReadLog}
 use Rattle.ffv1_hold.specs.declared.file_fault.HoldFileFault.{HoldFileFault}
 use Rattle.ffv1_hold.specs.declared.file_fault.HoldFileFault.TheVariants as faults
 use Rattle.ffv1_hold.specs.Inner.Reading.{TakesText}
 use Rattle.ffv1_hold.specs.FileEntries.{last_of, FollowsDigest, IsDigest}
-
--- a byte that is the number of no version
-abbrev pub VersionShows : HoldFileFault → List ℕ → Type 0
-VersionShows faults.Magic s = (n : ℕ) × (s ≡ n ∷ []) × (n ≢ 1) × (n ≢ 2)
-VersionShows _ s = ⊥
 
 -- a digest that does not stand after the last one
 abbrev pub DigestShows : Option (List ℕ) → HoldFileFault → List ℕ → Type 0

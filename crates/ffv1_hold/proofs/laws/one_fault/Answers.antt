@@ -7,4 +7,4 @@ pub returns-clause-input : goal.returns-clause-input
 returns-clause-input c = one_input
 
 pub returns-clause-beginnings : goal.returns-clause-beginnings
-returns-clause-beginnings c input seen rest others rest' f g one two a b = one_fault f g seen others rest rest' (sym one ∙ two) a b
+returns-clause-beginnings c q input seen rest others rest' f g one two a b = one_fault q f g seen others rest rest' (sym one ∙ two) a b

@@ -6,6 +6,7 @@ use Rattle.ffv1_hold.proofs.merging.merge_files.Goals as goal
 pub returns : goal.returns
 returns g c =
     let s : Start = record {
+      recordings = c.args.recordings;
       left = (g.R.Source.log c.args.left.now).remaining;
       right = (g.Q.Source.log c.args.right.now).remaining;
       sink = (g.W.Sink.log c.args.sink.now).contents;
@@ -16,7 +17,7 @@ returns g c =
     let o = c.in_ok-reel.ensures in
     let versions : AreVersions s _ _ = record { left_is = refl; right_is = refl } in
     let opened : IsOpened s c.in_ok-reel.reel _ _ _ _ _ =
-    record { reel = o.reel; same = search rules; left_head = o.left; right_head = o.right; unwritten = refl } in
+    record { reel = o.reel; left_has = o.left_has; right_has = o.right_has; same = search rules; left_head = o.left; right_head = o.right; unwritten = refl } in
     let r = c.merge_after_heads.result in
     let done = c.merge_after_heads.ensures in
     record {

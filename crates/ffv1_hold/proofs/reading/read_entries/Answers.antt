@@ -27,14 +27,14 @@ returns-in_err-advance g c =
     let p = err_from_is_err_and c.from_residual.result c.from_residual.ensures.1 in
     let v = c.args.reader.now.version in
     let h = c.args.holding.now in
-    let none = none_read v _ _ h c.args.reader.now.held c.requires.place c.reel.ensures.well_formed.reel c.requires.empty c.requires.first in
+    let none = none_read v _ _ h c.args.reader.now.held c.requires.place c.reel.ensures.well_formed.reel c.requires.empty c.requires.version c.requires.first in
     rw (p.1, p.2) (record { read = next_refused v h.reel _ _ _ _ h _ none v _ refl (c.recording.ensures.rules ∙ ap (λ (r : Reel). r.rules) c.reel.ensures.value) _ _ c.in_err-advance.ensures.read; end = tt; well_formed = tt; stated = tt; reel = tt })
 
 pub loop-reader-init : goal.loop-reader-init
 loop-reader-init g c =
     let v = c.args.reader.now.version in
     let h = c.args.holding.now in
-    let none = none_read v _ _ h c.args.reader.now.held c.requires.place c.reel.ensures.well_formed.reel c.requires.empty c.requires.first in
+    let none = none_read v _ _ h c.args.reader.now.held c.requires.place c.reel.ensures.well_formed.reel c.requires.empty c.requires.version c.requires.first in
     let next = c.in_ok-advance.ensures in
     record {
       text = TakesText-trans _ _ _ _ _ _ _ _ none.text next.read;

@@ -1,6 +1,5 @@
-use Rattle.ffv1_hold.proofs.Returned.{returned}
+use Rattle.ffv1_hold.proofs.Common.{◌∙◌}
 use Rattle.ffv1_hold.proofs.reading.read_hold.Goals as goal
 
-pub returns-clause-only : goal.returns-clause-only
-returns-clause-only g c v h is fits known =
-    returned v h is fits (g.R.Source.log c.args.source.now) (g.R.Source.log c.read_parts.new.source) c.read_parts.result known c.read_parts.ensures
+pub returns-in-Ok-clause-only : goal.returns-in-Ok-clause-only
+returns-in-Ok-clause-only g c v h is profile fits known = c.in-Ok.ensures.ok.0 ∙ c.in_ok-holding.ensures.only v h is profile fits known

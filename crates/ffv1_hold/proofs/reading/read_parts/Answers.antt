@@ -1,4 +1,4 @@
-use Rattle.ffv1_hold.proofs.Common.{common_steps, [], ◌∷◌, ◌++◌, arith, inl, sym, subst, ap, ◌∙◌, append_assoc, err_from_is_err_and, Reel, Contents, head_text, entries_text, file_entries, TakesText, IsPartOfEntries, IsPartOfFile, FileIsWhole, EntriesShow, FileShows, EntriesAreWhole}
+use Rattle.ffv1_hold.proofs.Common.{common_steps, [], ◌∷◌, ◌++◌, arith, inl, sym, subst, ap, ◌∙◌, append_assoc, err_from_is_err_and, Reel, Contents, head_text, entries_text, file_entries, TakesText, IsPartOfEntries, IsPartOfFile, FileIsWhole, EntriesShow, FileShows, EntriesAreWhole, IsTaken}
 use Rattle.ffv1_hold.proofs.TextReads.{TakesText-trans, StopsAt-after, memory_stops}
 use Rattle.ffv1_hold.proofs.Heads.{head_is_part, head_file, file_from_entries_part, file_from_whole_entries, file_from_entries_fault}
 use Rattle.ffv1_hold.proofs.reading.read_parts.Goals as goal
@@ -7,14 +7,14 @@ pub returns-in_err-reel : goal.returns-in_err-reel
 returns-in_err-reel g c =
     let p = err_from_is_err_and c.from_residual.result c.from_residual.ensures.1 in
     let e = c.in_err-reel.ensures.read in
-    rw (p.1, p.2) (record { fault = head_file _ _ _ e.fault; tries' = e.tries'; few = e.few })
+    rw (p.1, p.2) (record { fault = head_file c.args.recordings _ _ _ e.fault; tries' = e.tries'; few = e.few })
 
 -- the head was right, and memory for its tiles was refused
 pub returns-in_err-holding : goal.returns-in_err-holding
 returns-in_err-holding g c =
     let p = err_from_is_err_and c.from_residual-in_err-holding.result c.from_residual-in_err-holding.ensures.1 in
     let head = c.in_ok-reel.ensures in
-    rw (p.1, p.2) (memory_stops IsPartOfFile FileIsWhole FileShows _ _ _ _ _ head.read (inl (head_is_part _ c.in_ok-reel.reel head.reel)))
+    rw (p.1, p.2) (memory_stops (IsPartOfFile c.args.recordings) (FileIsWhole c.args.recordings) (FileShows c.args.recordings) _ _ _ _ _ head.read (inl (head_is_part _ c.in_ok-reel.reel head.reel head.has)))
 
 pub returns-in_err-read_entries : goal.returns-in_err-read_entries
 returns-in_err-read_entries g c =
@@ -24,7 +24,7 @@ returns-in_err-read_entries g c =
     let same = ap (λ (h : Contents). h.reel) c.in_ok-holding.ensures in
     let v = c.read_head.new.self.version in
     let reel = c.in_ok-holding.holding.reel in
-    rw (p.1, p.2) (StopsAt-after (IsPartOfEntries v reel.rules) IsPartOfFile (EntriesAreWhole v reel) FileIsWhole (EntriesShow v reel.rules) FileShows _ _ _ _ _
+    rw (p.1, p.2) (StopsAt-after (IsPartOfEntries v reel.rules) (IsPartOfFile c.args.recordings) (EntriesAreWhole v reel) (FileIsWhole c.args.recordings) (EntriesShow v reel.rules) (FileShows c.args.recordings) _ _ _ _ _
     (head_text v r) c.in_ok-reel.ensures.read _ c.in_err-read_entries.ensures.read
     (λ s part. file_from_entries_part v r is s (subst (λ (x : Reel). IsPartOfEntries v x.rules s) same part))
     (λ f s whole. file_from_whole_entries v r is f s (subst (λ (x : Reel). EntriesAreWhole v x f s) same whole))
@@ -43,6 +43,7 @@ returns g c =
     ∙ ap (λ (x : Reel). head_text v x ++ entries ++ 0 ∷ []) (sym reel)) all in
     record {
       well_formed = more.well_formed;
+      taken = subst (λ (x : Reel). IsTaken c.args.recordings x.rules.is_profile) (sym reel) first.reel.taken;
       file = grind (arith, common_steps);
       at_end = more.end;
       tries' = whole.tries';

@@ -5,13 +5,13 @@ use Rattle.ffv1_hold.proofs.SavedTiles.{tile_within_limit}
 use Rattle.ffv1_hold.proofs.saving.room_after.Goals as goal
 
 pub loop-tile-init : goal.loop-tile-init
-loop-tile-init c = omega (arith, ap length (entries_text-none Second))
+loop-tile-init g c = omega (arith, ap length (entries_text-none Second))
 
 pub room_after_tile-requires-clause-fits : goal.room_after_tile-requires-clause-fits
-room_after_tile-requires-clause-fits c = tile_within_limit c.args.holding.now c.requires.entries c.loop-tile.tile
+room_after_tile-requires-clause-fits g c = tile_within_limit c.args.holding.now c.requires.entries c.loop-tile.tile
 
 pub loop-tile-preserved : goal.loop-tile-preserved
-loop-tile-preserved c =
+loop-tile-preserved g c =
     let h = c.args.holding.now in
     let t = c.loop-tile.tile in
     let block = length-entries_text h c.requires.well_formed (tile_entries h.slices t) in
@@ -19,7 +19,7 @@ loop-tile-preserved c =
     omega (arith, block, more, c.loop-tile.invariant, c.in_ok-left.ensures.some)
 
 pub returns-in_err-left-clause-none : goal.returns-in_err-left-clause-none
-returns-in_err-left-clause-none c =
+returns-in_err-left-clause-none g c =
     let h = c.args.holding.now in
     let n = reel_tiles h.reel in
     let t = c.loop-tile.tile in
@@ -32,7 +32,7 @@ returns-in_err-left-clause-none c =
     rw c.from_residual.ensures (omega (arith, block, whole, c.loop-tile.invariant, c.in_err-left.ensures.none))
 
 pub returns-clause-some : goal.returns-clause-some
-returns-clause-some c =
+returns-clause-some g c =
     let h = c.args.holding.now in
     let n = reel_tiles h.reel in
     let same = ap reel_tiles c.reel.ensures.value in

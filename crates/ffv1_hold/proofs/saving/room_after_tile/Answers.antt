@@ -1,14 +1,15 @@
 use Rattle.ffv1_hold.proofs.Common.{common_steps, ◌≡◌, ◌<◌, ◌+◌, ◌*◌, take, length, arith, ap, sym, ◌∙◌, take_all, tile_slices, digests_of, size-items, tile_file_entries, entries_length}
 use Rattle.ffv1_holding.specs.Sets as set
 use Rattle.ffv1_hold.proofs.TileTexts.{own, entry_at, tile_count, entries_length-more, entries_length-part}
+use Rattle.ffv1_hold.proofs.saving.room_after_tile.Given.{Over}
 use Rattle.ffv1_hold.proofs.saving.room_after_tile.Goals.{After-origins_at-origins}
 use Rattle.ffv1_hold.proofs.saving.room_after_tile.Goals as goal
 
 -- the room that this place's entry takes
-taken : (c : After-origins_at-origins) → entries_length (take (c.loop-place.place + 1) (tile_file_entries c.args.holding.now c.args.tile))
+taken : (g : Over) (c : After-origins_at-origins g) → entries_length (take (c.loop-place.place + 1) (tile_file_entries c.args.holding.now c.args.tile))
     ≡ entries_length (take c.loop-place.place (tile_file_entries c.args.holding.now c.args.tile))
     + (11 + length c.slice-slice.result.now + 32 * length c.origins_at-origins.result.now)
-taken c =
+taken g c =
     let h = c.args.holding.now in
     let tile = c.args.tile in
     let bs = set.items (tile_slices h.slices tile) in
@@ -22,15 +23,15 @@ taken c =
     omega (arith, same, more)
 
 pub returns-in_err-left-clause-none : goal.returns-in_err-left-clause-none
-returns-in_err-left-clause-none c =
-    let long = taken (goal.at.returns-in_err-left-clause-none c).After-origins_at-origins in
+returns-in_err-left-clause-none g c =
+    let long = taken g (goal.at.returns-in_err-left-clause-none g c).After-origins_at-origins in
     grind (arith, common_steps, entries_length-part)
 
 pub loop-place-preserved : goal.loop-place-preserved
-loop-place-preserved c =
-    omega (arith, c.loop-place.invariant, c.in_ok-left.ensures.some, taken (goal.at.loop-place-preserved c).After-origins_at-origins)
+loop-place-preserved g c =
+    omega (arith, c.loop-place.invariant, c.in_ok-left.ensures.some, taken g (goal.at.loop-place-preserved g c).After-origins_at-origins)
 
 pub returns-clause-some : goal.returns-clause-some
-returns-clause-some c =
+returns-clause-some g c =
     let es = tile_file_entries c.args.holding.now c.args.tile in
     grind (arith, common_steps, take_all, tile_count)

@@ -1,0 +1,41 @@
+-- Beginnings of magics.
+use Rattle.ffv1_hold.proofs.Common.{◌≡◌, ℕ, ◌+◌, ◌<◌, ◌≤◌, List, [], ◌∷◌, ◌++◌, length, take, get_or, Bool, true, false, refl, sym, ap, ◌∙◌, subst, inl, inr, arith, append-nil, length-take-le, true≢false, ◌⊎◌, take-append_seam, Recordings, Profile, Any, HoldFileFault, Version, First, Second, magic, IsTaken, BeginsMagic, IsPartOfMagic, MagicShows, HasVersion}
+use Rattle.ffv1_hold.specs.declared.file_fault.HoldFileFault.TheVariants as faults
+
+-- files of recordings of the profile are always read
+pub profile_taken : (c : Recordings) → IsTaken c true
+profile_taken Profile = refl
+profile_taken Any = tt
+
+-- nothing begins each magic
+pub begun_none : (c : Recordings) → BeginsMagic c []
+begun_none c = record { of_profile = true; version = Second; is_magic = (profile_taken c, tt); begins = refl }
+
+-- the bytes begin one of these
+abbrev pub IsOneOf : Recordings → List ℕ → Type 0
+IsOneOf c s = (s ≡ take (length s) (magic true First)) ⊎ ((s ≡ take (length s) (magic true Second)) ⊎ ((c ≡ Any) × (s ≡ take (length s) (magic false Second))))
+
+pub begins_one : (c : Recordings) (s : List ℕ) → IsOneOf c s → BeginsMagic c s
+begins_one c s (inl is) = record { of_profile = true; version = First; is_magic = (profile_taken c, refl); begins = is }
+begins_one c s (inr (inl is)) = record { of_profile = true; version = Second; is_magic = (profile_taken c, tt); begins = is }
+begins_one c s (inr (inr (any, is))) = record { of_profile = false; version = Second; is_magic = (subst (λ d. IsTaken d false) (sym any) tt, tt); begins = is }
+
+pub one_begun : (c : Recordings) (s : List ℕ) → BeginsMagic c s → IsOneOf c s
+one_begun c s b = go c b.of_profile b.version b.is_magic.0 b.is_magic.1 b.begins
+  where
+    go : (c : Recordings) (p : Bool) (v : Version) → IsTaken c p → HasVersion v p → s ≡ take (length s) (magic p v) → IsOneOf c s
+    go c true First taken has is = inl is
+    go c true Second taken has is = inr (inl is)
+    go c false First taken has is = absurd (true≢false (sym has))
+    go Profile false Second taken has is = absurd (true≢false (sym taken))
+    go Any false Second taken has is = inr (inr (refl, is))
+
+-- a beginning of a magic, before its end
+pub part_of_magic : (c : Recordings) (seen s : List ℕ) → length seen < 8 → BeginsMagic c seen → length s < 1 → IsPartOfMagic c (seen ++ s)
+part_of_magic c seen [] few begun short = subst (IsPartOfMagic c) (sym (append-nil seen)) (few, begun)
+part_of_magic c seen (x ∷ s) few begun short = absurd (omega arith)
+
+-- and a wrong byte after it
+pub wrong_byte : (c : Recordings) (seen s : List ℕ) (wrong : ℕ) → length seen < 8 → BeginsMagic c seen → s ≡ seen ++ wrong ∷ [] → (BeginsMagic c s → ⊥)
+    → MagicShows c faults.Magic s
+wrong_byte c seen s wrong few begun is other = (seen, wrong, is, (few, begun), other)
