@@ -8,6 +8,7 @@ ghost use Rattle.ffv1_holding.specs.TileState.{status_of, tile_state, restored_p
 ghost use Rattle.ffv1_picture.specs.ReportText.{hex_byte, reel_line, slices_held, least_status, settled_numbers, settled_words, disputed_words, tile_words, tile_line, origin_line, origin_lines, tile_lines, is_missing, is_settled, is_disputed, tiles_that, count_words, length_words, whole_words, frame_line, report_text};
 
 use ffv1_hold::{Holding, TileState};
+use ffv1_range::Recorded;
 use ffv1_slice::status_of;
 use sha2::{Digest, Sha256};
 use std::alloc::{AllocError, Global};
@@ -18,7 +19,7 @@ use std::alloc::{AllocError, Global};
 ///
 /// It fails where memory is refused.
 #[tactic(auto, unfolding(crate::specs::ReportText::report_text))]
-pub fn report(alloc: Global, holding: &Holding) -> Result<String, AllocError>
+pub fn report<S: Recorded>(alloc: Global, holding: &Holding<S>) -> Result<String, AllocError>
     ensures { IfOk result (λ text. string_bytes text ≡ report_text holding.now) }
 {
     let mut text = String::new(alloc);
@@ -31,27 +32,32 @@ pub fn report(alloc: Global, holding: &Holding) -> Result<String, AllocError>
 }
 
 /// Adds the line of the recording.
-fn push_reel(text: &mut String, holding: &Holding) -> Result<(), AllocError>
+fn push_reel<S: Recorded>(text: &mut String, holding: &Holding<S>) -> Result<(), AllocError>
     ensures { OnOk result (string_bytes text.new ≡ string_bytes text.old ++ reel_line holding.now) }
 {
-    let setup = holding.setup();
-    let (width, height, tiles) = (setup.width(), setup.height(), setup.grid().tiles());
+    let reel = holding.reel();
+    let recording = reel.recording();
+    let (width, height, tiles) = (recording.width(), recording.height(), reel.tiles());
     writeln!(text, "reel {width}x{height} tiles {tiles}")
 }
 
 /// Adds the lines of the tiles.
-fn push_tiles(text: &mut String, holding: &Holding) -> Result<(), AllocError>
+fn push_tiles<S: Recorded>(text: &mut String, holding: &Holding<S>) -> Result<(), AllocError>
     ensures { OnOk result (string_bytes text.new
         ≡ string_bytes text.old ++ flat_map (tile_lines holding.now) (range_with_len 0 (reel_tiles holding.now.reel))) }
 {
-    for tile in 0..holding.setup().grid().tiles() {
+    for tile in 0..holding.reel().tiles() {
         push_tile_lines(text, holding, tile)?;
     }
     Ok(())
 }
 
 /// Adds the line of a tile, and those of the copies that gave its slice.
-fn push_tile_lines(text: &mut String, holding: &Holding, tile: usize) -> Result<(), AllocError>
+fn push_tile_lines<S: Recorded>(
+    text: &mut String,
+    holding: &Holding<S>,
+    tile: usize,
+) -> Result<(), AllocError>
     requires { tile < reel_tiles holding.now.reel }
     ensures { OnOk result (string_bytes text.new ≡ string_bytes text.old ++ tile_lines holding.now tile) }
 {
@@ -60,7 +66,11 @@ fn push_tile_lines(text: &mut String, holding: &Holding, tile: usize) -> Result<
 }
 
 /// Adds the line of a tile.
-fn push_tile(text: &mut String, holding: &Holding, tile: usize) -> Result<(), AllocError>
+fn push_tile<S: Recorded>(
+    text: &mut String,
+    holding: &Holding<S>,
+    tile: usize,
+) -> Result<(), AllocError>
     requires { tile < reel_tiles holding.now.reel }
     ensures { OnOk result (string_bytes text.new ≡ string_bytes text.old ++ tile_line holding.now tile) }
 {
@@ -70,7 +80,11 @@ fn push_tile(text: &mut String, holding: &Holding, tile: usize) -> Result<(), Al
 }
 
 /// Adds the lines of the copies that gave a tile's slice, where it is settled.
-fn push_origins(text: &mut String, holding: &Holding, tile: usize) -> Result<(), AllocError>
+fn push_origins<S: Recorded>(
+    text: &mut String,
+    holding: &Holding<S>,
+    tile: usize,
+) -> Result<(), AllocError>
     requires { tile < reel_tiles holding.now.reel }
     ensures { OnOk result (string_bytes text.new ≡ string_bytes text.old ++ origin_lines holding.now tile (tile_state holding.now tile)) }
 {
@@ -78,7 +92,7 @@ fn push_origins(text: &mut String, holding: &Holding, tile: usize) -> Result<(),
         return Ok(());
     };
     // A settled slice is held, and so has origins, be they none.
-    let _setup = holding.setup();
+    let _reel = holding.reel();
     let Some(origins) = holding.origins(tile, slice) else {
         return Ok(());
     };
@@ -98,12 +112,16 @@ fn push_origin(text: &mut String, tile: usize, digest: &[u8; 32]) -> Result<(), 
 }
 
 /// Adds how a tile stands.
-fn push_state(text: &mut String, holding: &Holding, tile: usize) -> Result<(), AllocError>
+fn push_state<S: Recorded>(
+    text: &mut String,
+    holding: &Holding<S>,
+    tile: usize,
+) -> Result<(), AllocError>
     requires { tile < reel_tiles holding.now.reel }
     ensures { OnOk result (string_bytes text.new ≡ string_bytes text.old ++ tile_words (slices_held holding.now tile) (tile_state holding.now tile)) }
 {
     // Each slice that is held has its footer.
-    let _setup = holding.setup();
+    let _reel = holding.reel();
     let held = holding.held(tile);
     match holding.state(tile) {
         TileState::Missing => text.push_str(" missing"),
@@ -149,7 +167,7 @@ fn push_disputed(
 }
 
 /// The least error status of the slices that are held of a tile.
-fn least_status(holding: &Holding, tile: usize) -> u8
+fn least_status<S: Recorded>(holding: &Holding<S>, tile: usize) -> u8
     requires { tile < reel_tiles holding.now.reel }
     ensures { result ≡ least_status (slices_held holding.now tile) }
 {
@@ -182,7 +200,7 @@ struct Counts {
 }
 
 /// Counts the tiles of a holding.
-fn counts_of(holding: &Holding) -> Counts
+fn counts_of<S: Recorded>(holding: &Holding<S>) -> Counts
     ensures settled { result.settled ≡ tiles_that is_settled holding.now }
     ensures disputed { result.disputed ≡ tiles_that is_disputed holding.now }
     ensures missing { result.missing ≡ tiles_that is_missing holding.now }
@@ -192,7 +210,7 @@ fn counts_of(holding: &Holding) -> Counts
         disputed: 0,
         missing: 0,
     };
-    for tile in 0..holding.setup().grid().tiles() {
+    for tile in 0..holding.reel().tiles() {
         match holding.state(tile) {
             TileState::Settled(_) => counts.settled += 1,
             TileState::Disputed(_) => counts.disputed += 1,
@@ -214,11 +232,15 @@ fn push_counts(text: &mut String, counts: &Counts) -> Result<(), AllocError>
 }
 
 /// Adds the line of the whole frame, where so many tiles are settled.
-fn push_frame(text: &mut String, holding: &Holding, settled: usize) -> Result<(), AllocError>
+fn push_frame<S: Recorded>(
+    text: &mut String,
+    holding: &Holding<S>,
+    settled: usize,
+) -> Result<(), AllocError>
     requires { settled ≡ tiles_that is_settled holding.now }
     ensures { OnOk result (string_bytes text.new ≡ string_bytes text.old ++ frame_line holding.now) }
 {
-    if settled == holding.setup().grid().tiles() {
+    if settled == holding.reel().tiles() {
         push_whole(text, holding)
     } else {
         text.push_str("frame incomplete\n")
@@ -226,7 +248,7 @@ fn push_frame(text: &mut String, holding: &Holding, settled: usize) -> Result<()
 }
 
 /// Adds the length and the digest of the settled slices, joined in tile order.
-fn push_whole(text: &mut String, holding: &Holding) -> Result<(), AllocError>
+fn push_whole<S: Recorded>(text: &mut String, holding: &Holding<S>) -> Result<(), AllocError>
     ensures { OnOk result (string_bytes text.new ≡ string_bytes text.old ++ whole_words (restored_payload holding.now)) }
 {
     let (bytes, digest) = measure(holding);
@@ -243,13 +265,13 @@ fn push_length(text: &mut String, bytes: usize) -> Result<(), AllocError>
 }
 
 /// The length and the digest of the settled slices, joined in tile order.
-fn measure(holding: &Holding) -> (usize, [u8; 32])
+fn measure<S: Recorded>(holding: &Holding<S>) -> (usize, [u8; 32])
     ensures bytes { result.0 ≡ length (restored_payload holding.now) }
     ensures digest { result.1 ≡ sha256 (restored_payload holding.now) }
 {
     let mut hasher = Sha256::new();
     let mut bytes = 0;
-    for tile in 0..holding.setup().grid().tiles() {
+    for tile in 0..holding.reel().tiles() {
         if let TileState::Settled(slice) = holding.state(tile) {
             hasher.update(slice);
             bytes += slice.len();

@@ -45,7 +45,7 @@ one_more h n old new s so_far is then =
     })
 
 pub loop-tile-preserved : goal.loop-tile-preserved
-loop-tile-preserved c =
+loop-tile-preserved g c =
     elim c.match-state.branch [
       | in-Settled w ↦ one_more c.args.holding.now c.loop-tile.tile _ _ _ c.loop-tile.invariant (ap state_shown (sym w.in-Settled.is) ∙ c.state.ensures) w.counts-is
       | in-Disputed w ↦ one_more c.args.holding.now c.loop-tile.tile _ _ _ c.loop-tile.invariant (ap state_shown (sym w.in-Disputed.is) ∙ c.state.ensures) w.counts-is

@@ -6,7 +6,7 @@ use Rattle.ffv1_picture.proofs.reporting.counts_of.Given as goal
 
 -- the tiles so far are counted
 abbrev pub invariant-loop-tile : goal.invariant-loop-tile
-invariant-loop-tile l = record {
+invariant-loop-tile g l = record {
   settled : l.counts.settled ≡ count_by (λ tile. is_settled (tile_state l.holding tile)) (range_with_len 0 l.tile);
   disputed : l.counts.disputed ≡ count_by (λ tile. is_disputed (tile_state l.holding tile)) (range_with_len 0 l.tile);
   missing : l.counts.missing ≡ count_by (λ tile. is_missing (tile_state l.holding tile)) (range_with_len 0 l.tile);

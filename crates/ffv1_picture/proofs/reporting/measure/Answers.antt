@@ -12,7 +12,7 @@ use Rattle.ffv1_picture.proofs.reporting.measure.Goals as goal
 use Rattle.ffv1_picture.proofs.reporting.measure.Goals.{in-Settled, in_default}
 
 pub loop-tile-preserved : goal.loop-tile-preserved
-loop-tile-preserved c =
+loop-tile-preserved g c =
     let h = c.args.holding.now in
     let n = c.loop-tile.tile in
     let so_far = c.loop-tile.invariant in
@@ -29,7 +29,7 @@ loop-tile-preserved c =
           record {
             hashed = subst Q all (subst P (sym w.hasher-is) (w.update.ensures before so_far.hashed));
             counted = omega (arith, w.bytes-is, so_far.counted, length-append before slice, ap length all);
-            few = omega (arith, w.bytes-is, so_far.few, (settled_entry h c.setup.ensures.well_formed n slice (sym is)).fits);
+            few = omega (arith, w.bytes-is, so_far.few, (settled_entry h c.reel.ensures.well_formed n slice (sym is)).fits);
           }
       | in_default w ↦
           let none = sym (settled_bytes-none c.state.result w.in_default.not-Settled) ∙ ap settled_bytes c.state.ensures in

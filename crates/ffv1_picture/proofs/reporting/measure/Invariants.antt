@@ -7,7 +7,7 @@ use Rattle.ffv1_picture.proofs.reporting.measure.Given as goal
 
 -- The slices of the tiles so far are hashed, and none passes its limit.
 abbrev pub invariant-loop-tile : goal.invariant-loop-tile
-invariant-loop-tile l = record {
+invariant-loop-tile g l = record {
   hashed : Holds256 l.hasher (flat_map (λ tile. settled_bytes (tile_state l.holding tile)) (range_with_len 0 l.tile));
   counted : l.bytes ≡ length (flat_map (λ tile. settled_bytes (tile_state l.holding tile)) (range_with_len 0 l.tile));
   few : l.bytes ≤ l.tile * slice_limit;

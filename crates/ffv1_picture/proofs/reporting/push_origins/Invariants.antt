@@ -5,4 +5,4 @@ use Rattle.ffv1_picture.proofs.reporting.push_origins.Given as goal
 
 -- the lines of the origins so far
 abbrev pub invariant-loop-origin : goal.invariant-loop-origin
-invariant-loop-origin l = string_bytes l.text ≡ string_bytes l.fn.text ++ flat_map (origin_line l.tile) (take l.origin-index l.origins)
+invariant-loop-origin g l = string_bytes l.text ≡ string_bytes l.fn.text ++ flat_map (origin_line l.tile) (take l.origin-index l.origins)

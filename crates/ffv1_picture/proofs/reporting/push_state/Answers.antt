@@ -8,13 +8,13 @@ use Rattle.ffv1_picture.proofs.SettledSlices.{settled_entry}
 use Rattle.ffv1_picture.proofs.reporting.push_state.Goals as goal
 
 pub push_settled-requires : goal.push_settled-requires
-push_settled-requires c =
+push_settled-requires g c =
     let h = c.args.holding.now in
     let slice = c.in-Settled.slice.now in
-    slice_footer h.reel.rules slice _ c.args.tile (settled_entry h c.setup-setup.ensures.well_formed c.args.tile slice (sym c.in-Settled.ensures)).slice
+    slice_footer h.reel.rules slice _ c.args.tile (settled_entry h c.reel-reel.ensures.well_formed c.args.tile slice (sym c.in-Settled.ensures)).slice
 
 pub returns-in-Settled : goal.returns-in-Settled
-returns-in-Settled c =
+returns-in-Settled g c =
     let h = c.args.holding.now in
     let slice = c.in-Settled.slice.now in
     let held = slices_held h c.args.tile in
@@ -23,7 +23,7 @@ returns-in-Settled c =
     ∙ ap (tile_words held) {x = settled slice} c.in-Settled.ensures) c.push_settled.ensures
 
 pub returns-in-Disputed : goal.returns-in-Disputed
-returns-in-Disputed c =
+returns-in-Disputed g c =
     let h = c.args.holding.now in
     let held = slices_held h c.args.tile in
     let n = c.in-Disputed.slices in

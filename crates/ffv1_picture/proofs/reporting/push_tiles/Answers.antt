@@ -5,7 +5,7 @@ use Rattle.ffv1_picture.specs.ReportText.{tile_lines}
 use Rattle.ffv1_picture.proofs.reporting.push_tiles.Goals as goal
 
 pub loop-tile-preserved : goal.loop-tile-preserved
-loop-tile-preserved c =
+loop-tile-preserved g c =
     let line = tile_lines c.args.holding.now in
     let n = c.loop-tile.tile in
     let old = string_bytes c.args.text.now in

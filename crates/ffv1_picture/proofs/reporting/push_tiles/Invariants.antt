@@ -5,4 +5,4 @@ use Rattle.ffv1_picture.proofs.reporting.push_tiles.Given as goal
 
 -- the lines of the tiles so far
 abbrev pub invariant-loop-tile : goal.invariant-loop-tile
-invariant-loop-tile l = string_bytes l.text ≡ string_bytes l.initial.text ++ flat_map (tile_lines l.holding) (range_with_len 0 l.tile)
+invariant-loop-tile g l = string_bytes l.text ≡ string_bytes l.initial.text ++ flat_map (tile_lines l.holding) (range_with_len 0 l.tile)
