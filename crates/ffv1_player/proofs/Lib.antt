@@ -9,3 +9,5 @@ pub mod ChainCuts
 pub mod TilePlanes
 pub mod TileLayouts
 pub mod ProfileFrames
+pub mod Showing
+pub mod OneShown

@@ -38,12 +38,12 @@ maps_same f (x ∷ xs) (y ∷ ys) long each =
     ap (λ z. z ∷ map f xs) (each 0 x (omega arith))
     ∙ ap (λ zs. f y ∷ zs) (maps_same f xs ys (omega arith) (λ k d less. each (suc k) d (omega arith)))
 
-patch_same : (r : RecordingValue) (p : ℕ) (a b : SlicePictureValue) → IsSamePicture r a b → patch_in r p a ≡ patch_in r p b
+pub patch_same : (r : RecordingValue) (p : ℕ) (a b : SlicePictureValue) → IsSamePicture r a b → patch_in r p a ≡ patch_in r p b
 patch_same r p a b same =
     ap (λ header. patch_of (rect_in r p (slice_rect r header)) (slice_plane_at a.planes p)) same.header
     ∙ ap (λ planes. patch_of (rect_in r p (slice_rect r b.header)) (slice_plane_at planes p)) same.planes
 
-end_same : (r : RecordingValue) (a b : SlicePictureValue) → IsSamePicture r a b → slice_end_of a ≡ slice_end_of b
+pub end_same : (r : RecordingValue) (a b : SlicePictureValue) → IsSamePicture r a b → slice_end_of a ≡ slice_end_of b
 end_same r a b same =
     ap (λ spare. record { spare_bits = spare; is_clean = a.is_clean }) same.spare_bits
     ∙ ap (λ clean. record { spare_bits = b.spare_bits; is_clean = clean }) same.is_clean

@@ -2,3 +2,4 @@
 pub mod Drawing
 pub mod Decoding
 pub mod Playing
+pub mod Showing

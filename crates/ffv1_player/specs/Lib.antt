@@ -4,5 +4,6 @@ pub mod Faults
 pub mod Fitting
 pub mod Players
 pub mod Written
+pub mod Shown
 pub mod Profile
 pub mod Inner

@@ -7,9 +7,11 @@ mod drawn;
 mod fault;
 mod player;
 mod samples;
+mod shown;
 mod write;
 
 pub use fault::{ContentFault, SamplesFault};
 pub use player::{Player, frame_is_played};
 pub use samples::{Samples, SliceEnd};
+pub use shown::{Shown, ShownTile, show_holding};
 pub use write::write_samples;

@@ -1,0 +1,139 @@
+-- What is shown of a tile is its picture, and the tiles of a holding have one picture each.
+use Rattle.std.proofs.Common.{◌≡◌, ℕ, suc, ◌^◌, ◌-◌, ◌<◌, Bool, true, false, List, [], ◌∷◌, length, map, get_or, Option, Some, None, refl, sym, ap, ◌∙◌, subst, arith}
+use Rattle.std.specs.Prelude.{◌==◌}
+use Rattle.std.specs.List.{cons_option, range_with_len}
+use Rattle.std.proofs.Math.Path.{fun_ext}
+use Rattle.ffv1_range.specs.Setup.{RecordingValue, IsInVersion3}
+use Rattle.ffv1_range.specs.declared.scope.Scope.TheVariants.{Parities}
+use Rattle.ffv1_range.proofs.SetupLaws.{record_is_one, record_in_version_3}
+use Rattle.ffv1_slice.specs.Slices.{content_of}
+use Rattle.ffv1_holding.specs.Reels.{reel_tiles}
+use Rattle.ffv1_holding.specs.Contents.{Contents}
+use Rattle.ffv1_holding.specs.TileState.{StateOfTile, missing, settled, disputed, tile_state}
+use Rattle.ffv1_samples.specs.States.{count_of_planes}
+use Rattle.ffv1_samples.specs.Slices.{SlicePictureValue, IsSamePicture}
+use Rattle.ffv1_samples.proofs.OnePicture.{one_slice_picture}
+use Rattle.ffv1_samples.proofs.Refusals.{refused_has_no_picture}
+use Rattle.ffv1_player.specs.Patches.{patched_plane}
+use Rattle.ffv1_player.specs.Frames.{frame_in, patch_in, frame_planes, slice_end_of, IsFrameOfSlices}
+use Rattle.ffv1_player.specs.Shown.{MayBeByTile, IsShownSlice, IsShownTile, IsPictureOfSlice, IsPictureOfTile, ArePicturesOf, present, ShowsTiles, ShowsHolding}
+use Rattle.ffv1_player.specs.declared.samples.Samples.{Samples}
+use Rattle.ffv1_player.specs.declared.shown.Shown.{Shown}
+use Rattle.ffv1_player.specs.declared.shown.ShownTile.{ShownTile}
+use Rattle.ffv1_player.specs.declared.shown.ShownTile.TheVariants.{Decoded, Missing, Disputed, NoKeyframe, Fault}
+use Rattle.ffv1_player.proofs.OneFrame.{patch_same, end_same}
+
+-- ---- one picture a tile
+
+-- no picture, or one and the same
+abbrev IsSameOption : RecordingValue → Option SlicePictureValue → Option SlicePictureValue → Type 0
+IsSameOption r None None = Unit {0}
+IsSameOption r (Some picture) (Some other) = IsSamePicture r picture other
+IsSameOption r picture other = ⊥
+
+both_none : (r : RecordingValue) (a b : Option SlicePictureValue) → a ≡ None → b ≡ None → IsSameOption r a b
+both_none r a b one other = subst (λ o. IsSameOption r o b) (sym one) (subst (IsSameOption r None) (sym other) tt)
+
+module _ (r : RecordingValue) (version : IsInVersion3 r) (tile : ℕ) where
+  shown_slice : (key : Bool) (slice : List ℕ) (outcome : ShownTile) (picture : Option SlicePictureValue) → IsShownSlice r key tile slice outcome picture
+      → IsPictureOfTile r key tile (settled slice) picture
+  shown_slice true slice (Decoded end) (Some picture) shown = shown.0
+  shown_slice true slice (Fault cause) None shown =
+      λ picture is. refused_has_no_picture r (content_of slice) (tile == 0) None cause picture version (λ header start is. tt) shown is
+  shown_slice false slice NoKeyframe None shown = refl
+  shown_slice key slice outcome picture shown = absurd shown
+
+  shown_picture : (key : Bool) (state : StateOfTile) (outcome : ShownTile) (picture : Option SlicePictureValue) → IsShownTile r key tile state outcome picture
+      → IsPictureOfTile r key tile state picture
+  shown_picture key missing Missing None shown = refl
+  shown_picture key (settled slice) outcome picture shown = shown_slice key slice outcome picture shown
+  shown_picture key (disputed n) (Disputed slices) None shown = refl
+  shown_picture key state outcome picture shown = absurd shown
+
+  same_of_slice : (slice : List ℕ) (a b : Option SlicePictureValue) → IsPictureOfSlice r tile slice a → IsPictureOfSlice r tile slice b → IsSameOption r a b
+  same_of_slice slice (Some a) (Some b) one other =
+      one_slice_picture r (content_of slice) (tile == 0) None a b version (λ header start is. tt) one other
+  same_of_slice slice (Some a) None one none = absurd (none a one)
+  same_of_slice slice None (Some b) none other = absurd (none b other)
+  same_of_slice slice None None none other = tt
+
+  one_picture : (key : Bool) (state : StateOfTile) (a b : Option SlicePictureValue) → IsPictureOfTile r key tile state a → IsPictureOfTile r key tile state b
+      → IsSameOption r a b
+  one_picture key missing a b one other = both_none r a b one other
+  one_picture true (settled slice) a b one other = same_of_slice slice a b one other
+  one_picture false (settled slice) a b one other = both_none r a b one other
+  one_picture key (disputed n) a b one other = both_none r a b one other
+
+-- a frame may be a keyframe, or not
+one_key : (r : RecordingValue) (state : StateOfTile) (a b : Bool) → MayBeByTile r state a → MayBeByTile r state b → a ≡ b
+one_key r missing a b one other = one ∙ sym other
+one_key r (settled slice) true true one other = refl
+one_key r (settled slice) true false one other = absurd (one other)
+one_key r (settled slice) false true one other = absurd (other one)
+one_key r (settled slice) false false one other = refl
+one_key r (disputed n) a b one other = one ∙ sym other
+
+-- ---- frames of the same pictures
+
+module _ (r : RecordingValue) where
+  module _ {B : Type 0} (f : SlicePictureValue → B) (same : (a b : SlicePictureValue) → IsSamePicture r a b → f a ≡ f b) where
+    option_same : (x y : Option SlicePictureValue) (xs ys : List SlicePictureValue) → IsSameOption r x y → map f xs ≡ map f ys
+        → map f (cons_option x xs) ≡ map f (cons_option y ys)
+    option_same None None xs ys one later = later
+    option_same None (Some y) xs ys one later = absurd one
+    option_same (Some x) None xs ys one later = absurd one
+    option_same (Some x) (Some y) xs ys one later = ap (λ z. z ∷ map f xs) (same x y one) ∙ ap (λ zs. f y ∷ zs) later
+
+    present_same : (xs ys : List (Option SlicePictureValue)) → length xs ≡ length ys
+        → ((k : ℕ) → k < length xs → IsSameOption r (get_or xs k None) (get_or ys k None)) → map f (present xs) ≡ map f (present ys)
+    present_same [] [] long each = refl
+    present_same [] (y ∷ ys) long each = absurd (omega (arith, long))
+    present_same (x ∷ xs) [] long each = absurd (omega (arith, long))
+    present_same (x ∷ xs) (y ∷ ys) long each =
+        option_same x y (present xs) (present ys) (each 0 (omega arith))
+        (present_same xs ys (omega (arith, long)) (λ k less. each (suc k) (omega (arith, less))))
+
+  module _ (key : Bool) (xs ys : List (Option SlicePictureValue)) (long : length xs ≡ length ys)
+      (each : (k : ℕ) → k < length xs → IsSameOption r (get_or xs k None) (get_or ys k None)) where
+    planes_same : frame_planes r (present xs) ≡ frame_planes r (present ys)
+    planes_same =
+        ap (λ (f : ℕ → List ℕ). map f (range_with_len 0 (count_of_planes r)))
+        (fun_ext λ p. ap (patched_plane (2 ^ (r.depth - 1)) (frame_in r p).w (frame_in r p).h) (present_same (patch_in r p) (patch_same r p) xs ys long each))
+
+    frame_same : (frame : Samples) → IsFrameOfSlices r key (present xs) frame → IsFrameOfSlices r key (present ys) frame
+    frame_same frame is = record {
+      width = is.width;
+      height = is.height;
+      shift_h = is.shift_h;
+      shift_v = is.shift_v;
+      is_rgb = is.is_rgb;
+      has_alpha = is.has_alpha;
+      depth = is.depth;
+      is_key = is.is_key;
+      planes = is.planes ∙ planes_same;
+      slices = is.slices ∙ present_same slice_end_of (end_same r) xs ys long each;
+    }
+
+-- ---- a holding
+
+module _ (h : Contents) (r : RecordingValue) (key : Bool) (pictures : List (Option SlicePictureValue)) (are : ArePicturesOf h r key pictures) where
+  of_tiles : (outcomes : List ShownTile) (frame : Samples) → ShowsTiles h r key (reel_tiles h.reel) outcomes frame → IsFrameOfSlices r key (present pictures) frame
+  of_tiles outcomes frame shows =
+      let version = record_in_version_3 h.reel.config Parities h.reel.setup.width h.reel.setup.height r are.says in
+      frame_same r key shows.pictures pictures (shows.count ∙ sym are.count)
+      (λ tile less.
+      let inside : tile < reel_tiles h.reel = omega (arith, less, shows.count) in
+      one_picture r version tile key (tile_state h tile) _ _
+      (shown_picture r version tile key (tile_state h tile) (get_or outcomes tile Missing) (get_or shows.pictures tile None) (shows.each tile inside))
+      (are.each tile inside))
+      frame shows.is_frame
+
+  -- The frame that is shown is that of the pictures of the holding's tiles.
+  pub whole_frame : (shown : Shown) → ShowsHolding h shown → IsFrameOfSlices r key (present pictures) shown.samples
+  whole_frame shown shows =
+      let same : shows.recording ≡ r =
+      record_is_one h.reel.config Parities h.reel.setup.width h.reel.setup.height shows.recording r shows.says are.says in
+      let may_be = subst (λ z. MayBeByTile z (tile_state h 0) shows.key) same shows.may_be in
+      let tiles = subst (λ z. ShowsTiles h z shows.key (reel_tiles h.reel) shown.tiles.items shown.samples) same shows.shows in
+      of_tiles shown.tiles.items shown.samples
+      (subst (λ k. ShowsTiles h r k (reel_tiles h.reel) shown.tiles.items shown.samples) (one_key r (tile_state h 0) shows.key key may_be are.may_be) tiles)
