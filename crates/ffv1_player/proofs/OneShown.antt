@@ -1,6 +1,7 @@
 -- What is shown of a tile is its picture, and the tiles of a holding have one picture each.
-use Rattle.std.proofs.Common.{◌≡◌, ℕ, suc, ◌^◌, ◌-◌, ◌<◌, Bool, true, false, List, [], ◌∷◌, length, map, get_or, Option, Some, None, refl, sym, ap, ◌∙◌, subst, arith}
+use Rattle.std.proofs.Common.{◌≡◌, ℕ, suc, ◌^◌, ◌-◌, ◌<◌, Bool, true, false, List, [], ◌∷◌, length, map, get_or, Option, Some, None, Result, Ok, Err, IfOk, refl, sym, ap, ◌∙◌, subst, arith}
 use Rattle.std.specs.Prelude.{◌==◌}
+use Rattle.std.specs.declared.alloc.AllocError.{AllocError}
 use Rattle.std.specs.List.{cons_option, range_with_len}
 use Rattle.std.proofs.Math.Path.{fun_ext}
 use Rattle.ffv1_range.specs.Setup.{RecordingValue, IsInVersion3}
@@ -129,7 +130,7 @@ module _ (h : Contents) (r : RecordingValue) (key : Bool) (pictures : List (Opti
       frame shows.is_frame
 
   -- The frame that is shown is that of the pictures of the holding's tiles.
-  pub whole_frame : (shown : Shown) → ShowsHolding h shown → IsFrameOfSlices r key (present pictures) shown.samples
+  whole_frame : (shown : Shown) → ShowsHolding h shown → IsFrameOfSlices r key (present pictures) shown.samples
   whole_frame shown shows =
       let same : shows.recording ≡ r =
       record_is_one h.reel.config Parities h.reel.setup.width h.reel.setup.height shows.recording r shows.says are.says in
@@ -137,3 +138,7 @@ module _ (h : Contents) (r : RecordingValue) (key : Bool) (pictures : List (Opti
       let tiles = subst (λ z. ShowsTiles h z shows.key (reel_tiles h.reel) shown.tiles.items shown.samples) same shows.shows in
       of_tiles shown.tiles.items shown.samples
       (subst (λ k. ShowsTiles h r k (reel_tiles h.reel) shown.tiles.items shown.samples) (one_key r (tile_state h 0) shows.key key may_be are.may_be) tiles)
+
+  pub result_is_whole : (result : Result Shown AllocError) → IfOk result (ShowsHolding h) → IfOk result (λ shown. IsFrameOfSlices r key (present pictures) shown.samples)
+  result_is_whole (Ok shown) shows = whole_frame shown shows
+  result_is_whole (Err error) shows = tt

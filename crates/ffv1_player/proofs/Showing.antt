@@ -1,8 +1,10 @@
 -- The tiles of a holding, shown one after the other.
-use Rattle.std.proofs.Common.{◌≡◌, ℕ, ◌+◌, ◌-◌, ◌*◌, ◌<◌, ◌≤◌, Bool, true, false, List, [], ◌∷◌, ◌++◌, length, get_or, Option, Some, None, Result, Ok, Err, IfOk, refl, sym, ap, ◌∙◌, subst, inl, inr, arith, length-take, append-nil}
+use Rattle.std.proofs.Common.{◌≡◌, ℕ, ◌+◌, ◌-◌, ◌*◌, ◌≤◌, Bool, true, false, List, [], ◌∷◌, ◌++◌, length, get_or, Option, Some, None, Result, Ok, Err, IfOk, refl, sym, ap, ◌∙◌, subst, inl, inr, arith, length-take, append-nil}
 use Rattle.std.specs.Prelude.{not}
 use Rattle.std.specs.declared.alloc.AllocError.{AllocError}
 use Rattle.std.specs.List.{cons_option}
+use Rattle.std.specs.Option.{option_eq}
+use mathlib.Core.Bool.{beq}
 use Rattle.std.proofs.Math.Nat.{one-le-mul}
 use Rattle.std.proofs.lemmas.Bool.{cases_order}
 use Rattle.std.proofs.lemmas.List.{length-append, get_or_append_left, get_or_push}
@@ -55,13 +57,24 @@ some_tile reel r version same =
 
 -- ---- the keyframe bit
 
+key_is : (key : Option Bool) → true ≡ option_eq beq key (Some false) → key ≡ Some false
+key_is None e = absurd (cc)
+key_is (Some true) e = absurd (cc)
+key_is (Some false) e = refl
+
+key_is_not : (key : Option Bool) → false ≡ option_eq beq key (Some false) → key ≡ Some false → ⊥
+key_is_not None e is = cc
+key_is_not (Some true) e is = cc
+key_is_not (Some false) e is = cc
+
 module _ (r : RecordingValue) (slice : List ℕ) where
   -- by a header that was read
   pub says_by : (says : Bool) (header : SliceHeader) (start : SliceStart) → IsSliceHeaderOf r (content_of slice) true header start
-      → (says ≡ true → header.key ≡ Some false) → (says ≡ false → header.key ≡ Some false → ⊥) → HeadSaysNoKeyframe r slice says
-  says_by true header start is yes no = (header, start, is, yes refl)
-  says_by false header start is yes no =
-      λ other. no refl (ap (λ (z : SliceHeader × SliceStart). z.0.key) (one_header r (content_of slice) true header other.0 start other.1 is other.2) ∙ other.3)
+      → says ≡ option_eq beq header.key (Some false) → HeadSaysNoKeyframe r slice says
+  says_by true header start is by = (header, start, is, key_is header.key by)
+  says_by false header start is by =
+      λ other. key_is_not header.key by
+      (ap (λ (z : SliceHeader × SliceStart). z.0.key) (one_header r (content_of slice) true header other.0 start other.1 is other.2) ∙ other.3)
 
   -- by one that can't be read
   pub says_nothing : (fault : HeadFault) → slice_header_read r (content_of slice) true ≡ Err fault → HeadSaysNoKeyframe r slice false
@@ -115,6 +128,10 @@ module _ (h : Contents) (r : RecordingValue) (key : Bool) where
   pub shown_planes : (n : ℕ) (outcomes : List ShownTile) (frame : Samples) → ShowsTiles h r key n outcomes frame → AreFramePlanes r (planes_of_samples frame)
   shown_planes n outcomes frame shown = are_frame_planes r (present shown.pictures) (planes_of_samples frame) shown.is_frame.planes
 
+  pub none_shown : (outcomes : List ShownTile) (frame : Samples) → outcomes ≡ [] → IsFrameOfSlices r key [] frame → ShowsTiles h r key 0 outcomes frame
+  none_shown outcomes frame is blank =
+      record { pictures = []; count = refl; stated = ap length is; each = λ tile less. absurd (omega (arith, less)); is_frame = blank }
+
   with_any : (pictures : List (Option SlicePictureValue)) (picture : Option SlicePictureValue) (old new : Samples)
       → IsFrameOfSlices r key (present pictures) old → AddsAny r picture old new → IsFrameOfSlices r key (present (pictures ++ picture ∷ [])) new
   with_any pictures None old new is same =
@@ -123,7 +140,7 @@ module _ (h : Contents) (r : RecordingValue) (key : Bool) where
   with_any pictures (Some picture) old new is adds =
       subst (λ shown. IsFrameOfSlices r key shown new) (sym (present_push pictures (Some picture))) (adds key (present pictures) is)
 
-  pub shown_more : (n : ℕ) (outcomes : List ShownTile) (outcome : ShownTile) (old new : Samples) → ShowsTiles h r key n outcomes old
+  shown_more : (n : ℕ) (outcomes : List ShownTile) (outcome : ShownTile) (old new : Samples) → ShowsTiles h r key n outcomes old
       → ShowsTile h r n outcome old new → ShowsTiles h r key (n + 1) (outcomes ++ outcome ∷ []) new
   shown_more n outcomes outcome old new before more = record {
     pictures = before.pictures ++ more.picture ∷ [];
@@ -146,3 +163,8 @@ module _ (h : Contents) (r : RecordingValue) (key : Bool) where
     ];
     is_frame = with_any before.pictures more.picture old new before.is_frame more.drawn;
   }
+
+  pub shown_push : (n : ℕ) (outcomes all : List ShownTile) (outcome : ShownTile) (old new : Samples) → all ≡ outcomes ++ outcome ∷ []
+      → ShowsTiles h r key n outcomes old → ShowsTile h r n outcome old new → ShowsTiles h r key (n + 1) all new
+  shown_push n outcomes all outcome old new is before more =
+      subst (λ os. ShowsTiles h r key (n + 1) os new) (sym is) (shown_more n outcomes outcome old new before more)

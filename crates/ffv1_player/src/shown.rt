@@ -1,8 +1,7 @@
 //! What can be shown of a holding of any recording (own): its settled tiles, decoded as slices of a keyframe (RFC 9043, sections 4.4 to 4.9).
-ghost use Rattle.std.specs.Prelude.{◌≡◌, ◌<◌, ◌≤◌, ◌∷◌, ◌++◌, [], ℕ, Bool, List, Option, MatchBool, IfOk, length, map};
+ghost use Rattle.std.specs.Prelude.{◌≡◌, ◌<◌, ◌≤◌, [], true, Bool, List, Option, IfOk, length};
 ghost use Rattle.ffv1_bits.specs.Limits.{slice_limit};
-ghost use Rattle.ffv1_range.specs.Setup.{RecordingValue, IsScopedRecord};
-ghost use Rattle.ffv1_range.specs.declared.scope.Scope.TheVariants.{Parities};
+ghost use Rattle.ffv1_range.specs.Setup.{RecordingValue};
 ghost use Rattle.ffv1_holding.specs.Reels.{reel_tiles};
 ghost use Rattle.ffv1_samples.specs.Slices.{SlicePictureValue, slice_picture_value};
 ghost use Rattle.ffv1_player.specs.Frames.{planes_of_samples, slice_end_of, IsFrameOfSlices};
@@ -55,12 +54,24 @@ pub fn show_holding<S: Recorded>(alloc: Global, holding: &Holding<S>) -> Result<
         → IfOk result (λ shown. IsFrameOfSlices r key (present pictures) shown.samples) }
 {
     let recording = recording_of(alloc, holding)?;
-    let key = may_be_keyframe(&recording, holding);
+    show_tiles(alloc, &recording, holding)
+}
+
+/// What can be shown of a holding, by what its record says.
+fn show_tiles<S: Recorded>(
+    alloc: Global,
+    recording: &Recording,
+    holding: &Holding<S>,
+) -> Result<Shown, AllocError>
+    requires { IsRecordingOfReel holding.now.reel recording.now }
+    ensures { IfOk result (ShowsHolding holding.now) }
+{
+    let key = may_be_keyframe(recording, holding);
     let count = recording.grid().tiles();
-    let mut samples = blank_samples(alloc, &recording, key, count)?;
+    let mut samples = blank_samples(alloc, recording, key, count)?;
     let mut tiles = Vec::with_capacity(alloc, count)?;
     for tile in 0..count {
-        tiles.push(show_tile(alloc, &recording, holding, tile, &mut samples)?)?;
+        tiles.push(show_tile(alloc, recording, holding, tile, &mut samples)?)?;
     }
     Ok(Shown { samples, tiles })
 }

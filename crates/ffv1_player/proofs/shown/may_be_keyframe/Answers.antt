@@ -1,4 +1,4 @@
-use Rattle.std.proofs.Common.{◌≡◌, sym, ap, ◌∙◌, arith}
+use Rattle.std.proofs.Common.{sym, arith}
 use Rattle.ffv1_slice.proofs.SliceFacts.{slice_footer}
 use Rattle.ffv1_picture.proofs.SettledSlices.{settled_entry}
 use Rattle.ffv1_player.proofs.Showing.{some_tile, may_be_settled, may_be_other}
@@ -11,7 +11,7 @@ state-requires g c =
 
 pub says_no_keyframe-requires : goal.says_no_keyframe-requires
 says_no_keyframe-requires g c = slice_footer c.args.holding.now.reel.rules c.in-Settled.slice.now _ 0
-    (settled_entry c.args.holding.now c.reel-_reel.ensures.well_formed 0 c.in-Settled.slice.now (sym c.in-Settled.ensures)).slice
+    (settled_entry c.args.holding.now c.reel-reel.ensures.well_formed 0 c.in-Settled.slice.now (sym c.in-Settled.ensures)).slice
 
 pub returns-in-Settled : goal.returns-in-Settled
 returns-in-Settled g c = may_be_settled c.args.recording.now c.in-Settled.slice.now _ _ c.in-Settled.ensures c.says_no_keyframe.ensures

@@ -21,15 +21,15 @@ pub add_picture-requires-clause-picture : goal.add_picture-requires-clause-pictu
 add_picture-requires-clause-picture c =
     slice_planes c.args.recording.now c.keeps_version_3.ensures c.content_of.result.now (c.args.tile == 0) None (slice_picture_value c.in-Ok.picture) c.in-Ok.ensures.ok
 
-pub returns-in_ok-end : goal.returns-in_ok-end
-returns-in_ok-end c =
+pub returns-in_ok-end-in-Ok : goal.returns-in_ok-end-in-Ok
+returns-in_ok-end-in-Ok c =
     record {
       picture = Some (slice_picture_value c.in-Ok.picture);
       shown = (
         subst (λ content. IsSlicePicture c.args.recording.now content (c.args.tile == 0) None (slice_picture_value c.in-Ok.picture)) c.content_of.ensures c.in-Ok.ensures.ok,
-        c.in_ok-end.ensures.end,
+        c.in_ok-end-in-Ok.ensures.end,
       );
-      drawn = c.in_ok-end.ensures.drawn;
+      drawn = c.in_ok-end-in-Ok.ensures.drawn;
     }
 
 pub returns-in-Err : goal.returns-in-Err

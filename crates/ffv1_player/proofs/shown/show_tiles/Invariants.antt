@@ -1,5 +1,5 @@
 use Rattle.ffv1_player.specs.Shown.{ShowsTiles}
-use Rattle.ffv1_player.proofs.shown.show_holding.Given as goal
+use Rattle.ffv1_player.proofs.shown.show_tiles.Given as goal
 
 -- the tiles so far are shown
 abbrev pub invariant-loop-tile : goal.invariant-loop-tile
