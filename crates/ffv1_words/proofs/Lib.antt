@@ -1,3 +1,4 @@
+mod AnyWord
 mod Grammar
 mod Refusals
 mod Vectors

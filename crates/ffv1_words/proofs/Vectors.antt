@@ -1,8 +1,9 @@
 -- Arguments as clap reads them.
-use Rattle.std.proofs.Common.{◌≡◌, List, [], ◌∷◌, Option, Some, None, option_map, codes, true, false, refl}
+use Rattle.std.proofs.Common.{◌≡◌, List, [], ◌∷◌, Option, Some, None, option_map, codes, true, false, refl, inl, inr, arith}
 use Rattle.clap.specs.Words.{Row, Text, all_of, first_of, subcommand_of, takes}
 use Rattle.clap.proofs.OnLiterals.{clap_on_literals}
 use Rattle.ffv1_words.specs.Grammar.{program_app}
+use Rattle.ffv1_words.specs.AnyWords.{HaveAnyWord}
 
 -- the command, the first value of one name, and all values of another
 abbrev read_of : Text → Text → List Text → Option (Text × Option Text × Option (List Text))
@@ -51,3 +52,21 @@ asked_by_a_dash_is_refused = refl
 no_copy_is_refused : takes program_app (codes "ffv1restore" ∷ codes "splice" ∷ codes "c" ∷ []) ≡ false
 unfolding clap_on_literals
 no_copy_is_refused = refl
+
+-- ---- the word `--any`
+
+any_word_of_take : HaveAnyWord (codes "ffv1restore" ∷ codes "take" ∷ codes "--any" ∷ codes "record" ∷ []) (codes "ffv1restore" ∷ codes "take" ∷ codes "record" ∷ [])
+any_word_of_take = (inl refl, refl, refl)
+
+any_word_of_picture : HaveAnyWord (codes "ffv1restore" ∷ codes "picture" ∷ codes "--any" ∷ []) (codes "ffv1restore" ∷ codes "picture" ∷ [])
+any_word_of_picture = (inr (inr (inr (inr (inr refl)))), refl, refl)
+
+no_any_word_of_splice : (others : List Text) → ¬ HaveAnyWord (codes "ffv1restore" ∷ codes "splice" ∷ codes "--any" ∷ codes "out" ∷ []) others
+no_any_word_of_splice others has = grind (arith, has.0)
+
+no_any_word_at_the_end : (others : List Text) → ¬ HaveAnyWord (codes "ffv1restore" ∷ codes "report" ∷ codes "hold" ∷ codes "--any" ∷ []) others
+no_any_word_at_the_end others has = cc has.1
+
+any_word_left_is_refused : takes program_app (codes "ffv1restore" ∷ codes "report" ∷ codes "hold" ∷ codes "--any" ∷ []) ≡ false
+unfolding clap_on_literals
+any_word_left_is_refused = refl

@@ -1,4 +1,5 @@
 pub mod WordPaths
+pub mod AnyWords
 pub mod Grammar
 pub mod Arguments
 pub mod Inner
