@@ -5,7 +5,16 @@ _ffv1restore() {
         mapfile -t COMPREPLY < <(compgen -W "chain show setup take join merge report restore picture splice mend decode samples scan help version" -- "$word")
         return
     fi
-    case "${COMP_WORDS[1]}:$COMP_CWORD" in
+    local command=${COMP_WORDS[1]} place=$COMP_CWORD
+    case "$command" in
+        take | join | merge | report | restore | picture)
+            if [ "$place" -eq 2 ] && [[ $word == -* ]]; then
+                mapfile -t COMPREPLY < <(compgen -W "--any" -- "$word")
+                return
+            fi
+            if [ "${COMP_WORDS[2]}" = --any ]; then place=$((place - 1)); fi ;;
+    esac
+    case "$command:$place" in
         show:[34] | setup:[34] | take:[34] | decode:[34] | samples:[34] | help:* | version:*) COMPREPLY=() ;;
         *) mapfile -t COMPREPLY < <(compgen -f -- "$word") ;;
     esac

@@ -1,7 +1,7 @@
 """What `ffv1restore help` and `ffv1restore version` have to print, made of the pages.
 
 The synopses and the lines on them are those of the README's table of commands; all else stands in the man page: what the program is,
-the exit statuses, the faults and their numbers.
+what the option means, the exit statuses, the faults and their numbers.
 """
 import re
 import textwrap
@@ -60,6 +60,12 @@ def command_lines(readme):
         yield from paragraph(what.replace("`", ""), "      ")
 
 
+def option_lines(page):
+    for option, text in tagged(section(page, "OPTION")):
+        yield f"  {option}"
+        yield from paragraph(text, "      ")
+
+
 def status_lines(page):
     for status, text in tagged(section(page, "EXIT STATUS")):
         yield from beside(status, text, " ")
@@ -82,6 +88,7 @@ def help_of(page, readme):
     parts = [
         [running(section(page, "NAME").splitlines())],
         ["Commands", *command_lines(readme)],
+        ["Option", *option_lines(page)],
         ["Exit statuses", *status_lines(page)],
         ["Faults", *fault_lines(page)],
         [CLOSING],

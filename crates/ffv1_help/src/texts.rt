@@ -14,18 +14,18 @@ Commands
       shows a recording's setup, or why the tool can't take it
   ffv1restore setup RECORD WIDTH HEIGHT
       shows the setup of any recording of version 3, and its format's name
-  ffv1restore take RECORD WIDTH HEIGHT OUT COPY...
+  ffv1restore take [--any] RECORD WIDTH HEIGHT OUT COPY...
       makes a holding of all undamaged slices of the copies
-  ffv1restore join OUT HOLD...
+  ffv1restore join [--any] OUT HOLD...
       makes the union of holdings
-  ffv1restore merge OUT A B
+  ffv1restore merge [--any] OUT A B
       the same of two files, holding one entry of each; prints nothing
-  ffv1restore report HOLD
+  ffv1restore report [--any] HOLD
       reports each tile's state and which copies gave it, with SHA-256 digests
-  ffv1restore restore HOLD OUT
+  ffv1restore restore [--any] HOLD OUT
       writes the frame if each of its tiles has one best slice
-  ffv1restore picture HOLD OUT
-      writes the samples of what a holding has, and 128 elsewhere
+  ffv1restore picture [--any] HOLD OUT
+      writes the samples of what a holding has, and mid-gray elsewhere
   ffv1restore splice OUT COPY...
       puts a frame together from copies of one length, by their footers
   ffv1restore mend LIST OUT COPY...
@@ -39,16 +39,26 @@ Commands
   ffv1restore version
       prints the version, and the kit that proved it
 
+Option
+  --any
+      The first word after take, join, merge, report, restore or picture. The
+      command then takes any recording of version 3 whose slices have parities
+      and one tile each: each coder, 8 to 16 bits, RGB, alpha, frames that are
+      no keyframes. A holding of a recording in the profile is the same file
+      with --any and without. That of another recording begins with FFV1ANY, and
+      is read with --any alone.
+
 Exit statuses
   0  Done.
   1  A fault, reported in one line on standard error. If it came before OUT was
      written, OUT is unchanged.
   2  The words were refused.
-  3  picture wrote OUT, and some tile has no samples; or splice wrote OUT, and
-     some place is neither settled nor woven, or the end is broken; or mend
-     wrote OUT, and some stretch is missing, disputed, open or alone; or samples
-     wrote all frames, and some slice is unclean; or scan found a range that is
-     not whole, has no slice, or has one that fails.
+  3  picture wrote OUT, and some tile has no samples, or with --any its slice is
+     unclean; or splice wrote OUT, and some place is neither settled nor woven,
+     or the end is broken; or mend wrote OUT, and some stretch is missing,
+     disputed, open or alone; or samples wrote all frames, and some slice is
+     unclean; or scan found a range that is not whole, has no slice, or has one
+     that fails.
 
 Faults
   cannot read PATH
@@ -84,7 +94,7 @@ Faults
       setup and samples take more: coder_type 1 and 2, colorspace_type 1 (RGB,
       with its planes), up to 16 bits, an extra plane, chroma subsampled by up
       to 16, and ec 0. Their faults 6 to 8, 10 and 16 are of other values than
-      these.
+      these. --any takes all of that but ec 0, which is fault 16.
        1  the record has fewer than 6 bytes
        2  its parity fails: the record is damaged
        3  a number in it can't be read
@@ -106,8 +116,11 @@ Faults
        1  the holding file has another record or size than the first
        2  the copy has more than 2^30 bytes
   holding file fault N
-       1  the file is no holding file, or its version is neither 1 nor 2
-       2  its record has no setup for its size
+       1  the file is no holding file, or its version is neither 1 nor 2; or it
+          begins with FFV1ANY, and --any is not given, or its version is not 1,
+          or its record is in the profile
+       2  its record has no setup for its size, or is not in the profile and the
+          file begins with FFV1HLD
        3  it ends before its end tag
        4  a tag is neither 0 nor 1
        5  an entry or a digest does not come after the one before it in order
@@ -146,5 +159,5 @@ The manual page has more: man ffv1restore.
 /// What `version` prints: the program's version, and the kit whose prover proved it.
 pub(crate) const VERSION: &str = "\
 ffv1restore 0.2.0
-proved with rattle-kit-13b
+proved with rattle-kit-13f
 ";
