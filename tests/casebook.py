@@ -1,8 +1,8 @@
 """The cases of tests/cases: what the program is run on, and what it has to do.
 
 tests/cases/files names contents that several cases share: a line each, the name and the bytes in hexadecimal digits. Each other
-file of tests/cases has the cases of a command. An empty line stands between two cases, and each line of a case begins with one
-of these words:
+file of tests/cases has the cases of a command, and `any` those of `--any`, which tests/any_cases.py makes. An empty line stands between
+two cases, and each line of a case begins with one of these words:
 
     case NAME            the case's name
     words WORD...        the program's words, quoted as a shell would have them
@@ -63,6 +63,17 @@ class Digest(bytes):
         return hashlib.sha256(content).digest() == self
 
 
+def changed(content, left, changes):
+    """A content of which so many bytes are left, where a number says so, with changes as a case says them."""
+    new_content = bytearray(content[: int(left)] if left else content)
+    for change in reversed(changes.split(", ") if changes else []):
+        place, what = change.split(" ", 1)
+        word, _, number = what.partition(" ")
+        new = bytes(int(number)) if word == "zero" else b"" if word == "gone" else bytes.fromhex(what)
+        new_content[int(place) : int(place) + (int(number) if word == "gone" else len(new))] = new
+    return bytes(new_content)
+
+
 def content_of(text, shared):
     base, _, changes = text.partition(" with ")
     base, _, left = base.partition(" cut ")
@@ -78,13 +89,7 @@ def content_of(text, shared):
         content = lists.list_text((TESTS / path).read_bytes(), list(map(int, lengths))).encode()
     else:
         content = shared[base]
-    changed = bytearray(content[: int(left)] if left else content)
-    for change in reversed(changes.split(", ") if changes else []):
-        place, what = change.split(" ", 1)
-        word, _, number = what.partition(" ")
-        new = bytes(int(number)) if word == "zero" else b"" if word == "gone" else bytes.fromhex(what)
-        changed[int(place) : int(place) + (int(number) if word == "gone" else len(new))] = new
-    return bytes(changed)
+    return changed(content, left, changes)
 
 
 def read_line(case, line, shared):

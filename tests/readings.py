@@ -441,8 +441,8 @@ def read_holding(text):
 
 
 # FORMAT: The holding file
-def read_entries(setup, text, place):
-    """The entries of a holding file from a place on."""
+def read_entries(setup, text, place, tile_of=tile_of):
+    """The entries of a holding file from a place on, by what is a slice of the recording."""
     held, last = {}, None
     while text[place : place + 1] == b"\x01":
         head = text[place + 1 : place + 7]

@@ -1,0 +1,405 @@
+"""The cases of `--any`, and the holding files on which they are run.
+
+tests/cases/any and the files of tests/holdings that it names are made of recorded frames by the second reading of tests/any_holdings.py.
+`tests/manual` compares them with what is made here, and with --write it makes them anew.
+"""
+import hashlib
+import pathlib
+
+import any_holdings
+import casebook
+import makings
+import readings
+
+TESTS = pathlib.Path(__file__).resolve().parent
+TABLE = TESTS / "cases/any"
+
+# Recordings out of the profile, and a frame of each: RGB of 10 bits; RGB with alpha and Golomb-Rice codes; 4:2:2 of 10 bits; gray of 16 bits
+# with a table of transitions; gray with alpha; tiles that overlap in chroma, with initial states; and a frame that is no keyframe.
+RECORDED = [
+    ("gbrp10-32x24-4-slices", "frame-0"),
+    ("bgra-32x24-6-slices", "frame-0"),
+    ("yuv422p10-32x24-4-slices", "frame-0"),
+    ("gray16-32x24-4-slices", "frame-0"),
+    ("ya8-32x24-4-slices", "frame-0"),
+    ("yuv420p-36x28-4-slices", "frame-0"),
+    ("yuv422p-32x24-4-slices", "frame-1"),
+]
+PROFILE = "gray-48x32-4-slices"
+WITHOUT_PARITIES = "yuv444p12-32x24-4-slices"
+# Small recordings: the record, the size, and the contents of slices. The second frame of the first is no keyframe.
+GRAY = bytes.fromhex("5600302849cd9b366cd9b366c6acf7f3eb")
+TWO_SAMPLES = bytes.fromhex("fc164ff2"), bytes.fromhex("7c964a07")
+THREE_SAMPLES = bytes.fromhex("fc16482ce59ec4")
+CODES_OF_16_BITS = bytes.fromhex("562bf0b0734e9d3a74e9d3a749fea0202e13"), bytes.fromhex("fc158000063ba0b87a11e049c440")
+WIDE_SLICES = bytes.fromhex("56002fd228a74e9d3a74e9d3a3fa878fbf38"), bytes.fromhex("994556ae000004003d5044b7e093452f00000400d98d25f4")
+COMMANDS = ["take", "join", "merge", "report", "restore", "picture"]
+
+
+def said(content):
+    """A content as a case says it, where no file has it."""
+    return f"hex {content.hex()}" if content else "empty"
+
+
+class Cases:
+    """The text of the cases, and the files that they name below tests/."""
+
+    def __init__(self):
+        self.text, self.files = [], {}
+
+    def add(self, name, words, inputs, made=None, status=0, stdout=b"", fault=None, output=None):
+        """A case: its inputs and OUT are contents as a case says them."""
+        lines = [f"case any-{name}", f"words {words}", *(f"in {path} = {content}" for path, content in sorted(inputs.items()))]
+        lines += [f"made OUT = {made}"] * (made is not None) + [f"output {output}"] * (output is not None)
+        status = (2 if fault == "words refused" else 1) if fault else status
+        lines += [f"status {status}"] * (status != 0)
+        for stream, text in ("stdout", stdout), ("stderr", f"ffv1restore: {fault}\n".encode() if fault else b""):
+            lines += [stream] * (text != b"") + [f"  {line}" for line in text.decode().splitlines()]
+        self.text.append("".join(line + "\n" for line in lines))
+
+    def kept(self, path, content):
+        """A file of tests/ with this content, as a case says it."""
+        self.files[path] = content
+        return f"from {path}"
+
+
+def recording_of(record, size):
+    return readings.recording_of(record, size, any_holdings.PARITIES)
+
+
+def lines_of(what, recording, held, payloads):
+    """What `take` of copies or `join` of files prints, of what is held of each."""
+    seen, lines = set(), ""
+    for number, (each, payload) in enumerate(zip(held, payloads), 1):
+        found = f"links {len(readings.links(payload)[0])} slices {len(each)} " if what == "copy" else ""
+        lines += f"{what} {number} {found}new {len(set(each) - seen)}\n"
+        seen |= set(each)
+    return lines.encode()
+
+
+def report_of(recording, held):
+    return readings.report_text(recording.size, held, readings.tiles_of(recording))
+
+
+def picture_said(cases, recording, held, known=None):
+    """A case's words for what `picture` makes, what it prints, and its status."""
+    made, printed, status = any_holdings.pictured(recording, held)
+    if known and (TESTS / known).exists() and (TESTS / known).read_bytes() == made:
+        return f"from {known}", printed, status
+    return said(made) if len(made) < 100 else f"sha256 {hashlib.sha256(made).hexdigest()}", printed, status
+
+
+# ---- recorded frames
+
+
+def damaged_copies(name, frame):
+    """Two copies of a recorded frame, in each of which a slice is damaged, as a case says them, and their bytes."""
+    payload = (TESTS / "real" / name / frame).read_bytes()
+    (first, _), (second, _) = sorted(readings.links(payload)[0])[:2]
+    for place in (second + 40, first + 40):
+        yield f"from real/{name}/{frame} with {place} {payload[place] ^ 0xFF:02x}", makings.inverted(payload, place)
+
+
+def add_recorded(cases, name, frame):
+    """Each command on two copies of a recorded frame, or on their holdings, with --any and without."""
+    size = tuple(int(side) for side in name.split("-")[1].split("x"))
+    record = (TESTS / "real" / name / "record").read_bytes()
+    recording, sides = recording_of(record, size), " ".join(map(str, size))
+    copies, payloads = zip(*damaged_copies(name, frame))
+    held = [any_holdings.taken(recording, payload) for payload in payloads]
+    union = readings.united(*held)
+    texts = [any_holdings.holding_text(recording, record, each) for each in (*held, union)]
+    parts = ["copy-a-with-origins", "copy-b-with-origins", "both-with-origins"]
+    a, b, both = (cases.kept(f"holdings/{name}/{part}", text) for part, text in zip(parts, texts))
+    inputs = {"record": f"from real/{name}/record", "a": copies[0], "b": copies[1]}
+    cases.add(f"take-of-{name}", f"take --any record {sides} OUT a b", inputs, both, stdout=lines_of("copy", recording, held, payloads))
+    cases.add(f"take-of-{name}-reversed", f"take --any record {sides} OUT b a b", inputs, both,
+              stdout=lines_of("copy", recording, [held[1], *held], [payloads[1], *payloads]))
+    cases.add(f"take-of-{name}-one-copy", f"take --any record {sides} OUT a", {key: inputs[key] for key in ("record", "a")}, a,
+              stdout=lines_of("copy", recording, held[:1], payloads[:1]))
+    files = {"a": a, "b": b}
+    cases.add(f"join-of-{name}", "join --any OUT a b", files, both, stdout=lines_of("file", recording, held, payloads))
+    cases.add(f"join-of-{name}-reversed", "join --any OUT b a b", files, both,
+              stdout=lines_of("file", recording, [held[1], held[0], held[1]], [b""] * 3))
+    cases.add(f"merge-of-{name}", "merge --any OUT a b", files, both)
+    cases.add(f"merge-of-{name}-reversed", "merge --any OUT b a", files, both)
+    for part, text, what, each in (("", both, "frame", union), ("-one-copy", a, "copy-a", held[0]), ("-other-copy", b, "copy-b", held[1])):
+        cases.add(f"report-of-{name}{part}", "report --any hold", {"hold": text}, stdout=report_of(recording, each))
+        made, printed, fault = any_holdings.restored(recording, each)
+        older = {"OUT": "older"} if fault else {}
+        cases.add(f"restore-of-{name}{part}", "restore --any hold OUT", {"hold": text, **older}, made and f"from real/{name}/{frame}",
+                  stdout=printed, fault=fault)
+        made, printed, status = picture_said(cases, recording, each, f"real/{name}/samples-{frame[-1]}")
+        cases.add(f"picture-of-{name}{part}", "picture --any hold OUT", {"hold": text}, made, status, printed)
+        # where each tile is shown, these are the samples that FFmpeg decodes
+        assert printed or made == f"from real/{name}/samples-{frame[-1]}"
+    assert any_holdings.restored(recording, union)[0] == (TESTS / "real" / name / frame).read_bytes()
+
+
+def add_without(cases):
+    """Without --any a recording out of the profile and its holdings are refused as they always were."""
+    name = RECORDED[0][0]
+    record, hold = f"from real/{name}/record", f"from holdings/{name}/both-with-origins"
+    cases.add("left-out-take", "take record 32 24 OUT a", {"record": record, "a": f"from real/{name}/frame-0", "OUT": "older"}, fault="setup fault 6")
+    for command, words in (("join", "join OUT hold"), ("report", "report hold"), ("restore", "restore hold OUT"), ("picture", "picture hold OUT")):
+        cases.add(f"left-out-{command}", words, {"hold": hold, "OUT": "older"}, fault="holding file fault 1")
+    cases.add("left-out-merge", "merge OUT hold hold", {"hold": hold, "OUT": "older"}, fault="holding file fault 1")
+    cases.add("left-out-report-of-five-bytes", "report hold", {"hold": hold + " cut 5"}, fault="holding file fault 1")
+
+
+# ---- the profile
+
+
+def add_profile(cases):
+    """With --any each command makes and prints of a recording in the profile what it does without, but for unclean ends."""
+    real, holdings = f"real/{PROFILE}", f"holdings/{PROFILE}"
+    frame = (TESTS / real / "frame-0").read_bytes()
+    record = (TESTS / real / "record").read_bytes()
+    recording = recording_of(record, (48, 32))
+    copies = [(TESTS / real / f"copy-{letter}").read_bytes() for letter in "ab"]
+    held = [any_holdings.taken(recording, copy) for copy in copies]
+    inputs = {"record": f"from {real}/record", "a": f"from {real}/copy-a", "b": f"from {real}/copy-b"}
+    both = f"from {holdings}/both-with-origins"
+    assert any_holdings.holding_text(recording, record, readings.united(*held)) == (TESTS / holdings / "both-with-origins").read_bytes()
+    cases.add("take-of-the-profile", "take --any record 48 32 OUT a b", inputs, both, stdout=lines_of("copy", recording, held, copies))
+    files = {letter: f"from {holdings}/copy-{letter}-with-origins" for letter in "ab"}
+    cases.add("join-of-the-profile", "join --any OUT a b", files, both, stdout=lines_of("file", recording, held, copies))
+    cases.add("join-of-version-1", "join --any OUT a b", {letter: f"from {holdings}/copy-{letter}" for letter in "ab"},
+              f"from {holdings}/both-version-2", stdout=lines_of("file", recording, held, copies))
+    cases.add("merge-of-the-profile", "merge --any OUT b a", files, both)
+    cases.add("report-of-the-profile", "report --any hold", {"hold": both}, stdout=report_of(recording, readings.united(*held)))
+    cases.add("restore-of-the-profile", "restore --any hold OUT", {"hold": both}, f"from {real}/frame-0", stdout=f"restored {len(frame)} bytes\n".encode())
+    cases.add("picture-of-the-profile", "picture --any hold OUT", {"hold": both}, f"from {real}/planes-0")
+    made, printed, status = picture_said(cases, recording, held[0])
+    cases.add("picture-of-the-profile-one-copy", "picture --any hold OUT", {"hold": files["a"]}, made, status, printed)
+
+
+def add_mixed(cases):
+    """A holding of the profile is not joined with one of another recording."""
+    files = {"of-profile": f"from holdings/{PROFILE}/both-with-origins", "of-other": f"from holdings/{RECORDED[0][0]}/both-with-origins",
+             "of-third": f"from holdings/{RECORDED[1][0]}/both-with-origins", "OUT": "older"}
+    for left, right in (("of-profile", "of-other"), ("of-other", "of-profile"), ("of-other", "of-third")):
+        given = {path: files[path] for path in (left, right, "OUT")}
+        cases.add(f"join-{left}-and-{right}", f"join --any OUT {left} {right}", given, fault="hold fault 1")
+        cases.add(f"merge-{left}-and-{right}", f"merge --any OUT {left} {right}", given, fault="holding file fault 12")
+
+
+# ---- faults of holding files
+
+
+def add_fault(cases, name, hold, content, commands=("report",)):
+    """A holding file that is refused, by the second reading of its bytes."""
+    try:
+        any_holdings.read_holding(content)
+    except readings.Fault as fault:
+        words = {"report": "report --any hold", "join": "join --any OUT hold", "merge": "merge --any OUT hold hold",
+                 "restore": "restore --any hold OUT", "picture": "picture --any hold OUT"}
+        for command in commands:
+            older = {} if command == "report" else {"OUT": "older"}
+            cases.add(f"{command}-of-{name}", words[command], {"hold": hold, **older}, fault=f"holding file fault {fault.args[0]}")
+    else:
+        raise ValueError(f"no fault: {name}")
+
+
+def add_changed(cases, name, base, changes, commands=("report",), left=""):
+    """The fault of a file of tests/holdings of which so many bytes are left, with changes as a case says them."""
+    content = cases.files.get(f"holdings/{base}") or (TESTS / "holdings" / base).read_bytes()
+    text = f"from holdings/{base}" + f" cut {left}" * bool(left) + f" with {changes}" * bool(changes)
+    add_fault(cases, name, text, casebook.changed(content, left, changes), commands)
+
+
+def add_magics(cases):
+    """The magic is judged byte by byte; that a record is in the profile once it was read, and before the first tag."""
+    readers = ("join", "merge", "report", "restore", "picture")
+    other, profile = f"{RECORDED[4][0]}/both-with-origins", f"{PROFILE}/both-with-origins"
+    end_of_record = 20 + len((TESTS / "real" / PROFILE / "record").read_bytes())
+    any_magic, profile_magics = any_holdings.ANY_MAGIC + b"\x01", [any_holdings.PROFILE_MAGIC + bytes([version]) for version in (1, 2)]
+    add_changed(cases, "version-2", other, "7 02", readers)
+    add_changed(cases, "version-0", other, "7 00")
+    add_changed(cases, "another-magic", other, "5 4f")
+    add_changed(cases, "five-bytes", other, "", left=5)
+    add_changed(cases, "the-profile-by-the-other-magic", profile, f"0 {any_magic.hex()}", readers)
+    add_changed(cases, "the-profile-by-the-other-magic-and-no-tag", profile, f"0 {any_magic.hex()}", left=end_of_record)
+    add_changed(cases, "the-profile-by-the-other-magic-and-another-tag", profile, f"0 {any_magic.hex()}, {end_of_record} 05")
+    add_changed(cases, "the-profile-by-the-other-magic-and-a-cut-record", profile, f"0 {any_magic.hex()}", left=end_of_record - 1)
+    add_changed(cases, "the-profile-by-the-other-magic-and-a-damaged-record", profile, f"0 {any_magic.hex()}, 30 00")
+    add_changed(cases, "another-recording-as-of-the-profile", other, f"0 {profile_magics[1].hex()}", readers)
+    add_changed(cases, "another-recording-as-of-version-1", other, f"0 {profile_magics[0].hex()}")
+    add_changed(cases, "no-width", other, "8 00000000")
+
+
+def add_entries(cases):
+    """A recording of two samples: a keyframe and a frame that is none have different slices of its one tile."""
+    recording = recording_of(GRAY, (2, 1))
+    key, between = (readings.sliced(content) for content in TWO_SAMPLES)
+    assert [any_holdings.tile_of(recording, piece, True) for piece in (key, between)] == [0, 0]
+    inputs = {"record": said(GRAY), "key": said(key), "between": said(between)}
+    held = [any_holdings.taken(recording, piece) for piece in (key, between)]
+    both = any_holdings.holding_text(recording, GRAY, readings.united(*held))
+    cases.add("take-of-disputed-tile", "take --any record 2 1 OUT key between", inputs, said(both), stdout=lines_of("copy", recording, held, [key, between]))
+    cases.add("report-of-disputed-tile", "report --any hold", {"hold": said(both)}, stdout=report_of(recording, readings.united(*held)))
+    cases.add("restore-of-disputed-tile", "restore --any hold OUT", {"hold": said(both), "OUT": "older"}, fault="disputed tile 0")
+    made, printed, status = picture_said(cases, recording, readings.united(*held))
+    cases.add("picture-of-disputed-tile", "picture --any hold OUT", {"hold": said(both)}, made, status, printed)
+    entries = [readings.entry_text(0, piece, []) for piece in (between, key)]
+
+    def file_of(*texts):
+        return any_holdings.ANY_MAGIC + b"\x01" + readings.file_text(GRAY, (2, 1), texts)[8:]
+
+    digests = [bytes([number]) * 32 for number in (1, 2)]
+    for name, content in (
+        ("entries-that-fall", file_of(*reversed(entries))),
+        ("an-entry-twice", file_of(entries[0], entries[0])),
+        ("digests-that-fall", file_of(readings.entry_text(0, key, digests[::-1]))),
+        ("an-entry-of-no-tile", file_of(readings.entry_text(1, key, []))),
+        ("an-entry-that-is-damaged", file_of(readings.entry_text(0, makings.inverted(key, 2), []))),
+        ("another-tag", file_of(*entries)[:-1] + b"\x02"),
+        ("no-end", file_of(*entries)[:-1]),
+        ("a-byte-after-its-end", file_of(*entries) + b"\x00"),
+        ("no-origins", file_of(readings.entry_text(0, key, [], 1))),
+        ("a-cut-digest", file_of(readings.entry_text(0, key, digests))[:-2]),
+    ):
+        add_fault(cases, name, said(content), content)
+    add_statuses(cases, recording, key, between)
+
+
+def add_statuses(cases, recording, key, between):
+    """Of the slices of a tile only those with the least error status count."""
+    worse = readings.sliced(between[:-8], 1)
+    held = {(0, key): set(), (0, worse): set()}
+    hold = {"hold": said(any_holdings.holding_text(recording, GRAY, held))}
+    cases.add("report-of-lesser-status", "report --any hold", hold, stdout=report_of(recording, held))
+    made, printed, status = picture_said(cases, recording, held)
+    cases.add("picture-of-lesser-status", "picture --any hold OUT", hold, made, status, printed)
+    cases.add("restore-of-lesser-status", "restore --any hold OUT", hold, said(key), stdout=f"restored {len(key)} bytes\n".encode())
+
+
+# ---- pictures
+
+
+def cut_content(recording, whole, wanted):
+    """A content with the header of a whole one that ends in another line of `picture`: some of its bytes, and one after them."""
+    for end in range(len(whole), 3, -1):
+        for byte in range(256):
+            content = whole[:end] + bytes([byte])
+            piece = readings.sliced(content)
+            if any_holdings.tile_of(recording, piece, True) == 0 and wanted in any_holdings.pictured(recording, {(0, piece): set()})[1]:
+                return content
+    raise ValueError(f"no content ends so: {wanted}")
+
+
+def add_pictures(cases):
+    """Slices whose samples can't be read, or that do not end as an encoder ends them."""
+    gray, codes = recording_of(GRAY, (3, 1)), recording_of(CODES_OF_16_BITS[0], (2, 2))
+    for name, record, recording, content in (
+        ("a-byte-too-many", GRAY, gray, THREE_SAMPLES + b"\x00"),
+        ("a-cut-slice", GRAY, gray, THREE_SAMPLES[:4]),
+        ("a-slice-that-ends-too-early", GRAY, gray, cut_content(gray, THREE_SAMPLES, b"fault end")),
+        ("another-last-bit", GRAY, gray, cut_content(gray, THREE_SAMPLES[:-1], b"unclean spare 0")),
+        ("codes-of-16-bits", *CODES_OF_16_BITS[:1], codes, CODES_OF_16_BITS[1]),
+        ("codes-with-a-byte-too-many", *CODES_OF_16_BITS[:1], codes, CODES_OF_16_BITS[1] + b"\x00"),
+        ("codes-that-are-cut", *CODES_OF_16_BITS[:1], codes, CODES_OF_16_BITS[1][:-3]),
+    ):
+        held = {(0, readings.sliced(content)): set()}
+        hold = {"hold": said(any_holdings.holding_text(recording, record, held))}
+        made, printed, status = picture_said(cases, recording, held)
+        cases.add(f"picture-of-{name}", "picture --any hold OUT", hold, made, status, printed)
+
+
+# ---- what is refused
+
+
+def add_records(cases):
+    """Records that --any refuses, and slices of several tiles, which are not held."""
+    payload = said(readings.sliced(TWO_SAMPLES[0]))
+    none = (TESTS / "real" / WITHOUT_PARITIES / "record").read_bytes()
+    cases.add("take-without-parities", "take --any record 32 24 OUT a", {"record": f"from real/{WITHOUT_PARITIES}/record", "a": payload, "OUT": "older"},
+              fault="setup fault 16")
+    text = any_holdings.ANY_MAGIC + b"\x01" + readings.holding_text(none, (32, 24), {})[8:]
+    add_fault(cases, "recording-without-parities", said(text), text)
+    cases.add("take-of-damaged-record", "take --any record 2 1 OUT a", {"record": said(makings.inverted(GRAY, 3)), "a": payload, "OUT": "older"},
+              fault="setup fault 2")
+    record, frame = WIDE_SLICES
+    recording = recording_of(record, (2, 2))
+    assert not any_holdings.taken(recording, frame)
+    cases.add("take-of-slices-of-two-tiles", "take --any record 2 2 OUT a", {"record": said(record), "a": said(frame)},
+              said(any_holdings.holding_text(recording, record, {})), stdout=b"copy 1 links 2 slices 0 new 0\n")
+
+
+# Words that are no command: `--any` stands just after one of six commands, and there alone.
+REFUSED = """
+--any
+--any report hold
+report hold --any
+report --any
+report --any --any hold
+report --ANY hold
+report --any=1 hold
+report -any hold
+report --any hold hold
+take record --any 2 1 OUT hold
+take record 2 1 OUT hold --any
+take --any --any record 2 1 OUT hold
+take --any record 2 1 OUT
+join OUT --any hold
+join --any OUT
+merge OUT --any hold hold
+merge --any OUT hold
+restore hold --any OUT
+restore --any hold
+picture hold OUT --any
+picture --any hold
+chain --any hold
+scan --any hold hold
+show --any record 2 1
+setup --any record 2 1
+splice --any OUT hold
+mend --any hold OUT hold
+decode --any record 2 1 hold OUT
+samples --any record 2 1 OUT hold
+help --any
+version --any
+""".strip().splitlines()
+
+
+def add_words(cases):
+    recording = recording_of(GRAY, (2, 1))
+    held = {(0, readings.sliced(TWO_SAMPLES[0])): set()}
+    hold, report = said(any_holdings.holding_text(recording, GRAY, held)), report_of(recording, held)
+    for words in REFUSED:
+        cases.add(f"words-{words.replace(' ', '-').replace('=', '-is-')}", words, {"hold": hold, "record": said(GRAY), "OUT": "older"}, fault="words refused")
+    cases.add("words-dash-after-separator", "report --any -- -hold", {"-hold": hold}, stdout=report)
+    cases.add("words-any-after-separator", "report -- --any", {"--any": hold}, fault="holding file fault 1")
+    cases.add("words-any-twice-after-separator", "report --any -- --any", {"--any": hold}, stdout=report)
+    for command, words, paths in (("take", "record 2 1 OUT a", ["record"]), ("join", "OUT hold a", ["hold"]), ("merge", "OUT hold a", ["hold"]),
+                                  ("report", "a", []), ("restore", "a OUT", []), ("picture", "a OUT", [])):
+        given = {path: {"record": said(GRAY), "hold": hold}[path] for path in paths}
+        cases.add(f"{command}-of-file-not-there", f"{command} --any {words}", {**given, "OUT": "older"}, fault="cannot read a")
+    cases.add("merge-into-its-first-input", "merge --any hold hold a", {"hold": hold}, fault="cannot write hold")
+    cases.add("picture-to-folder-not-there", "picture --any hold folder/OUT", {"hold": hold}, fault="cannot write folder/OUT")
+    cases.add("report-with-output-full", "report --any hold", {"hold": hold}, fault="cannot write standard output", output="full")
+
+
+def made():
+    """All cases, and the files that they name."""
+    cases = Cases()
+    for name, frame in RECORDED:
+        add_recorded(cases, name, frame)
+    for add in (add_without, add_profile, add_mixed, add_magics, add_entries, add_pictures, add_records, add_words):
+        add(cases)
+    return {"cases/any": "\n".join(sorted(cases.text)).encode(), **cases.files}
+
+
+def faults():
+    """What of tests/cases/any and of the holding files is not as it is made."""
+    for path, content in made().items():
+        if not (TESTS / path).exists() or (TESTS / path).read_bytes() != content:
+            yield f"tests/{path} is not what tests/any_cases.py makes: tests/manual --write makes it anew"
+    names = [case.name for case in casebook.cases()]
+    yield from (f"two cases have the name {name}" for name in sorted(set(names)) if names.count(name) > 1)
+
+
+def write():
+    for path, content in made().items():
+        (TESTS / path).parent.mkdir(exist_ok=True)
+        (TESTS / path).write_bytes(content)
