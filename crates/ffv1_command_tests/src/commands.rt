@@ -1,6 +1,7 @@
 //! The commands over readers that are interrupted or hold much, and over changed holding files.
 use crate::failing::Input;
 use ffv1_commands::{CliFault, CommandPath, run_chain, run_join, run_restore, run_take};
+use ffv1_holding::Recordings;
 use ffv1_test_frames::{FRAME, LEFT_DAMAGED, RIGHT_DAMAGED, TWO_TILES};
 use std::alloc::Global;
 use std::io;
@@ -40,6 +41,7 @@ pub(crate) fn taken(
     let (mut out, mut output) = (Vec::new(alloc), Vec::new(alloc));
     match run_take(
         alloc,
+        Recordings::Profile,
         &mut record,
         width,
         height,
@@ -60,7 +62,14 @@ pub(crate) fn joined<'a>(
 ) -> Option<(Vec<u8>, Vec<u8>)> {
     let mut others = [second];
     let (mut union, mut output) = (Vec::new(alloc), Vec::new(alloc));
-    match run_join(alloc, &mut first, &mut others, &mut union, &mut output) {
+    match run_join(
+        alloc,
+        Recordings::Profile,
+        &mut first,
+        &mut others,
+        &mut union,
+        &mut output,
+    ) {
         Ok(()) => Some((union, output)),
         Err(_) => None,
     }
@@ -131,7 +140,7 @@ fn is_numbered(alloc: Global, fault: &CliFault, number: u8) -> bool {
 fn is_reported(alloc: Global, mut file: &[u8], number: u8) -> bool {
     let mut payload: Vec<u8> = Vec::new(alloc);
     let mut printed: Vec<u8> = Vec::new(alloc);
-    match run_restore(alloc, &mut file, &mut payload, &mut printed) {
+    match run_restore(alloc, Recordings::Profile, &mut file, &mut payload, &mut printed) {
         Ok(()) => {
             number == 0
                 && payload.as_slice() == FRAME.as_slice()

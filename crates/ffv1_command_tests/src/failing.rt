@@ -2,10 +2,11 @@
 use crate::commands::taken;
 use crate::suite::merged;
 use ffv1_commands::{
-    CliFault, CommandPath, run_chain, run_decode, run_join, run_merge, run_picture, run_report,
-    run_restore, run_samples, run_setup, run_show, run_splice, run_take,
+    CliFault, CommandPath, run_any_picture, run_chain, run_decode, run_join, run_merge, run_picture,
+    run_report, run_restore, run_samples, run_setup, run_show, run_splice, run_take,
 };
 use ffv1_hold::HoldFileFault;
+use ffv1_holding::Recordings;
 use ffv1_test_frames::{FRAME, LEFT_DAMAGED, Narrow, TWO_TILES};
 use std::alloc::Global;
 use std::io;
@@ -132,12 +133,13 @@ enum Command {
     Report,
     Restore,
     Picture,
+    AnyPicture,
     Splice,
     Decode,
     Samples,
 }
 
-static COMMANDS: [Command; 12] = [
+static COMMANDS: [Command; 13] = [
     Command::Chain,
     Command::Show,
     Command::Setup,
@@ -147,6 +149,7 @@ static COMMANDS: [Command; 12] = [
     Command::Report,
     Command::Restore,
     Command::Picture,
+    Command::AnyPicture,
     Command::Splice,
     Command::Decode,
     Command::Samples,
@@ -163,7 +166,9 @@ impl Command {
             Command::Decode => (CommandPath::Record, Some(CommandPath::Frame)),
             Command::Join => (CommandPath::Hold(0), Some(CommandPath::Hold(1))),
             Command::Merge => (CommandPath::Inputs, Some(CommandPath::Inputs)),
-            Command::Report | Command::Restore | Command::Picture => (CommandPath::Hold(0), None),
+            Command::Report | Command::Restore | Command::Picture | Command::AnyPicture => {
+                (CommandPath::Hold(0), None)
+            }
         }
     }
 
@@ -176,7 +181,7 @@ impl Command {
             Command::Splice => (&FRAME, &FRAME),
             Command::Join | Command::Merge => (&files.part, &files.whole),
             Command::Report | Command::Restore => (&files.whole, &[]),
-            Command::Picture => (&files.part, &[]),
+            Command::Picture | Command::AnyPicture => (&files.part, &[]),
         }
     }
 }
@@ -204,6 +209,26 @@ fn play_one<'a>(
     }
 }
 
+/// `run_take` of one copy.
+fn take_one<'a>(
+    alloc: Global,
+    record: &mut Input<'a>,
+    copy: Input<'a>,
+    out: &mut Output,
+    printed: &mut Output,
+) -> Result<(), CliFault> {
+    run_take(
+        alloc,
+        Recordings::Profile,
+        record,
+        2,
+        1,
+        &mut [copy],
+        out,
+        printed,
+    )
+}
+
 /// Runs a command; the second input is left alone where it has one alone.
 fn run<'a>(
     alloc: Global,
@@ -213,16 +238,21 @@ fn run<'a>(
     out: &mut Output,
     printed: &mut Output,
 ) -> Result<(), CliFault> {
+    let profile = Recordings::Profile;
     match command {
         Command::Chain => run_chain(alloc, &mut first, printed),
         Command::Show => run_show(alloc, &mut first, 2, 1, printed),
         Command::Setup => run_setup(alloc, &mut first, 2, 1, printed),
-        Command::Take => run_take(alloc, &mut first, 2, 1, &mut [second], out, printed),
-        Command::Join => run_join(alloc, &mut first, &mut [second], out, printed),
-        Command::Merge => run_merge(alloc, &mut first, &mut second, out),
-        Command::Report => run_report(alloc, &mut first, printed),
-        Command::Restore => run_restore(alloc, &mut first, out, printed),
+        Command::Take => take_one(alloc, &mut first, second, out, printed),
+        Command::Join => run_join(alloc, profile, &mut first, &mut [second], out, printed),
+        Command::Merge => run_merge(alloc, profile, &mut first, &mut second, out),
+        Command::Report => run_report(alloc, profile, &mut first, printed),
+        Command::Restore => run_restore(alloc, profile, &mut first, out, printed),
         Command::Picture => match run_picture(alloc, &mut first, out, printed) {
+            Ok(_) => Ok(()),
+            Err(fault) => Err(fault),
+        },
+        Command::AnyPicture => match run_any_picture(alloc, &mut first, out, printed) {
             Ok(_) => Ok(()),
             Err(fault) => Err(fault),
         },
@@ -526,7 +556,7 @@ fn sixty_five_interruptions_in_a_row_are_reported(rt: HostRuntime) {
 fn endless_shows(alloc: Global, file: &[u8], fault: HoldFileFault) -> bool {
     let mut input = Input::endless(file);
     let (mut out, mut printed) = (Output::new(alloc), Output::new(alloc));
-    let returned = run_restore(alloc, &mut input, &mut out, &mut printed);
+    let returned = run_restore(alloc, Recordings::Profile, &mut input, &mut out, &mut printed);
     matches!(returned, Err(CliFault::HoldFile(reported)) if reported == fault)
 }
 

@@ -64,7 +64,13 @@ fn file_of(alloc: Global, frame: &Made, mut copies: [&[u8]; 2]) -> Option<Vec<u8
 fn restores(alloc: Global, mut file: &[u8], wanted: &[u8]) -> bool {
     let mut payload: Vec<u8> = Vec::new(alloc);
     let mut printed: Vec<u8> = Vec::new(alloc);
-    let returned = run_restore(alloc, &mut file, &mut payload, &mut printed);
+    let returned = run_restore(
+        alloc,
+        Recordings::Profile,
+        &mut file,
+        &mut payload,
+        &mut printed,
+    );
     returned.is_ok() && payload.as_slice() == wanted
 }
 
@@ -420,7 +426,13 @@ fn a_size_too_great_hides_what_lies_before(rt: HostRuntime) {
 /// The file that `merge` writes of two holding files, if it writes one.
 pub(crate) fn merged(alloc: Global, mut left: &[u8], mut right: &[u8]) -> Option<Vec<u8>> {
     let mut file = Vec::new(alloc);
-    match run_merge(alloc, &mut left, &mut right, &mut file) {
+    match run_merge(
+        alloc,
+        Recordings::Profile,
+        &mut left,
+        &mut right,
+        &mut file,
+    ) {
         Ok(()) => Some(file),
         Err(_) => None,
     }

@@ -8,12 +8,15 @@ use Rattle.ffv1_range.specs.TileHeaders.{TileRules, profile_rules}
 use Rattle.ffv1_range.proofs.SetupFacts.{one_setup}
 use Rattle.ffv1_range.proofs.ProfileLaws.{rules_of_profile, record_of_profile}
 use Rattle.ffv1_slice.specs.Slices.{IsOriginal}
-use Rattle.ffv1_holding.specs.Reels.{Reel, IsReel}
-use Rattle.ffv1_holding.specs.declared.recordings.Recordings.TheVariants.{Profile}
-use Rattle.ffv1_holding.proofs.Reels.{reel_is}
+use Rattle.ffv1_range.specs.declared.scope.Scope.TheVariants.{Parities}
+use Rattle.ffv1_range.proofs.SetupLaws.{record_is_one}
+use Rattle.ffv1_holding.specs.Reels.{Reel, IsReel, reel_of}
+use Rattle.ffv1_holding.specs.declared.recordings.Recordings.{Recordings}
+use Rattle.ffv1_holding.specs.declared.recordings.Recordings.TheVariants.{Profile, Any}
+use Rattle.ffv1_holding.proofs.Reels.{reel_is, has_parities}
 use Rattle.ffv1_holding.specs.Contents.{Contents, holding_of, joined, HasSameCopies}
 use Rattle.ffv1_holding.proofs.ContentsLaws.{joined-holding_of, holding_of-same}
-use Rattle.ffv1_hold.specs.FileFaults.{IsFaultOf}
+use Rattle.ffv1_hold.specs.FileFaults.{IsTaken, IsFaultOf}
 use Rattle.ffv1_hold.specs.Headline.{IsReelOf}
 use Rattle.ffv1_hold.specs.HoldingText.{holding_text}
 use Rattle.ffv1_hold.specs.declared.version.Version.TheVariants.{Second}
@@ -37,7 +40,7 @@ use Rattle.ffv1_commands.specs.MergeText.{MergesFiles}
 use Rattle.ffv1_commands.specs.RestoreText.{RestoreStops}
 use Rattle.ffv1_commands.specs.PictureText.{PictureStops}
 use Rattle.ffv1_commands.specs.ReportedText.{ReportsFile}
-use Rattle.ffv1_commands.specs.Commands.{IsMadeOf, IsNoFaultOfBytes, RestoresOnly, ShowsOnly, MadeOfCopies, SameCopiesMakeOneHolding, SameCopiesMakeOneFile, SameCopiesMakeOneReport, CommandsRestoreTheOriginal, CommandsRestoreNearCopies}
+use Rattle.ffv1_commands.specs.Commands.{IsMadeOf, IsNoFaultOfBytes, RestoresOnly, ShowsOnly, MadeOfCopies, SameCopiesMakeOneHolding, SameCopiesMakeOneFile, SameCopiesMakeOneReport, CommandsRestoreTheOriginal, CommandsRestoreNearCopies, CommandsShowTheOriginal, CommandsShowNearCopies}
 use Rattle.ffv1_commands.specs.Commands.IsMadeOf.{by_take, by_join, by_merge}
 use Rattle.ffv1_hold.specs.declared.file_fault.HoldFileFault.{HoldFileFault}
 use Rattle.ffv1_commands.specs.declared.fault.CliFault.{CliFault}
@@ -45,9 +48,9 @@ use Rattle.ffv1_commands.specs.declared.fault.CliFault.TheVariants as faults
 use Rattle.ffv1_commands.specs.declared.path.CommandPath.TheVariants as paths
 
 -- The file is that of the holding of the copies, under the reel of the record and the size.
-record IsFileOf (config : List ℕ) (width height : ℕ) (copies : List (List ℕ)) (file : List ℕ) : Type 0 where
+record IsFileOf (recordings : Recordings) (config : List ℕ) (width height : ℕ) (copies : List (List ℕ)) (file : List ℕ) : Type 0 where
   reel : Reel
-  of_record : IsReelOf Profile config width height reel
+  of_record : IsReelOf recordings config width height reel
   text : file ≡ holding_text (holding_of reel copies)
   has : HasFile (holding_of reel copies)
 
@@ -63,29 +66,29 @@ whole_inputs (c ∷ cs) (b ∷ bs) each =
     cc
 
 -- a file is that of one holding
-one_holding : (g h : Contents) (file : List ℕ) → IsHoldingFile (Some file) g → file ≡ holding_text h → HasFile h → g ≡ h
-one_holding g h file is text has = one_text g h file is.well_formed has.well_formed is.fits.record' has.fits.record'
-    (is.version, is.fits.stated, is.text, is.fits.profile) (Second, has.fits.stated, text, has.fits.profile)
+one_holding : (recordings : Recordings) (g h : Contents) (file : List ℕ) → IsHoldingFile recordings (Some file) g → file ≡ holding_text h → HasFile h → g ≡ h
+one_holding recordings g h file is text has = one_text g h file is.well_formed has.well_formed is.fits.record' has.fits.record'
+    (is.version, is.fits.stated, is.text) (Second, has.fits.stated, text)
 
 -- ---- a tree of commands
 
-module _ (config : List ℕ) (width height : ℕ) where
+module _ (recordings : Recordings) (config : List ℕ) (width height : ℕ) where
   of_take : (copies : List (List ℕ)) (file : List ℕ) (before after : Option (List ℕ))
-      → TakesCopies (Some config) width height (map Some copies) (Some []) (Some file) before after → IsFileOf config width height copies file
+      → TakesCopies recordings (Some config) width height (map Some copies) (Some []) (Some file) before after → IsFileOf recordings config width height copies file
   of_take copies file before after takes =
       let same : copies ≡ takes.copies = whole_inputs copies takes.copies takes.read in
       let reported : config ≡ takes.reel.config = takes.of_record.read.reported in
       record {
         reel = takes.reel;
-        of_record = subst (λ (c : List ℕ). IsReelOf Profile c width height takes.reel) (sym reported) takes.of_record.of_record;
+        of_record = subst (λ (c : List ℕ). IsReelOf recordings c width height takes.reel) (sym reported) takes.of_record.of_record;
         text = takes.file ∙ ap (λ cs. holding_text (holding_of takes.reel cs)) (sym same);
         has = subst (λ (cs : List (List ℕ)). HasFile (holding_of takes.reel cs)) (sym same) takes.has_file;
       }
 
   -- the files of parts are those of the parts' holdings
-  held_of_parts : (reel : Reel) → IsReelOf Profile config width height reel → (parts : List (List (List ℕ))) (files : List (List ℕ)) (hs : List Contents)
+  held_of_parts : (reel : Reel) → IsReelOf recordings config width height reel → (parts : List (List (List ℕ))) (files : List (List ℕ)) (hs : List Contents)
       → length parts ≡ length files
-      → ((i : ℕ) → i < length files → IsFileOf config width height (get_or parts i []) (get_or files i [])) → AreHoldingFiles (map Some files) hs
+      → ((i : ℕ) → i < length files → IsFileOf recordings config width height (get_or parts i []) (get_or files i [])) → AreHoldingFiles recordings (map Some files) hs
       → hs ≡ map (holding_of reel) parts
   held_of_parts reel is [] [] [] l each are = refl
   held_of_parts reel is [] [] (h ∷ hs) l each are = absurd are
@@ -93,10 +96,10 @@ module _ (config : List ℕ) (width height : ℕ) where
   held_of_parts reel is (p ∷ ps) [] hs l each are = absurd (omega arith)
   held_of_parts reel is (p ∷ ps) (f ∷ fs) [] l each are = absurd are
   held_of_parts reel is (p ∷ ps) (f ∷ fs) (h ∷ hs) l each are =
-      let own : IsFileOf config width height p f = each 0 (omega arith) in
-      let same : own.reel ≡ reel = one_reel Profile config width height own.reel reel own.of_record is in
+      let own : IsFileOf recordings config width height p f = each 0 (omega arith) in
+      let same : own.reel ≡ reel = one_reel recordings config width height own.reel reel own.of_record is in
       let first : h ≡ holding_of reel p =
-      one_holding h (holding_of reel p) f are.0 (own.text ∙ ap (λ r. holding_text (holding_of r p)) same)
+      one_holding recordings h (holding_of reel p) f are.0 (own.text ∙ ap (λ r. holding_text (holding_of r p)) same)
       (subst (λ (r : Reel). HasFile (holding_of r p)) same own.has) in
       let rest : hs ≡ map (holding_of reel) ps = held_of_parts reel is ps fs hs (omega arith) (λ i lt. each (suc i) (omega arith)) are.1 in
       λ i. first i ∷ rest i
@@ -110,14 +113,14 @@ module _ (config : List ℕ) (width height : ℕ) where
       ∙ joined_parts reel (before ++ p) ps ∙ ap (holding_of reel) (append_assoc before p (flat_map (λ part. part) ps))
 
   of_join : (parts : List (List (List ℕ))) (files : List (List ℕ)) (file : List ℕ) (before after : Option (List ℕ)) → length parts ≡ length files
-      → ((i : ℕ) → i < length files → IsFileOf config width height (get_or parts i []) (get_or files i []))
-      → JoinsFiles (map Some files) (Some []) (Some file) before after
-      → IsFileOf config width height (flat_map (λ part. part) parts) file
+      → ((i : ℕ) → i < length files → IsFileOf recordings config width height (get_or parts i []) (get_or files i []))
+      → JoinsFiles recordings (map Some files) (Some []) (Some file) before after
+      → IsFileOf recordings config width height (flat_map (λ part. part) parts) file
   of_join [] [] file before after l each joins = absurd joins.each.files
   of_join [] (f ∷ fs) file before after l each joins = absurd (omega arith)
   of_join (p ∷ ps) [] file before after l each joins = absurd (omega arith)
   of_join (p ∷ ps) (f ∷ fs) file before after l each joins =
-      let own : IsFileOf config width height p f = each 0 (omega arith) in
+      let own : IsFileOf recordings config width height p f = each 0 (omega arith) in
       let reel : Reel = own.reel in
       let held : joins.each.first ∷ joins.each.others ≡ map (holding_of own.reel) (p ∷ ps) = held_of_parts own.reel own.of_record (p ∷ ps) (f ∷ fs)
       (joins.each.first ∷ joins.each.others) l each joins.each.files in
@@ -132,13 +135,13 @@ module _ (config : List ℕ) (width height : ℕ) where
         has = subst HasFile whole joins.has_file;
       }
 
-  of_merge : (lefts rights : List (List ℕ)) (left right file : List ℕ) → IsFileOf config width height lefts left → IsFileOf config width height rights right
-      → MergesFiles (Some left) (Some right) (Some []) (Some file) → IsFileOf config width height (lefts ++ rights) file
+  of_merge : (lefts rights : List (List ℕ)) (left right file : List ℕ) → IsFileOf recordings config width height lefts left → IsFileOf recordings config width height rights right
+      → MergesFiles recordings (Some left) (Some right) (Some []) (Some file) → IsFileOf recordings config width height (lefts ++ rights) file
   of_merge lefts rights left right file own also merges =
-      let same : also.reel ≡ own.reel = one_reel Profile config width height also.reel own.reel also.of_record own.of_record in
-      let one : merges.one ≡ holding_of own.reel lefts = one_holding merges.one (holding_of own.reel lefts) left merges.left_file own.text own.has in
+      let same : also.reel ≡ own.reel = one_reel recordings config width height also.reel own.reel also.of_record own.of_record in
+      let one : merges.one ≡ holding_of own.reel lefts = one_holding recordings merges.one (holding_of own.reel lefts) left merges.left_file own.text own.has in
       let other : merges.other ≡ holding_of own.reel rights =
-      one_holding merges.other (holding_of own.reel rights) right merges.right_file (also.text ∙ ap (λ r. holding_text (holding_of r rights)) same)
+      one_holding recordings merges.other (holding_of own.reel rights) right merges.right_file (also.text ∙ ap (λ r. holding_text (holding_of r rights)) same)
       (subst (λ (r : Reel). HasFile (holding_of r rights)) same also.has) in
       let whole : joined merges.one merges.other ≡ holding_of own.reel (lefts ++ rights) =
       (λ i. joined (one i) (other i)) ∙ joined-holding_of own.reel lefts rights in
@@ -149,7 +152,7 @@ module _ (config : List ℕ) (width height : ℕ) where
         has = subst HasFile whole merges.has_file;
       }
 
-  made : (copies : List (List ℕ)) (file : List ℕ) → IsMadeOf config width height copies file → IsFileOf config width height copies file
+  made : (copies : List (List ℕ)) (file : List ℕ) → IsMadeOf recordings config width height copies file → IsFileOf recordings config width height copies file
   made _ _ (by_take copies file before after takes) = of_take copies file before after takes
   made _ _ (by_join parts files file before after l each joins) =
       of_join parts files file before after l (λ i lt. made (get_or parts i []) (get_or files i []) (each i lt)) joins
@@ -158,60 +161,141 @@ module _ (config : List ℕ) (width height : ℕ) where
 
 -- ---- the same copies
 
-module _ (config : List ℕ) (width height : ℕ) (copies others : List (List ℕ)) (file other : List ℕ) (is : IsFileOf config width height copies file)
-    (also : IsFileOf config width height others other) (same : HasSameCopies copies others) where
+-- the reel of a record is of the recordings as which it is read
+taken_reel : (recordings : Recordings) (config : List ℕ) (width height : ℕ) (reel : Reel) → IsReelOf recordings config width height reel
+    → IsTaken recordings reel.rules.is_profile
+taken_reel Profile config width height reel is =
+    ap (λ (r : Reel). r.rules.is_profile) is.2 ∙ record_of_profile config width height is.0 is.1
+taken_reel Any config width height reel is = tt
+
+-- a record and a size are those of one reel, as whichever recordings it is read
+reel_of_either : (recordings also : Recordings) (config : List ℕ) (width height : ℕ) (r s : Reel) → IsReelOf recordings config width height r
+    → IsReelOf also config width height s → r ≡ s
+reel_of_either recordings also config width height r s is of =
+    let same = record_is_one config Parities width height is.0 of.0 (has_parities recordings config width height is.0 is.1)
+    (has_parities also config width height of.0 of.1) in
+    is.2 ∙ ap (reel_of config) same ∙ sym of.2
+
+module _ (recordings others_recordings : Recordings) (config : List ℕ) (width height : ℕ) (copies others : List (List ℕ)) (file other : List ℕ)
+    (is : IsFileOf recordings config width height copies file) (also : IsFileOf others_recordings config width height others other)
+    (same : HasSameCopies copies others) where
   one_of_copies : holding_of is.reel copies ≡ holding_of also.reel others
-  one_of_copies = ap (λ r. holding_of r copies) (one_reel Profile config width height is.reel also.reel is.of_record also.of_record)
+  one_of_copies = ap (λ r. holding_of r copies)
+      (reel_of_either recordings others_recordings config width height is.reel also.reel is.of_record also.of_record)
       ∙ holding_of-same also.reel copies others same
 
   one_file : file ≡ other
   one_file = is.text ∙ ap holding_text one_of_copies ∙ sym also.text
 
-  one_report : (report other_report : List ℕ) → ReportsFile (Some file) (Some []) (Some report) → ReportsFile (Some other) (Some []) (Some other_report)
-      → report ≡ other_report
+  one_report : (report other_report : List ℕ) → ReportsFile recordings (Some file) (Some []) (Some report)
+      → ReportsFile others_recordings (Some other) (Some []) (Some other_report) → report ≡ other_report
   one_report report other_report reported other_reported =
       reported.printed
-      ∙ ap report_text (one_holding reported.held (holding_of is.reel copies) file reported.file is.text is.has ∙ one_of_copies
-      ∙ sym (one_holding other_reported.held (holding_of also.reel others) other other_reported.file also.text also.has))
+      ∙ ap report_text (one_holding recordings reported.held (holding_of is.reel copies) file reported.file is.text is.has ∙ one_of_copies
+      ∙ sym (one_holding others_recordings other_reported.held (holding_of also.reel others) other other_reported.file also.text also.has))
       ∙ sym other_reported.printed
 
-  one_holding_read : (h g : Contents) → IsHoldingFile (Some file) h → IsHoldingFile (Some other) g → AreEqualInAll h g
+  one_holding_read : (h g : Contents) → IsHoldingFile recordings (Some file) h → IsHoldingFile others_recordings (Some other) g → AreEqualInAll h g
   one_holding_read h g h_is g_is =
-      let e : h ≡ g = one_holding h (holding_of is.reel copies) file h_is is.text is.has ∙ one_of_copies
-      ∙ sym (one_holding g (holding_of also.reel others) other g_is also.text also.has) in
+      let e : h ≡ g = one_holding recordings h (holding_of is.reel copies) file h_is is.text is.has ∙ one_of_copies
+      ∙ sym (one_holding others_recordings g (holding_of also.reel others) other g_is also.text also.has) in
       let P : Contents → Type 0 = λ x. AreEqualInAll h x in
       subst P e (same_in_all h)
 
 pub made_of_copies : MadeOfCopies
-made_of_copies config width height copies file is =
-    let of : IsFileOf config width height copies file = made config width height copies file is in
-    (of.reel, of.of_record, record { version = Second; text = of.text; well_formed = of.has.well_formed; fits = of.has.fits })
+made_of_copies recordings config width height copies file is =
+    let of : IsFileOf recordings config width height copies file = made recordings config width height copies file is in (
+      of.reel,
+      of.of_record,
+      record {
+        version = Second;
+        text = of.text;
+        well_formed = of.has.well_formed;
+        taken = taken_reel recordings config width height of.reel of.of_record;
+        fits = of.has.fits;
+      },
+    )
 
 pub same_copies_make_one_holding : SameCopiesMakeOneHolding
-same_copies_make_one_holding config width height copies others file other h g is also same h_is g_is =
-    one_holding_read config width height copies others file other (made config width height copies file is)
-    (made config width height others other also) same h g h_is g_is
+same_copies_make_one_holding recordings also config width height copies others file other h g is made_also same h_is g_is =
+    one_holding_read recordings also config width height copies others file other (made recordings config width height copies file is)
+    (made also config width height others other made_also) same h g h_is g_is
 
 pub same_copies_make_one_file : SameCopiesMakeOneFile
-same_copies_make_one_file config width height copies others file other is also same =
-    one_file config width height copies others file other (made config width height copies file is) (made config width height others other also) same
+same_copies_make_one_file recordings also config width height copies others file other is made_also same =
+    one_file recordings also config width height copies others file other (made recordings config width height copies file is)
+    (made also config width height others other made_also) same
 
 pub same_copies_make_one_report : SameCopiesMakeOneReport
-same_copies_make_one_report config width height copies others file other report other_report is also same reported other_reported =
-    one_report config width height copies others file other (made config width height copies file is)
-    (made config width height others other also) same report other_report reported other_reported
+same_copies_make_one_report recordings also config width height copies others file other report other_report is made_also same reported other_reported =
+    one_report recordings also config width height copies others file other (made recordings config width height copies file is)
+    (made also config width height others other made_also) same report other_report reported other_reported
 
 -- ---- copies of an original
 
 -- a holding's own file shows no fault
-no_fault : (h : Contents) (file : List ℕ) → file ≡ holding_text h → HasFile h → (fault : HoldFileFault)
-    → IsHoldingFault (paths.Hold 0) (Some file) (faults.HoldFile fault) → ⊥
-no_fault h file text has fault stops =
-    let own : IsFaultOf (holding_text h) fault = subst (λ (t : List ℕ). IsFaultOf t fault) text stops in
-    own.0 (refused_outside Second h has.well_formed has.fits fault own.1.0 own.1.1)
+no_fault : (recordings : Recordings) (h : Contents) (file : List ℕ) → IsTaken recordings h.reel.rules.is_profile → file ≡ holding_text h → HasFile h
+    → (fault : HoldFileFault) → IsHoldingFault recordings (paths.Hold 0) (Some file) (faults.HoldFile fault) → ⊥
+no_fault recordings h file of text has fault stops =
+    let own : IsFaultOf recordings (holding_text h) fault = subst (λ (t : List ℕ). IsFaultOf recordings t fault) text stops in
+    own.0 (refused_outside recordings Second h has.well_formed of has.fits fault own.1.0 own.1.1)
+
+module _ (recordings : Recordings) (config : List ℕ) (width height : ℕ) (reel : Reel) (copies : List (List ℕ)) (file original : List ℕ) (slices : List (List ℕ))
+    (of_record : IsReelOf recordings config width height reel) (is : IsFileOf recordings config width height copies file)
+    (is_original : IsOriginal reel.rules original slices) (are : AreCopiesOfSlices reel.rules slices copies) where
+  same_reel : reel ≡ is.reel
+  same_reel = one_reel recordings config width height reel is.reel of_record is.of_record
+
+  is_reel : IsReel is.reel
+  is_reel = subst IsReel (sym is.of_record.2) (reel_is recordings config width height is.of_record.0 is.of_record.1)
+
+  is_taken : IsTaken recordings is.reel.rules.is_profile
+  is_taken = taken_reel recordings config width height is.reel is.of_record
+
+  exact : HoldsExactly (holding_of is.reel copies) slices
+  exact = exactly_held is.reel slices copies (subst (λ (r : Reel). AreCopiesOfSlices r.rules slices copies) same_reel are)
+
+  own : IsOriginal is.reel.rules original slices
+  own = subst (λ (r : Reel). IsOriginal r.rules original slices) same_reel is_original
+
+  read : (h : Contents) → IsHoldingFile recordings (Some file) h → h ≡ holding_of is.reel copies
+  read h file_is = one_holding recordings h (holding_of is.reel copies) file file_is is.text is.has
+
+  settled : (h : Contents) → IsHoldingFile recordings (Some file) h → (tile : ℕ) → IsLeastUnsettled h tile → ⊥
+  settled h file_is tile least =
+      exact_settles (holding_of is.reel copies) original slices is_reel own exact tile (subst (λ (g : Contents). IsLeastUnsettled g tile) (read h file_is) least)
+
+  refused : (ob oa pb pa : Option (List ℕ)) (fault : CliFault) → RestoreStops recordings (Some file) ob oa pb pa fault → IsNoFaultOfBytes fault
+  refused ob oa pb pa (faults.Read path) stops = tt
+  refused ob oa pb pa (faults.Write path) stops = tt
+  refused ob oa pb pa (faults.HoldFile fault) stops = no_fault recordings (holding_of is.reel copies) file is_taken is.text is.has fault stops
+  refused ob oa pb pa (faults.Missing tile) (h, file_is, refusal) = settled h file_is tile refusal.0
+  refused ob oa pb pa (faults.Disputed tile) (h, file_is, refusal) = settled h file_is tile refusal.0
+  refused ob oa pb pa faults.Memory stops = tt
+  refused ob oa pb pa fault stops = stops
+
+  restores : RestoresOnly recordings file original
+  restores = record {
+    written = λ ob oa pb pa does.
+        let payload : restored_payload does.held ≡ original = ap restored_payload (read does.held does.file)
+        ∙ restored_original (holding_of is.reel copies) slices exact original is_reel own in
+        subst (Appends ob oa) payload does.payload;
+    refused = refused;
+  }
+
+pub commands_restore_the_original : CommandsRestoreTheOriginal
+commands_restore_the_original recordings config width height reel copies file original slices of_record is is_original are =
+    restores recordings config width height reel copies file original slices of_record (made recordings config width height copies file is) is_original are
+
+pub commands_restore_near_copies : CommandsRestoreNearCopies
+commands_restore_near_copies recordings config width height reel copies file original slices of_record is near =
+    commands_restore_the_original recordings config width height reel copies file original slices of_record is near.is_original
+    (near_are_copies reel.rules original slices copies near)
+
+-- ---- what is shown of an original of the profile
 
 module _ (config : List ℕ) (width height : ℕ) (setup : SetupValue) (copies : List (List ℕ)) (file original : List ℕ) (slices : List (List ℕ))
-    (is_setup : IsSetupOf config width height setup) (is : IsFileOf config width height copies file)
+    (is_setup : IsSetupOf config width height setup) (is : IsFileOf Profile config width height copies file)
     (is_original : IsOriginal (profile_rules setup) original slices) (are : AreCopiesOfSlices (profile_rules setup) slices copies) where
   same_setup : setup ≡ is.reel.setup
   same_setup = one_setup config width height setup is.reel.setup is_setup
@@ -221,70 +305,43 @@ module _ (config : List ℕ) (width height : ℕ) (setup : SetupValue) (copies :
   same_rules = ap profile_rules (same_setup ∙ ap (λ (r : Reel). r.setup) is.of_record.2)
       ∙ sym (ap (λ (r : Reel). r.rules) is.of_record.2 ∙ rules_of_profile is.of_record.0 (record_of_profile config width height is.of_record.0 is.of_record.1))
 
-  is_reel : IsReel is.reel
-  is_reel = subst IsReel (sym is.of_record.2) (reel_is Profile config width height is.of_record.0 is.of_record.1)
+  own_original : IsOriginal is.reel.rules original slices
+  own_original = subst (λ (rules : TileRules). IsOriginal rules original slices) same_rules is_original
 
-  exact : HoldsExactly (holding_of is.reel copies) slices
-  exact = exactly_held is.reel slices copies (subst (λ (rules : TileRules). AreCopiesOfSlices rules slices copies) same_rules are)
-
-  own : IsOriginal is.reel.rules original slices
-  own = subst (λ (rules : TileRules). IsOriginal rules original slices) same_rules is_original
-
-  read : (h : Contents) → IsHoldingFile (Some file) h → h ≡ holding_of is.reel copies
-  read h file_is = one_holding h (holding_of is.reel copies) file file_is is.text is.has
-
-  settled : (h : Contents) → IsHoldingFile (Some file) h → (tile : ℕ) → IsLeastUnsettled h tile → ⊥
-  settled h file_is tile least =
-      exact_settles (holding_of is.reel copies) original slices is_reel own exact tile (subst (λ (g : Contents). IsLeastUnsettled g tile) (read h file_is) least)
-
-  refused : (ob oa pb pa : Option (List ℕ)) (fault : CliFault) → RestoreStops (Some file) ob oa pb pa fault → IsNoFaultOfBytes fault
-  refused ob oa pb pa (faults.Read path) stops = tt
-  refused ob oa pb pa (faults.Write path) stops = tt
-  refused ob oa pb pa (faults.HoldFile fault) stops = no_fault (holding_of is.reel copies) file is.text is.has fault stops
-  refused ob oa pb pa (faults.Missing tile) (h, file_is, refusal) = settled h file_is tile refusal.0
-  refused ob oa pb pa (faults.Disputed tile) (h, file_is, refusal) = settled h file_is tile refusal.0
-  refused ob oa pb pa faults.Memory stops = tt
-  refused ob oa pb pa fault stops = stops
-
-  restores : RestoresOnly file original
-  restores = record {
-    written = λ ob oa pb pa does.
-        let payload : restored_payload does.held ≡ original = ap restored_payload (read does.held does.file)
-        ∙ restored_original (holding_of is.reel copies) slices exact original is_reel own in
-        subst (Appends ob oa) payload does.payload;
-    refused = refused;
-  }
+  own_copies : AreCopiesOfSlices is.reel.rules slices copies
+  own_copies = subst (λ (rules : TileRules). AreCopiesOfSlices rules slices copies) same_rules are
 
   not_shown : (ob oa pb pa : Option (List ℕ)) (fault : CliFault) → PictureStops (Some file) ob oa pb pa fault → IsNoFaultOfBytes fault
   not_shown ob oa pb pa (faults.Read path) stops = tt
   not_shown ob oa pb pa (faults.Write path) stops = tt
-  not_shown ob oa pb pa (faults.HoldFile fault) stops = no_fault (holding_of is.reel copies) file is.text is.has fault stops
+  not_shown ob oa pb pa (faults.HoldFile fault) stops =
+      no_fault Profile (holding_of is.reel copies) file (taken_reel Profile config width height is.reel is.of_record) is.text is.has fault stops
   not_shown ob oa pb pa faults.Memory stops = tt
   not_shown ob oa pb pa fault stops = stops
 
   shows : ShowsOnly setup file slices
-  shows = record {
-    written = λ ob oa pb pa whole does.
-        let picture = subst (λ (h : Contents). IsPartialPicture h does.partial) (read does.held does.file) does.picture in (
-          does.partial.frame,
-          subst (λ (s : SetupValue). ShowsSlices s slices does.partial.frame) (sym same_setup)
-              (exact_shows (holding_of is.reel copies) original slices is_reel own exact does.partial picture),
-          does.samples,
-        );
-    refused = not_shown;
-  }
+  shows =
+      let reel = is_reel Profile config width height is.reel copies file original slices is.of_record is own_original own_copies in
+      let all = exact Profile config width height is.reel copies file original slices is.of_record is own_original own_copies in
+      record {
+        written = λ ob oa pb pa whole does.
+            let same = one_holding Profile does.held (holding_of is.reel copies) file does.file is.text is.has in
+            let picture = subst (λ (h : Contents). IsPartialPicture h does.partial) same does.picture in (
+              does.partial.frame,
+              subst (λ (s : SetupValue). ShowsSlices s slices does.partial.frame) (sym same_setup)
+                  (exact_shows (holding_of is.reel copies) original slices reel own_original all does.partial picture),
+              does.samples,
+            );
+        refused = not_shown;
+      }
 
-pub commands_restore_the_original : CommandsRestoreTheOriginal
-commands_restore_the_original config width height setup copies file original slices is_setup is is_original are =
-    let of : IsFileOf config width height copies file = made config width height copies file is in (
-      restores config width height setup copies file original slices is_setup of is_original are,
-      shows config width height setup copies file original slices
-          is_setup of is_original are,
-    )
+pub commands_show_the_original : CommandsShowTheOriginal
+commands_show_the_original config width height setup copies file original slices is_setup is is_original are =
+    shows config width height setup copies file original slices is_setup (made Profile config width height copies file is) is_original are
 
-pub commands_restore_near_copies : CommandsRestoreNearCopies
-commands_restore_near_copies config width height setup copies file original slices is_setup is near =
-    commands_restore_the_original config width height setup copies file original slices is_setup is near.is_original
+pub commands_show_near_copies : CommandsShowNearCopies
+commands_show_near_copies config width height setup copies file original slices is_setup is near =
+    commands_show_the_original config width height setup copies file original slices is_setup is near.is_original
     (near_are_copies (profile_rules setup) original slices copies near)
 
 -- ---- the family has members
@@ -295,16 +352,16 @@ whole_inputs-all [] few = tt
 whole_inputs-all (c ∷ cs) few = (record { reported = refl; few = few 0 (omega arith) }, whole_inputs-all cs (λ i lt. few (suc i) (omega arith)))
 
 -- where a record has a setup, copies and record are short enough, and their holding has a file, that file is made of them
-taken : (config : List ℕ) (width height : ℕ) (reel : Reel) (copies : List (List ℕ)) → IsReelOf Profile config width height reel → length config ≤ payload_limit
+taken : (recordings : Recordings) (config : List ℕ) (width height : ℕ) (reel : Reel) (copies : List (List ℕ)) → IsReelOf recordings config width height reel → length config ≤ payload_limit
     → ((i : ℕ) → i < length copies → length (get_or copies i []) ≤ payload_limit) → HasFile (holding_of reel copies)
-    → IsMadeOf config width height copies (holding_text (holding_of reel copies))
-taken config width height reel copies is short few has =
+    → IsMadeOf recordings config width height copies (holding_text (holding_of reel copies))
+taken recordings config width height reel copies is short few has =
     let same : config ≡ reel.config = sym (ap (λ (r : Reel). r.config) is.2) in
     by_take copies (holding_text (holding_of reel copies)) None None (record {
       reel = reel;
       of_record = record {
         read = record { reported = same; few = omega (arith, ap length same) };
-        of_record = subst (λ (c : List ℕ). IsReelOf Profile c width height reel) same is;
+        of_record = subst (λ (c : List ℕ). IsReelOf recordings c width height reel) same is;
       };
       copies = copies;
       read = whole_inputs-all copies few;

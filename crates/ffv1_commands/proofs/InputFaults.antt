@@ -1,5 +1,6 @@
 -- What a fault that comes before anything is written says: which path it names, and that the outputs are as they were.
 use Rattle.std.proofs.Common.{◌≡◌, ℕ, List, Option, IfSome, refl, sym, subst}
+use Rattle.ffv1_holding.specs.declared.recordings.Recordings.{Recordings}
 use Rattle.ffv1_hold.specs.FileFaults.{IsFaultOf}
 use Rattle.ffv1_hold.specs.declared.file_fault.HoldFileFault.{HoldFileFault}
 use Rattle.ffv1_commands.specs.Devices.{UnlessWriting}
@@ -30,9 +31,9 @@ untouched_both out output fault none = UnlessWriting-unwritten ((out ≡ out) ×
 
 -- ---- what any fault of a holding file says, if that of each form says so
 
-module _ (P : CliFault → Type 0) where
+module _ (recordings : Recordings) (P : CliFault → Type 0) where
   pub IsHoldingFault-says : (path : CommandPath) (input : Option (List ℕ)) (fault : CliFault) → P (faults.Read path) → P faults.Memory
-      → ((file : HoldFileFault) → IfSome input (λ bytes. IsFaultOf bytes file) → P (faults.HoldFile file)) → IsHoldingFault path input fault → P fault
+      → ((file : HoldFileFault) → IfSome input (λ bytes. IsFaultOf recordings bytes file) → P (faults.HoldFile file)) → IsHoldingFault recordings path input fault → P fault
   IsHoldingFault-says path input (faults.Read named) read memory file is = subst (λ n. P (faults.Read n)) (sym is) read
   IsHoldingFault-says path input (faults.HoldFile fault) read memory file is = file fault is
   IsHoldingFault-says path input faults.Memory read memory file is = memory

@@ -3,6 +3,7 @@ use Rattle.std.proofs.Common.{◌≡◌, ℕ, ◌+◌, ◌-◌, List, [], ◌∷
 use Rattle.ffv1_holding.specs.Sets as set
 use Rattle.ffv1_holding.specs.Contents.{Contents, IsSameReel, joined}
 use Rattle.ffv1_holding.specs.Joins.{joined_all, AreJoinable}
+use Rattle.ffv1_holding.specs.declared.recordings.Recordings.{Recordings}
 use Rattle.ffv1_commands.specs.Holdings.{IsHoldingFile}
 use Rattle.ffv1_commands.specs.JoinText.{file_line, line_of_join, lines_from, join_text, AreHoldingFiles, JoinsEach}
 use Rattle.ffv1_commands.specs.Inner.JoinText.{JoinsOne}
@@ -17,18 +18,18 @@ pub AreJoinable-push : (whole : Contents) (others : List Contents) (other : Cont
 AreJoinable-push whole [] other are same = (same, tt)
 AreJoinable-push whole (o ∷ os) other are same = (are.0, AreJoinable-push (joined whole o) os other are.1 same)
 
-pub AreHoldingFiles-push : (inputs : List (Option (List ℕ))) (hs : List Contents) (input : Option (List ℕ)) (h : Contents) → AreHoldingFiles inputs hs
-    → IsHoldingFile input h → AreHoldingFiles (inputs ++ input ∷ []) (hs ++ h ∷ [])
-AreHoldingFiles-push [] [] input h files file = (file, tt)
-AreHoldingFiles-push [] (g ∷ gs) input h files file = absurd files
-AreHoldingFiles-push (i ∷ is) [] input h files file = absurd files
-AreHoldingFiles-push (i ∷ is) (g ∷ gs) input h files file = (files.0, AreHoldingFiles-push is gs input h files.1 file)
+pub AreHoldingFiles-push : (recordings : Recordings) (inputs : List (Option (List ℕ))) (hs : List Contents) (input : Option (List ℕ)) (h : Contents) → AreHoldingFiles recordings inputs hs
+    → IsHoldingFile recordings input h → AreHoldingFiles recordings (inputs ++ input ∷ []) (hs ++ h ∷ [])
+AreHoldingFiles-push recordings [] [] input h files file = (file, tt)
+AreHoldingFiles-push recordings [] (g ∷ gs) input h files file = absurd files
+AreHoldingFiles-push recordings (i ∷ is) [] input h files file = absurd files
+AreHoldingFiles-push recordings (i ∷ is) (g ∷ gs) input h files file = (files.0, AreHoldingFiles-push _ is gs input h files.1 file)
 
-pub length-AreHoldingFiles : (inputs : List (Option (List ℕ))) (hs : List Contents) → AreHoldingFiles inputs hs → length inputs ≡ length hs
-length-AreHoldingFiles [] [] files = refl
-length-AreHoldingFiles [] (g ∷ gs) files = absurd files
-length-AreHoldingFiles (i ∷ is) [] files = absurd files
-length-AreHoldingFiles (i ∷ is) (g ∷ gs) files = let rest = length-AreHoldingFiles is gs files.1 in omega arith
+pub length-AreHoldingFiles : (recordings : Recordings) (inputs : List (Option (List ℕ))) (hs : List Contents) → AreHoldingFiles recordings inputs hs → length inputs ≡ length hs
+length-AreHoldingFiles recordings [] [] files = refl
+length-AreHoldingFiles recordings [] (g ∷ gs) files = absurd files
+length-AreHoldingFiles recordings (i ∷ is) [] files = absurd files
+length-AreHoldingFiles recordings (i ∷ is) (g ∷ gs) files = let rest = length-AreHoldingFiles _ is gs files.1 in omega arith
 
 pub lines_from-push : (number : ℕ) (whole : Contents) (others : List Contents) (other : Contents)
     → lines_from number whole (others ++ other ∷ []) ≡ lines_from number whole others ++ line_of_join (number + length others)
@@ -43,9 +44,9 @@ lines_from-push number whole (o ∷ os) other =
     ∙ ap (λ n. (line_of_join number whole o ++ lines_from (number + 1) (joined whole o) os) ++ line_of_join n
     (joined_all joined (joined whole o) os) other) same
 
-abbrev pub joins_first : (input : Option (List ℕ)) (h : Contents) (text : List ℕ) → text ≡ file_line 1 (set.size h.slices) → IsHoldingFile input h
-    → JoinsEach (input ∷ []) h text
-joins_first input h text reported file = record {
+abbrev pub joins_first : (recordings : Recordings) (input : Option (List ℕ)) (h : Contents) (text : List ℕ) → text ≡ file_line 1 (set.size h.slices) → IsHoldingFile recordings input h
+    → JoinsEach recordings (input ∷ []) h text
+joins_first recordings input h text reported file = record {
   first = h;
   others = [];
   files = (file, tt);
@@ -54,15 +55,15 @@ joins_first input h text reported file = record {
   lines = reported ∙ sym (append-nil (file_line 1 (set.size h.slices)));
 }
 
-abbrev pub joins_more : (inputs : List (Option (List ℕ))) (old new : Contents) (before after : List ℕ) (input : Option (List ℕ)) (number : ℕ)
-    → JoinsEach inputs old before → number ≡ length inputs → JoinsOne (IsHoldingFile input) (number + 1) old new before after → JoinsEach (inputs ++ input ∷ []) new after
-joins_more inputs old new before after input number each n one =
-    let count = length-AreHoldingFiles inputs (each.first ∷ each.others) each.files in
+abbrev pub joins_more : (recordings : Recordings) (inputs : List (Option (List ℕ))) (old new : Contents) (before after : List ℕ) (input : Option (List ℕ)) (number : ℕ)
+    → JoinsEach recordings inputs old before → number ≡ length inputs → JoinsOne (IsHoldingFile recordings input) (number + 1) old new before after → JoinsEach recordings (inputs ++ input ∷ []) new after
+joins_more recordings inputs old new before after input number each n one =
+    let count = length-AreHoldingFiles _ inputs (each.first ∷ each.others) each.files in
     let place : number + 1 ≡ 2 + length each.others = omega (arith, n, count) in
     record {
       first = each.first;
       others = each.others ++ one.other ∷ [];
-      files = AreHoldingFiles-push inputs (each.first ∷ each.others) input one.other each.files one.file;
+      files = AreHoldingFiles-push _ inputs (each.first ∷ each.others) input one.other each.files one.file;
       joinable = AreJoinable-push each.first each.others one.other each.joinable (subst (λ (h : Contents). IsSameReel h one.other) each.held one.same);
       held = one.held ∙ ap (λ h. joined h one.other) each.held ∙ sym (joined_all-push each.first each.others one.other);
       lines = one.line ∙ ap (λ t. t ++ line_of_join (number + 1) old one.other) each.lines
@@ -73,8 +74,8 @@ joins_more inputs old new before after input number each n one =
     }
 
 -- the reel of a union is that of its first part
-pub joins_reel : (inputs : List (Option (List ℕ))) (whole : Contents) (text : List ℕ) (each : JoinsEach inputs whole text) → whole.reel ≡ each.first.reel
-joins_reel inputs whole text each = ap (λ (h : Contents). h.reel) each.held ∙ joined_all-reel each.first each.others
+pub joins_reel : (recordings : Recordings) (inputs : List (Option (List ℕ))) (whole : Contents) (text : List ℕ) (each : JoinsEach recordings inputs whole text) → whole.reel ≡ each.first.reel
+joins_reel recordings inputs whole text each = ap (λ (h : Contents). h.reel) each.held ∙ joined_all-reel each.first each.others
   where
     joined_all-reel : (first : Contents) (others : List Contents) → (joined_all joined first others).reel ≡ first.reel
     joined_all-reel first [] = refl

@@ -15,17 +15,22 @@ use Rattle.ffv1_hold.specs.declared.file_fault.HoldFileFault.{HoldFileFault}
 use Rattle.ffv1_hold.specs.declared.file_fault.HoldFileFault.TheVariants as files
 use Rattle.ffv1_hold.proofs.MergeSteps.{part_begins}
 use Rattle.ffv1_hold.proofs.MergeStarts.{all_part}
+use Rattle.ffv1_holding.specs.declared.recordings.Recordings.{Recordings}
+use Rattle.ffv1_hold.specs.FileFaults.{IsTaken}
+use Rattle.ffv1_hold.specs.JoinedStreams.{inputs_of}
 use Rattle.ffv1_commands.specs.Fault.{NamesPath, of_merge}
 use Rattle.ffv1_commands.specs.Paths.{IsMergePath}
 use Rattle.ffv1_commands.specs.Holdings.{IsHoldingFile}
-use Rattle.ffv1_commands.specs.MergeText.{MergesFiles, BeginsUnion, HeadsDiffer, IsFaultOfEither, IsMergeFault, LeavesEntries, MergeLeaves, ReturnsOtherHeads, inputs_of, LeavesFront, ReportsMerge}
+use Rattle.ffv1_commands.specs.MergeText.{MergesFiles, BeginsUnion, HeadsDiffer, IsFaultOfEither, IsMergeFault, LeavesEntries, MergeLeaves, ReturnsOtherHeads, LeavesFront, ReportsMerge}
 use Rattle.ffv1_commands.specs.declared.fault.CliFault.{CliFault}
 
-holding_file : (old new : Option (List ℕ)) (h : Contents) → ReadsAll old new h → IsHoldingFile old h
-holding_file old new h a = record {
+holding_file : (recordings : Recordings) (old new : Option (List ℕ)) (h : Contents) → IsTaken recordings h.reel.rules.is_profile → ReadsAll old new h
+    → IsHoldingFile recordings old h
+holding_file recordings old new h taken a = record {
   version = a.file.version;
   text = Consumes-whole old new (file_text a.file.version h) (λ reported. reported ≡ file_text a.file.version h) a.file.taken a.at_end refl;
   well_formed = a.well_formed;
+  taken = taken;
   fits = a.file.fits;
 }
 
@@ -37,12 +42,12 @@ taken_begins (Some xs) (Some ys) bytes t = (ys, t)
 module _ (i : Inputs) (w v : Option (List ℕ)) where
   -- ---- the file was made
 
-  pub merges : WritesUnion i w v → MergesFiles i.left_old i.right_old w v
+  pub merges : WritesUnion i w v → MergesFiles i.recordings i.left_old i.right_old w v
   merges u = record {
     one = u.left;
     other = u.right;
-    left_file = holding_file _ _ u.left u.read.left_read;
-    right_file = holding_file _ _ u.right u.read.right_read;
+    left_file = holding_file i.recordings _ _ u.left u.taken u.read.left_read;
+    right_file = holding_file i.recordings _ _ u.right (subst (λ (r : Reel). IsTaken i.recordings r.rules.is_profile) u.read.same u.taken) u.read.right_read;
     same = u.read.same;
     has_file = record { well_formed = holding-joined u.left u.right u.read.same u.read.left_read.well_formed u.read.right_read.well_formed; fits = u.fits };
     written = u.written;
@@ -50,11 +55,12 @@ module _ (i : Inputs) (w v : Option (List ℕ)) where
 
   -- ---- why it was not
 
-  input_fault : (old new : Option (List ℕ)) (f : HoldFileFault) → (IsOutside f → ⊥) → InputRefuses old new f → IfSome old (λ bytes. IsFaultOf bytes f)
+  input_fault : (old new : Option (List ℕ)) (f : HoldFileFault) → (IsOutside f → ⊥) → InputRefuses i.recordings old new f
+      → IfSome old (λ bytes. IsFaultOf i.recordings bytes f)
   input_fault None new f inside refused = tt
   input_fault (Some bytes) new f inside refused = (inside, (new, refused))
 
-  either_fault : (f : HoldFileFault) → (IsOutside f → ⊥) → OneRefuses i f → IsFaultOfEither i.left_old i.right_old f
+  either_fault : (f : HoldFileFault) → (IsOutside f → ⊥) → OneRefuses i f → IsFaultOfEither i.recordings i.left_old i.right_old f
   either_fault f inside (inl r) = inl (input_fault _ _ f inside r.0)
   either_fault f inside (inr r) = inr (input_fault _ _ f inside r.0)
 
@@ -80,7 +86,7 @@ module _ (i : Inputs) (w v : Option (List ℕ)) where
     u.over,
   )
 
-  heads_differ : ReadsOtherHeads i → HeadsDiffer i.left_old i.right_old
+  heads_differ : ReadsOtherHeads i → HeadsDiffer i.recordings i.left_old i.right_old
   heads_differ o = record {
     one = o.left;
     other = o.right;
@@ -93,7 +99,7 @@ module _ (i : Inputs) (w v : Option (List ℕ)) where
     differ = o.other;
   }
 
-  pub merge_fault : (f : HoldFileFault) → MergeRefuses i f → IsMergeFault i.left_old i.right_old (of_merge f)
+  pub merge_fault : (f : HoldFileFault) → MergeRefuses i f → IsMergeFault i.recordings i.left_old i.right_old (of_merge f)
   merge_fault files.Read r = refl
   merge_fault files.Write r = refl
   merge_fault files.Memory r = tt
@@ -118,37 +124,37 @@ module _ (i : Inputs) (w v : Option (List ℕ)) where
 -- ---- by the logs of the devices
 
 -- what a fault left
-pub leaves_front : (old new : Devices) (f : HoldFileFault) → (f ≢ files.Write → WritesNoEnd (inputs_of old new) old.sink.contents new.sink.contents)
-    → (f ≡ files.Write → WritesFrontSoFar (inputs_of old new) old.sink.contents new.sink.contents) → LeavesFront f old new
-leaves_front old new files.Write none front = front refl
-leaves_front old new fault none front = none (λ is. absurd (cc))
+pub leaves_front : (recordings : Recordings) (old new : Devices) (f : HoldFileFault) → (f ≢ files.Write → WritesNoEnd (inputs_of recordings old new) old.sink.contents new.sink.contents)
+    → (f ≡ files.Write → WritesFrontSoFar (inputs_of recordings old new) old.sink.contents new.sink.contents) → LeavesFront recordings f old new
+leaves_front recordings old new files.Write none front = front refl
+leaves_front recordings old new fault none front = none (λ is. absurd (cc))
 
 merge_names : (f : HoldFileFault) → NamesPath IsMergePath (of_merge f)
 merge_names files.Read = tt
 merge_names fault = tt
 
 -- the same of bytes
-pub record MergeOfBytes {T : Type 0} (r : Result T CliFault) (left right before after : Option (List ℕ)) : Type 0 where
-  pub ok : OnOk r (MergesFiles left right before after)
-  pub err : IfErr r (IsMergeFault left right)
+pub record MergeOfBytes {T : Type 0} (recordings : Recordings) (r : Result T CliFault) (left right before after : Option (List ℕ)) : Type 0 where
+  pub ok : OnOk r (MergesFiles recordings left right before after)
+  pub err : IfErr r (IsMergeFault recordings left right)
   pub leaves : IfErr r (MergeLeaves left right before after)
   pub names : IfErr r (NamesPath IsMergePath)
 
-merge_leaves : (old new : Devices) (f : HoldFileFault) → LeavesFront f old new
+merge_leaves : (recordings : Recordings) (old new : Devices) (f : HoldFileFault) → LeavesFront recordings f old new
     → MergeLeaves old.left.remaining old.right.remaining old.sink.contents new.sink.contents (of_merge f)
-merge_leaves old new files.Write left = (joined left.left left.right, so_far (inputs_of old new) old.sink.contents new.sink.contents left.left left.right left.read, left.front)
-merge_leaves old new fault left = entries_left (inputs_of old new) old.sink.contents new.sink.contents left
+merge_leaves recordings old new files.Write left = (joined left.left left.right, so_far (inputs_of recordings old new) old.sink.contents new.sink.contents left.left left.right left.read, left.front)
+merge_leaves recordings old new fault left = entries_left (inputs_of recordings old new) old.sink.contents new.sink.contents left
 
-module _ {T : Type 0} (old new : Devices) where
+module _ {T : Type 0} (recordings : Recordings) (old new : Devices) where
   abbrev OfBytes : Result T CliFault → Type 0
-  OfBytes r = MergeOfBytes r old.left.remaining old.right.remaining old.sink.contents new.sink.contents
+  OfBytes r = MergeOfBytes recordings r old.left.remaining old.right.remaining old.sink.contents new.sink.contents
 
-  pub merge_of_bytes : (r : Result T CliFault) → ReportsMerge r old new → OfBytes r
-  merge_of_bytes (Ok x) (union, went) = record { ok = merges (inputs_of old new) old.sink.contents new.sink.contents union; err = tt; leaves = tt; names = tt }
+  pub merge_of_bytes : (r : Result T CliFault) → ReportsMerge recordings r old new → OfBytes r
+  merge_of_bytes (Ok x) (union, went) = record { ok = merges (inputs_of recordings old new) old.sink.contents new.sink.contents union; err = tt; leaves = tt; names = tt }
   merge_of_bytes (Err fault) (f, is, stops) = subst (λ (g : CliFault). OfBytes (Err g)) (sym is) (record {
     ok = tt;
-    err = merge_fault (inputs_of old new) old.sink.contents new.sink.contents f stops.shown;
-    leaves = merge_leaves old new f stops.leaves;
+    err = merge_fault (inputs_of recordings old new) old.sink.contents new.sink.contents f stops.shown;
+    leaves = merge_leaves recordings old new f stops.leaves;
     names = merge_names f;
   })
 

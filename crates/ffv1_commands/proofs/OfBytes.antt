@@ -3,6 +3,7 @@ use Rattle.std.proofs.Common.{List, ℕ, Result, Err, IfOk, IfErr, IfSome}
 use Rattle.ffv1_devices.specs.Logs.{ReadLog, WriteLog}
 use Rattle.ffv1_hold.specs.FileFaults.{IsFaultOf}
 use Rattle.ffv1_hold.specs.declared.file_fault.HoldFileFault.{HoldFileFault}
+use Rattle.ffv1_holding.specs.declared.recordings.Recordings.{Recordings}
 use Rattle.ffv1_commands.specs.Devices.{BothStop, WriteStops}
 use Rattle.ffv1_commands.specs.Fault.{NamesPath}
 use Rattle.ffv1_commands.specs.Holdings.{HoldingStops}
@@ -21,13 +22,13 @@ pub record OfBytes {T : Type 0} (Did : T → Type 0) (Stops : CliFault → Type 
 
 module _ {T : Type 0} (Did : T → Type 0) (Stops : CliFault → Type 0) (IsPath : CommandPath → Type 0) where
   -- its holding file was not read
-  pub unread_bytes : (a b : ReadLog) (f : CliFault) → IsPath (paths.Hold 0) → Stops (faults.Read (paths.Hold 0)) → Stops faults.Memory
-      → ((file : HoldFileFault) → IfSome a.remaining (λ bytes. IsFaultOf bytes file) → Stops (faults.HoldFile file))
-      → HoldingStops (paths.Hold 0) f a b → OfBytes Did Stops IsPath (Err f)
-  unread_bytes a b f named read memory file stops =
-      IsHoldingFault-says (λ f. OfBytes Did Stops IsPath (Err f)) (paths.Hold 0) a.remaining f (record { ok = tt; err = read; names = named })
+  pub unread_bytes : (recordings : Recordings) (a b : ReadLog) (f : CliFault) → IsPath (paths.Hold 0) → Stops (faults.Read (paths.Hold 0)) → Stops faults.Memory
+      → ((file : HoldFileFault) → IfSome a.remaining (λ bytes. IsFaultOf recordings bytes file) → Stops (faults.HoldFile file))
+      → HoldingStops recordings (paths.Hold 0) f a b → OfBytes Did Stops IsPath (Err f)
+  unread_bytes recordings a b f named read memory file stops =
+      IsHoldingFault-says recordings (λ f. OfBytes Did Stops IsPath (Err f)) (paths.Hold 0) a.remaining f (record { ok = tt; err = read; names = named })
       (record { ok = tt; err = memory; names = tt }) (λ fault shown. record { ok = tt; err = file fault shown; names = tt })
-      (unread_file a b (paths.Hold 0) f stops)
+      (unread_file recordings a b (paths.Hold 0) f stops)
 
   -- the file OUT and then a text were not written whole
   pub unwritten_bytes : (file text : List ℕ) (a b c d : WriteLog) → IsPath paths.Out → IsPath paths.StandardOutput

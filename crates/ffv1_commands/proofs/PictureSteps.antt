@@ -1,6 +1,7 @@
 -- What showing a holding file does to the outputs.
 use Rattle.std.proofs.Common.{◌≡◌, ℕ, Bool, IsTrue, List, Result, Ok, Err, inl, inr, refl, subst, arith}
 use Rattle.std.specs.Prelude.{◌↔◌, All}
+use Rattle.ffv1_holding.specs.declared.recordings.Recordings.TheVariants.{Profile}
 use Rattle.ffv1_devices.specs.Logs.{ReadLog, WriteLog, Writes}
 use Rattle.ffv1_holding.specs.Contents.{Contents}
 use Rattle.ffv1_hold.specs.FileFaults.{ReadsHolding}
@@ -43,11 +44,11 @@ module _ (file file' : ReadLog) (out out' output output' : WriteLog) where
   abbrev Stops : CliFault → Type 0
   Stops fault = PictureStops file.remaining out.contents out'.contents output.contents output'.contents fault
 
-  refused_bytes : (h : Contents) → ReadsHolding file file' h → (f : CliFault) → PictureRefuses h out out' output output' f → OfBytes Did Stops IsHoldPath (Err f)
+  refused_bytes : (h : Contents) → ReadsHolding Profile file file' h → (f : CliFault) → PictureRefuses h out out' output output' f → OfBytes Did Stops IsHoldPath (Err f)
   refused_bytes h read faults.Memory kept = record { ok = tt; err = tt; names = tt }
   refused_bytes h read (faults.Write named) (partial, is, stops) =
       unwritten_bytes Did Stops IsHoldPath (raw_bytes partial.frame) (picture_text partial.tiles.items) out out' output output' tt tt
-      (λ named at. (h, partial, held_file file file' h read, is, at)) named stops
+      (λ named at. (h, partial, held_file Profile file file' h read, is, at)) named stops
   refused_bytes h read fault stops = absurd stops
 
   pub picture_of_bytes : (r : Result Bool CliFault) → ReportsPicture r file file' out out' output output' → OfBytes Did Stops IsHoldPath r
@@ -55,7 +56,7 @@ module _ (file file' : ReadLog) (out out' output output' : WriteLog) where
     ok = record {
       held = h;
       partial = wrote.partial;
-      file = held_file file file' h read;
+      file = held_file Profile file file' h read;
       picture = wrote.picture;
       samples = wrote.samples.bytes';
       printed = wrote.printed.bytes';
@@ -64,5 +65,5 @@ module _ (file file' : ReadLog) (out out' output output' : WriteLog) where
     err = tt;
     names = tt;
   }
-  picture_of_bytes (Err f) (inl (stops, kept)) = unread_bytes Did Stops IsHoldPath file file' f (omega arith) refl tt (λ fault shown. shown) stops
+  picture_of_bytes (Err f) (inl (stops, kept)) = unread_bytes Did Stops IsHoldPath Profile file file' f (omega arith) refl tt (λ fault shown. shown) stops
   picture_of_bytes (Err f) (inr (h, read, refuses)) = refused_bytes h read f refuses

@@ -5,10 +5,12 @@ use Rattle.ffv1_range.specs.Setup.{SetupValue, IsSetupOf, RecordingValue, IsReco
 use Rattle.ffv1_range.specs.SetupFaults.{FirstSetupFault, FirstRecordingFault}
 use Rattle.ffv1_range.specs.declared.fault.SetupFault.{SetupFault}
 use Rattle.ffv1_range.specs.declared.fault.SetupFault.TheVariants as setup
+use Rattle.ffv1_holding.specs.Reels.{FirstRecordFault}
+use Rattle.ffv1_holding.specs.declared.recordings.Recordings.{Recordings}
 use Rattle.ffv1_devices.specs.Logs.{ReadLog}
 use Rattle.ffv1_commands.specs.Devices.{TakesWhole, FileStops, UnlessWriting, IfOfRecord}
 use Rattle.ffv1_commands.specs.Fault.{of_setup}
-use Rattle.ffv1_commands.specs.RecordInputs.{TakesSetup, TakesRecording, StopsAtRecord, RecordStops, RecordingStops}
+use Rattle.ffv1_commands.specs.RecordInputs.{TakesSetup, TakesRecording, StopsAtRecord, RecordStops, RecordingStops, ReelStops}
 use Rattle.ffv1_commands.specs.declared.fault.CliFault.{CliFault}
 use Rattle.ffv1_commands.specs.declared.fault.CliFault.TheVariants as faults
 use Rattle.ffv1_commands.specs.declared.path.CommandPath.TheVariants as paths
@@ -29,6 +31,13 @@ pub RecordStops-says : (P : CliFault → Type 0) (width height : ℕ) (a b : Rea
     → RecordStops width height a b fault → P fault
 RecordStops-says P width height a b fault read memory first stops =
     StopsAtRecord-says P (λ config setup. FirstSetupFault config width height setup) a b fault read memory first stops
+
+pub ReelStops-says : (recordings : Recordings) (P : CliFault → Type 0) (width height : ℕ) (a b : ReadLog) (fault : CliFault) → P (faults.Read paths.Record)
+    → P faults.Memory
+    → ((setup : SetupFault) (config : List ℕ) → TakesWhole a b config → FirstRecordFault recordings config width height setup → P (faults.Setup setup))
+    → ReelStops recordings width height a b fault → P fault
+ReelStops-says recordings P width height a b fault read memory first stops =
+    StopsAtRecord-says P (λ config setup. FirstRecordFault recordings config width height setup) a b fault read memory first stops
 
 pub RecordingStops-says : (P : CliFault → Type 0) (width height : ℕ) (a b : ReadLog) (fault : CliFault) → P (faults.Read paths.Record) → P faults.Memory
     → ((setup : SetupFault) (config : List ℕ) → TakesWhole a b config → FirstRecordingFault config width height setup → P (faults.Setup setup))
@@ -53,6 +62,30 @@ refused_by : (First : List ℕ → SetupFault → Type 0) (a b : ReadLog) (confi
 refused_by First a b config bytes same took fault first =
     setups_first (StopsAtRecord First a b) (First config fault) fault (config, took.read, took.few)
     (λ met. (config, took, met)) (subst (λ (read : List ℕ). (fault ≡ setup.Memory) ⊎ First read fault) same first)
+
+module _ (recordings : Recordings) (width height : ℕ) (a b : ReadLog) where
+  -- the record was not read
+  pub reel_unread : (fault : CliFault) → FileStops paths.Record fault a b → ReelStops recordings width height a b fault
+  reel_unread = file_says (ReelStops recordings width height a b) paths.Record a b (λ unread. (refl, unread)) (λ within. within)
+
+  -- it was, and gives no reel
+  pub reel_refused : (config bytes : List ℕ) → bytes ≡ config → TakesWhole a b config → (fault : SetupFault)
+      → (fault ≡ setup.Memory) ⊎ FirstRecordFault recordings bytes width height fault → ReelStops recordings width height a b (of_setup fault)
+  reel_refused config bytes same took fault first =
+      refused_by (λ read met. FirstRecordFault recordings read width height met) a b config bytes same took fault first
+
+  -- it comes before anything is written
+  reel_unwritten : (fault : CliFault) → ReelStops recordings width height a b fault → IsUnwritten fault
+  reel_unwritten fault stops = ReelStops-says recordings IsUnwritten width height a b fault tt tt (λ setup config took first. tt) stops
+
+  pub reel_both : {O W : Type 0} (out : O) (output : W) (fault : CliFault) → ReelStops recordings width height a b fault
+      → UnlessWriting fault ((out ≡ out) × (output ≡ output))
+  reel_both out output fault stops = untouched_both out output fault (reel_unwritten fault stops)
+
+  -- and before any other input is read
+  pub reel_in_turn : (P : Type 0) → P → (fault : CliFault) → ReelStops recordings width height a b fault → IfOfRecord fault P
+  reel_in_turn P here fault stops =
+      ReelStops-says recordings (λ f. IfOfRecord f P) width height a b fault (λ is. here) tt (λ setup config took first. here) stops
 
 module _ (width height : ℕ) (a b : ReadLog) where
   -- the record was not read

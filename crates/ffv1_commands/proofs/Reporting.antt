@@ -1,6 +1,7 @@
 -- What holds of the bytes of a file, by how it was read.
 use Rattle.std.proofs.Common.{◌<◌, ℕ, List, length, Option, None, Some, IfSome, refl, ap, arith, length-append}
 use Rattle.std.specs.Io.KnownBytes.{Consumes}
+use Rattle.ffv1_holding.specs.declared.recordings.Recordings.{Recordings}
 use Rattle.ffv1_devices.specs.Logs.{ReadLog}
 use Rattle.ffv1_hold.specs.Reading.{Refuses}
 use Rattle.ffv1_hold.specs.FileFaults.{IsPartOfFile, FileIsWhole, FileShows, IsOutside, IsFaultOf}
@@ -24,16 +25,16 @@ whole_of a b bytes took = record { taken = took.read.bytes'; end = took.end; few
 
 -- ---- holding files
 
-shows : (input left : Option (List ℕ)) (f : HoldFileFault) → (¬ IsOutside f) → Refuses IsPartOfFile FileIsWhole FileShows input left 0 f
-    → IfSome input (λ bytes. IsFaultOf bytes f)
-shows None left f inside refuses = tt
-shows (Some bytes) left f inside refuses = (inside, (left, refuses))
+shows : (recordings : Recordings) (input left : Option (List ℕ)) (f : HoldFileFault) → (¬ IsOutside f) → Refuses (IsPartOfFile recordings) (FileIsWhole recordings) (FileShows recordings) input left 0 f
+    → IfSome input (λ bytes. IsFaultOf recordings bytes f)
+shows recordings None left f inside refuses = tt
+shows recordings (Some bytes) left f inside refuses = (inside, (left, refuses))
 
 -- why a holding file was not read, as a fault of the command
-pub hold_refused : (path : CommandPath) (input left : Option (List ℕ)) (f : HoldFileFault) → Refuses IsPartOfFile FileIsWhole FileShows input left 0 f
-    → IsHoldingFault path input (of_hold_file path f)
-hold_refused path input left files.Read refuses = refl
-hold_refused path input left files.Memory refuses = tt
-hold_refused path input left files.Write refuses = absurd refuses
-hold_refused path input left files.OtherReel refuses = absurd refuses
-hold_refused path input left fault refuses = shows input left fault (λ out. out) refuses
+pub hold_refused : (recordings : Recordings) (path : CommandPath) (input left : Option (List ℕ)) (f : HoldFileFault) → Refuses (IsPartOfFile recordings) (FileIsWhole recordings) (FileShows recordings) input left 0 f
+    → IsHoldingFault recordings path input (of_hold_file path f)
+hold_refused recordings path input left files.Read refuses = refl
+hold_refused recordings path input left files.Memory refuses = tt
+hold_refused recordings path input left files.Write refuses = absurd refuses
+hold_refused recordings path input left files.OtherReel refuses = absurd refuses
+hold_refused recordings path input left fault refuses = shows _ input left fault (λ out. out) refuses

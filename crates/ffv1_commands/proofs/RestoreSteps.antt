@@ -1,5 +1,6 @@
 -- What restoring a holding file does to the outputs.
 use Rattle.std.proofs.Common.{◌≡◌, ℕ, List, length, Result, Ok, Err, inl, inr, refl, ap, ◌∙◌, subst, arith}
+use Rattle.ffv1_holding.specs.declared.recordings.Recordings.{Recordings}
 use Rattle.ffv1_devices.specs.Logs.{ReadLog, WriteLog, Writes}
 use Rattle.ffv1_holding.specs.Contents.{Contents}
 use Rattle.ffv1_hold.specs.FileFaults.{ReadsHolding}
@@ -30,14 +31,14 @@ refused_at h out output (refusals.Missing tile) refused = (refused, (refl, refl)
 refused_at h out output (refusals.Disputed tile) refused = (refused, (refl, refl))
 refused_at h out output refusals.Memory refused = (refused, (refl, refl))
 
-module _ (file file' : ReadLog) (out out' output output' : WriteLog) (h : Contents) (payload line : List ℕ) (read : ReadsHolding file file' h)
+module _ (recordings : Recordings) (file file' : ReadLog) (out out' output output' : WriteLog) (h : Contents) (payload line : List ℕ) (read : ReadsHolding recordings file file' h)
     (settled : AreSettled h) (is : payload ≡ restored_payload h) (reported : line ≡ restored_line (length payload)) where
   line_is : line ≡ restored_line (length (restored_payload h))
   line_is = reported ∙ ap (λ p. restored_line (length p)) is
 
   -- the payload and the line were written, or not whole
   pub restored : {T : Type 0} (r : Result T CliFault) → WritesBoth r payload line out out' output output'
-      → ReportsRestore r file file' out out' output output'
+      → ReportsRestore recordings r file file' out out' output output'
   restored (Ok x) (wrote, printed) =
       (h, read, settled, subst (Writes out out') is wrote, subst (Writes output output') line_is printed)
   restored (Err f) stops = inr (
@@ -50,29 +51,29 @@ module _ (file file' : ReadLog) (out out' output output' : WriteLog) (h : Conten
 
 -- ---- the same of bytes
 
-module _ (file file' : ReadLog) (out out' output output' : WriteLog) where
+module _ (recordings : Recordings) (file file' : ReadLog) (out out' output output' : WriteLog) where
   abbrev Stops : CliFault → Type 0
-  Stops fault = RestoreStops file.remaining out.contents out'.contents output.contents output'.contents fault
+  Stops fault = RestoreStops recordings file.remaining out.contents out'.contents output.contents output'.contents fault
 
   module _ {T : Type 0} where
     abbrev Did : T → Type 0
-    Did x = RestoresFile file.remaining out.contents out'.contents output.contents output'.contents
+    Did x = RestoresFile recordings file.remaining out.contents out'.contents output.contents output'.contents
 
-    refused_bytes : (h : Contents) → ReadsHolding file file' h → (f : CliFault) → RestoreRefuses h out out' output output' f → OfBytes Did Stops IsHoldPath (Err f)
-    refused_bytes h read (faults.Missing tile) (refused, kept) = record { ok = tt; err = (h, held_file file file' h read, refused); names = tt }
-    refused_bytes h read (faults.Disputed tile) (refused, kept) = record { ok = tt; err = (h, held_file file file' h read, refused); names = tt }
+    refused_bytes : (h : Contents) → ReadsHolding recordings file file' h → (f : CliFault) → RestoreRefuses h out out' output output' f → OfBytes Did Stops IsHoldPath (Err f)
+    refused_bytes h read (faults.Missing tile) (refused, kept) = record { ok = tt; err = (h, held_file _ file file' h read, refused); names = tt }
+    refused_bytes h read (faults.Disputed tile) (refused, kept) = record { ok = tt; err = (h, held_file _ file file' h read, refused); names = tt }
     refused_bytes h read faults.Memory (settled, kept) = record { ok = tt; err = tt; names = tt }
     refused_bytes h read (faults.Write named) (settled, stops) =
         let payload = restored_payload h in
         unwritten_bytes Did Stops IsHoldPath payload (restored_line (length payload)) out out' output output' tt tt
-        (λ named at. (h, held_file file file' h read, settled, at)) named stops
+        (λ named at. (h, held_file _ file file' h read, settled, at)) named stops
     refused_bytes h read fault stops = absurd stops
 
-    pub restore_of_bytes : (r : Result T CliFault) → ReportsRestore r file file' out out' output output' → OfBytes Did Stops IsHoldPath r
+    pub restore_of_bytes : (r : Result T CliFault) → ReportsRestore recordings r file file' out out' output output' → OfBytes Did Stops IsHoldPath r
     restore_of_bytes (Ok x) (h, read, settled, wrote, printed) = record {
-      ok = record { held = h; file = held_file file file' h read; settled = settled; payload = wrote.bytes'; printed = printed.bytes' };
+      ok = record { held = h; file = held_file _ file file' h read; settled = settled; payload = wrote.bytes'; printed = printed.bytes' };
       err = tt;
       names = tt;
     }
-    restore_of_bytes (Err f) (inl (stops, kept)) = unread_bytes Did Stops IsHoldPath file file' f (omega arith) refl tt (λ fault shown. shown) stops
+    restore_of_bytes (Err f) (inl (stops, kept)) = unread_bytes Did Stops IsHoldPath recordings file file' f (omega arith) refl tt (λ fault shown. shown) stops
     restore_of_bytes (Err f) (inr (h, read, refuses)) = refused_bytes h read f refuses

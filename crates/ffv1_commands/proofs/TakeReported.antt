@@ -3,10 +3,10 @@ use Rattle.std.proofs.Common.{◌≡◌, ℕ, ◌+◌, ◌<◌, List, length, ma
 use Rattle.std.specs.Io.KnownBytes.{Appends}
 use Rattle.std.proofs.lemmas.List.{length-map}
 use Rattle.ffv1_bits.specs.Limits.{payload_limit}
+use Rattle.ffv1_holding.specs.declared.recordings.Recordings.{Recordings}
 use Rattle.ffv1_devices.specs.Logs.{ReadLog, WriteLog, Reads}
 use Rattle.ffv1_holding.specs.Reels.{Reel}
 use Rattle.ffv1_holding.specs.Contents.{Contents, holding_of}
-use Rattle.ffv1_holding.specs.declared.recordings.Recordings.TheVariants.{Profile}
 use Rattle.ffv1_hold.specs.Headline.{IsReelOf}
 use Rattle.ffv1_hold.specs.HoldingText.{holding_text}
 use Rattle.ffv1_holding.specs.TakeFaults.{IsTakeFault}
@@ -14,7 +14,7 @@ use Rattle.ffv1_holding.specs.declared.fault.HoldFault.{HoldFault}
 use Rattle.ffv1_holding.specs.declared.fault.HoldFault.TheVariants as holds
 use Rattle.ffv1_commands.specs.Devices.{IsCopyFault, IfOfRecord, WriteStops, TakesWhole, CopyStops}
 use Rattle.ffv1_commands.specs.InTurn.{StopsAtCopy, IfCopyUnread}
-use Rattle.ffv1_commands.specs.RecordInputs.{IsReelInput, TakesReel, RecordStops}
+use Rattle.ffv1_commands.specs.RecordInputs.{IsReelInput, TakesReel, ReelStops}
 use Rattle.ffv1_commands.specs.Fault.{NamesPath, of_hold}
 use Rattle.ffv1_commands.specs.Paths.{IsTakePath}
 use Rattle.ffv1_commands.specs.Holdings.{HasFile, IsFileFault}
@@ -26,7 +26,7 @@ use Rattle.ffv1_commands.specs.declared.path.CommandPath.{CommandPath}
 use Rattle.ffv1_commands.specs.declared.path.CommandPath.TheVariants as paths
 use Rattle.ffv1_commands.proofs.InputFaults.{IsUnwritten}
 use Rattle.ffv1_commands.proofs.InputLaws.{whole_input, taken_whole}
-use Rattle.ffv1_commands.proofs.RecordFaults.{RecordStops-says, record_in_turn}
+use Rattle.ffv1_commands.proofs.RecordFaults.{ReelStops-says, reel_in_turn}
 use Rattle.ffv1_commands.proofs.Reporting.{whole_of, Consumes-longer}
 use Rattle.ffv1_commands.proofs.MadeFiles.{made_says, made_bytes}
 
@@ -73,11 +73,11 @@ copy_untaken before a b copy took holds.OtherReel none = absurd none
 -- ---- over the logs of the devices
 
 -- the record is that of its reel
-pub reel_read : (a b : ReadLog) (config : List ℕ) (width height : ℕ) (reel : Reel) → TakesWhole a b config → IsReelOf Profile config width height reel
-    → TakesReel width height a b reel
-reel_read a b config width height reel took is =
+pub reel_read : (recordings : Recordings) (a b : ReadLog) (config : List ℕ) (width height : ℕ) (reel : Reel) → TakesWhole a b config → IsReelOf recordings config width height reel
+    → TakesReel recordings width height a b reel
+reel_read recordings a b config width height reel took is =
     let same : config ≡ reel.config = sym (ap (λ (r : Reel). r.config) is.2) in
-    record { read = subst (TakesWhole a b) same took; of_record = subst (λ (c : List ℕ). IsReelOf Profile c width height reel) same is }
+    record { read = subst (TakesWhole a b) same took; of_record = subst (λ (c : List ℕ). IsReelOf recordings c width height reel) same is }
 
 -- at a fault of the copies nothing was written
 pub copies-unwritten : {C : Type 0} (reports : C → Option (List ℕ)) (old new : List C) (fault : CliFault) → StopsAtCopy CopyStops reports old new fault
@@ -86,23 +86,23 @@ copies-unwritten reports old new fault stops =
     CopyStops-says IsUnwritten (paths.Copy stops.index) fault _ stops.stopped.0 tt (λ bytes took more. tt) tt stops.stopped.1
 
 -- the file and the lines were written once all was taken, or were not
-pub made_reported : {T C : Type 0} (reports : C → Option (List ℕ)) (width height : ℕ) (a b : ReadLog) (old new : List C) (out out' output output' : WriteLog)
-    (held : Contents) (text : List ℕ) → TakesAll width height (map reports old) a b held text → (r : Result T CliFault)
-    → WritesMade r held text out out' output output' → ReportsTake r reports width height a b old new out out' output output'
-made_reported reports width height a b old new out out' output output' held text all (Ok x) made = (held, text, all, made)
-made_reported reports width height a b old new out out' output output' held text all (Err fault) breaks = inr (inr (held, text, all, breaks))
+pub made_reported : {T C : Type 0} (recordings : Recordings) (reports : C → Option (List ℕ)) (width height : ℕ) (a b : ReadLog) (old new : List C) (out out' output output' : WriteLog)
+    (held : Contents) (text : List ℕ) → TakesAll recordings width height (map reports old) a b held text → (r : Result T CliFault)
+    → WritesMade r held text out out' output output' → ReportsTake recordings r reports width height a b old new out out' output output'
+made_reported recordings reports width height a b old new out out' output output' held text all (Ok x) made = (held, text, all, made)
+made_reported recordings reports width height a b old new out out' output output' held text all (Err fault) breaks = inr (inr (held, text, all, breaks))
 
 -- no fault of the record says that a copy was not read
-pub record_read : (Went : ReadLog → ReadLog → Type 0) (old new : List ReadLog) (width height : ℕ) (a b : ReadLog) (fault : CliFault)
-    → RecordStops width height a b fault → IfCopyUnread Went old new fault
-record_read Went old new width height a b fault stops =
-    RecordStops-says (IfCopyUnread Went old new) width height a b fault tt tt (λ setup config took first. tt) stops
+pub record_read : (recordings : Recordings) (Went : ReadLog → ReadLog → Type 0) (old new : List ReadLog) (width height : ℕ) (a b : ReadLog) (fault : CliFault)
+    → ReelStops recordings width height a b fault → IfCopyUnread Went old new fault
+record_read recordings Went old new width height a b fault stops =
+    ReelStops-says recordings (IfCopyUnread Went old new) width height a b fault tt tt (λ setup config took first. tt) stops
 
 -- ---- the same of bytes
 
-module _ (record' : Option (List ℕ)) (width height : ℕ) (inputs : List (Option (List ℕ))) (ob oa pb pa : Option (List ℕ)) (reel : Reel)
-    (of_record : IsReelInput record' width height reel) where
-  copies_refused : (fault : CliFault) → IsFaultOfInputs inputs fault → TakeStops record' width height inputs ob oa pb pa fault
+module _ (recordings : Recordings) (record' : Option (List ℕ)) (width height : ℕ) (inputs : List (Option (List ℕ))) (ob oa pb pa : Option (List ℕ)) (reel : Reel)
+    (of_record : IsReelInput recordings record' width height reel) where
+  copies_refused : (fault : CliFault) → IsFaultOfInputs inputs fault → TakeStops recordings record' width height inputs ob oa pb pa fault
   copies_refused (faults.Read path) stops = inr (reel, of_record, stops)
   copies_refused (faults.Hold fault) stops = (reel, of_record, stops)
   copies_refused faults.Memory stops = tt
@@ -112,7 +112,7 @@ module _ (record' : Option (List ℕ)) (width height : ℕ) (inputs : List (Opti
     text : holding_text held ≡ holding_text (holding_of reel each.copies)
     text = ap holding_text each.held
 
-    made_refused : (fault : CliFault) → MadeStops held lines ob oa pb pa fault → TakeStops record' width height inputs ob oa pb pa fault
+    made_refused : (fault : CliFault) → MadeStops held lines ob oa pb pa fault → TakeStops recordings record' width height inputs ob oa pb pa fault
     made_refused (faults.HoldFile fault) stops = (
       reel,
       each.copies,
@@ -146,25 +146,25 @@ later_kept reports old new (faults.Read path) (i, (lt, before, same), later) =
 later_kept reports old new (faults.Hold fault) stops = stops
 later_kept reports old new fault stops = tt
 
-pub record TakeOfBytes {T C : Type 0} (r : Result T CliFault) (reports : C → Option (List ℕ)) (record' : Option (List ℕ)) (width height : ℕ) (old new : List C)
+pub record TakeOfBytes {T C : Type 0} (recordings : Recordings) (r : Result T CliFault) (reports : C → Option (List ℕ)) (record' : Option (List ℕ)) (width height : ℕ) (old new : List C)
     (ob oa pb pa : Option (List ℕ)) : Type 0 where
-  pub ok : OnOk r (TakesCopies record' width height (map reports old) ob oa pb pa)
-  pub err : IfErr r (TakeStops record' width height (map reports old) ob oa pb pa)
+  pub ok : OnOk r (TakesCopies recordings record' width height (map reports old) ob oa pb pa)
+  pub err : IfErr r (TakeStops recordings record' width height (map reports old) ob oa pb pa)
   pub in_turn : IfErr r (λ fault. IfOfRecord fault (new ≡ old))
   pub later : IfErr r (LaterKept reports old new)
   pub names : IfErr r (NamesPath (IsTakePath (length old)))
 
-module _ {C : Type 0} (reports : C → Option (List ℕ)) (width height : ℕ) (a b : ReadLog) (old new : List C) (out out' output output' : WriteLog) where
-  reel_input : (reel : Reel) → TakesReel width height a b reel → IsReelInput a.remaining width height reel
+module _ {C : Type 0} (recordings : Recordings) (reports : C → Option (List ℕ)) (width height : ℕ) (a b : ReadLog) (old new : List C) (out out' output output' : WriteLog) where
+  reel_input : (reel : Reel) → TakesReel recordings width height a b reel → IsReelInput recordings a.remaining width height reel
   reel_input reel read = record {
     read = whole_input a.remaining b.remaining reel.config (whole_of a b reel.config read.read);
     of_record = read.of_record;
   }
 
   abbrev of_bytes : {T : Type 0} → Result T CliFault → Type 0
-  of_bytes r = TakeOfBytes r reports a.remaining width height old new out.contents out'.contents output.contents output'.contents
+  of_bytes r = TakeOfBytes recordings r reports a.remaining width height old new out.contents out'.contents output.contents output'.contents
 
-  pub take_of_bytes : {T : Type 0} (r : Result T CliFault) → ReportsTake r reports width height a b old new out out' output output' → of_bytes r
+  pub take_of_bytes : {T : Type 0} (r : Result T CliFault) → ReportsTake recordings r reports width height a b old new out out' output output' → of_bytes r
   take_of_bytes (Ok x) (held, lines, all, made) = record {
     ok = record {
       reel = all.reel;
@@ -182,18 +182,18 @@ module _ {C : Type 0} (reports : C → Option (List ℕ)) (width height : ℕ) (
   }
   take_of_bytes (Err fault) (inl (refuses, same, kept)) = record {
     ok = tt;
-    err = RecordStops-says (TakeStops a.remaining width height (map reports old) out.contents out'.contents output.contents output'.contents)
+    err = ReelStops-says recordings (TakeStops recordings a.remaining width height (map reports old) out.contents out'.contents output.contents output'.contents)
         width height a b fault (inl refl) tt
         (λ setup config took first. (config, whole_input a.remaining b.remaining config (whole_of a b config took), first)) refuses;
-    in_turn = record_in_turn width height a b (new ≡ old) same fault refuses;
-    later = RecordStops-says (LaterKept reports old new) width height a b fault tt tt (λ setup config took first. tt) refuses;
-    names = RecordStops-says (NamesPath (IsTakePath (length old))) width height a b fault tt tt (λ setup config took first. tt) refuses;
+    in_turn = reel_in_turn recordings width height a b (new ≡ old) same fault refuses;
+    later = ReelStops-says recordings (LaterKept reports old new) width height a b fault tt tt (λ setup config took first. tt) refuses;
+    names = ReelStops-says recordings (NamesPath (IsTakePath (length old))) width height a b fault tt tt (λ setup config took first. tt) refuses;
   }
   take_of_bytes (Err fault) (inr (inl (reel, read, stops, kept))) =
       let (i, at, later) = copy_refused reports old new fault stops in
       record {
         ok = tt;
-        err = copies_refused a.remaining width height (map reports old) out.contents out'.contents output.contents output'.contents reel
+        err = copies_refused _ a.remaining width height (map reports old) out.contents out'.contents output.contents output'.contents reel
             (reel_input reel read) fault (i, at);
         in_turn = IsFaultOfInputs-in_turn (new ≡ old) (map reports old) fault (i, at);
         later = later_kept reports old new fault (i, at, later);

@@ -9,6 +9,7 @@ use Rattle.ffv1_slice.specs.Slices.{IsOriginal}
 use Rattle.ffv1_holding.specs.Reels.{Reel}
 use Rattle.ffv1_holding.specs.Contents.{Contents, holding_of, HasSameCopies}
 use Rattle.ffv1_holding.specs.declared.recordings.Recordings.TheVariants.{Profile}
+use Rattle.ffv1_holding.specs.declared.recordings.Recordings.{Recordings}
 use Rattle.ffv1_hold.specs.Headline.{IsReelOf}
 use Rattle.ffv1_holding.specs.Originals.{AreCopiesOfSlices, AreNear}
 use Rattle.ffv1_picture.specs.Headline.{AreEqualInAll, ShowsSlices}
@@ -26,19 +27,19 @@ use Rattle.ffv1_commands.specs.declared.fault.CliFault.TheVariants as faults
 
 -- The file is what commands make of the copies, for one record and size: `take` made it of the copies themselves, or `join` or `merge` of
 -- files that are each made of a part of them. The bytes of the readers are known, and those that are written, into a file that was empty.
-pub data IsMadeOf (config : List ℕ) (width height : ℕ) : List (List ℕ) → List ℕ → Type 0 where
+pub data IsMadeOf (recordings : Recordings) (config : List ℕ) (width height : ℕ) : List (List ℕ) → List ℕ → Type 0 where
   by_take : (copies : List (List ℕ)) (file : List ℕ) (printed_before printed_after : Option (List ℕ))
-      → TakesCopies (Some config) width height (map Some copies) (Some []) (Some file) printed_before printed_after
-      → IsMadeOf config width height copies file
+      → TakesCopies recordings (Some config) width height (map Some copies) (Some []) (Some file) printed_before printed_after
+      → IsMadeOf recordings config width height copies file
   by_join : (parts : List (List (List ℕ))) (files : List (List ℕ)) (file : List ℕ) (printed_before printed_after : Option (List ℕ))
       → length parts ≡ length files
-      → ((i : ℕ) → i < length files → IsMadeOf config width height (slice_index_or parts i []) (slice_index_or files i []))
-      → JoinsFiles (map Some files) (Some []) (Some file) printed_before printed_after
-      → IsMadeOf config width height (flat_map (λ part. part) parts) file
+      → ((i : ℕ) → i < length files → IsMadeOf recordings config width height (slice_index_or parts i []) (slice_index_or files i []))
+      → JoinsFiles recordings (map Some files) (Some []) (Some file) printed_before printed_after
+      → IsMadeOf recordings config width height (flat_map (λ part. part) parts) file
   by_merge : (lefts rights : List (List ℕ)) (left right file : List ℕ)
-      → IsMadeOf config width height lefts left → IsMadeOf config width height rights right
-      → MergesFiles (Some left) (Some right) (Some []) (Some file)
-      → IsMadeOf config width height (lefts ++ rights) file
+      → IsMadeOf recordings config width height lefts left → IsMadeOf recordings config width height rights right
+      → MergesFiles recordings (Some left) (Some right) (Some []) (Some file)
+      → IsMadeOf recordings config width height (lefts ++ rights) file
 
 -- the fault is of no input's bytes: an input was not read, an output was not written, or memory ran out
 abbrev pub IsNoFaultOfBytes : CliFault → Type 0
@@ -49,11 +50,11 @@ IsNoFaultOfBytes _ = ⊥
 
 -- What is restored of a file is these bytes: where `restore` returns Ok, it wrote them and nothing else, and where it is refused, an input
 -- was not read, an output not written, or memory ran out.
-pub record RestoresOnly (file original : List ℕ) : Type 0 where
+pub record RestoresOnly (recordings : Recordings) (file original : List ℕ) : Type 0 where
   pub written : (out_before out_after printed_before printed_after : Option (List ℕ))
-      → RestoresFile (Some file) out_before out_after printed_before printed_after → Appends out_before out_after original
+      → RestoresFile recordings (Some file) out_before out_after printed_before printed_after → Appends out_before out_after original
   pub refused : (out_before out_after printed_before printed_after : Option (List ℕ)) (fault : CliFault)
-      → RestoreStops (Some file) out_before out_after printed_before printed_after fault → IsNoFaultOfBytes fault
+      → RestoreStops recordings (Some file) out_before out_after printed_before printed_after fault → IsNoFaultOfBytes fault
 
 -- What is shown of a file is what the slices spell: where `picture` returns Ok, it wrote the samples of a frame, each of which is the one
 -- that the greatest decoded tile covering it spells, by these slices of the tiles; where it is refused, an input was not
@@ -71,46 +72,63 @@ pub record ShowsOnly (setup : SetupValue) (file : List ℕ) (slices : List (List
 -- there.
 abbrev pub MadeOfCopies : Type 0
 MadeOfCopies =
-    (config : List ℕ) (width height : ℕ) (copies : List (List ℕ)) (file : List ℕ)
-    → IsMadeOf config width height copies file
-    → (reel : Reel) × IsReelOf Profile config width height reel × IsHoldingFile (Some file) (holding_of reel copies)
+    (recordings : Recordings) (config : List ℕ) (width height : ℕ) (copies : List (List ℕ)) (file : List ℕ)
+    → IsMadeOf recordings config width height copies file
+    → (reel : Reel) × IsReelOf recordings config width height reel × IsHoldingFile recordings (Some file) (holding_of reel copies)
 
--- However the same copies are ordered, grouped or repeated, the files made of them are equal byte for byte, ..
+-- However the same copies are ordered, grouped or repeated, and whether any recording is taken or only those of the profile, the files made
+-- of them are equal byte for byte, ..
 abbrev pub SameCopiesMakeOneFile : Type 0
 SameCopiesMakeOneFile =
-    (config : List ℕ) (width height : ℕ) (copies others : List (List ℕ)) (file other : List ℕ)
-    → IsMadeOf config width height copies file → IsMadeOf config width height others other → HasSameCopies copies others
+    (recordings also : Recordings) (config : List ℕ) (width height : ℕ) (copies others : List (List ℕ)) (file other : List ℕ)
+    → IsMadeOf recordings config width height copies file → IsMadeOf also config width height others other → HasSameCopies copies others
     → file ≡ other
 
 -- .. what is read of them is equal in every tile and origin, ..
 abbrev pub SameCopiesMakeOneHolding : Type 0
 SameCopiesMakeOneHolding =
-    (config : List ℕ) (width height : ℕ) (copies others : List (List ℕ)) (file other : List ℕ) (h g : Contents)
-    → IsMadeOf config width height copies file → IsMadeOf config width height others other → HasSameCopies copies others
-    → IsHoldingFile (Some file) h → IsHoldingFile (Some other) g
+    (recordings also : Recordings) (config : List ℕ) (width height : ℕ) (copies others : List (List ℕ)) (file other : List ℕ) (h g : Contents)
+    → IsMadeOf recordings config width height copies file → IsMadeOf also config width height others other → HasSameCopies copies others
+    → IsHoldingFile recordings (Some file) h → IsHoldingFile also (Some other) g
     → AreEqualInAll h g
 
 -- .. and so are their reports.
 abbrev pub SameCopiesMakeOneReport : Type 0
 SameCopiesMakeOneReport =
-    (config : List ℕ) (width height : ℕ) (copies others : List (List ℕ)) (file other report other_report : List ℕ)
-    → IsMadeOf config width height copies file → IsMadeOf config width height others other → HasSameCopies copies others
-    → ReportsFile (Some file) (Some []) (Some report) → ReportsFile (Some other) (Some []) (Some other_report)
+    (recordings also : Recordings) (config : List ℕ) (width height : ℕ) (copies others : List (List ℕ)) (file other report other_report : List ℕ)
+    → IsMadeOf recordings config width height copies file → IsMadeOf also config width height others other → HasSameCopies copies others
+    → ReportsFile recordings (Some file) (Some []) (Some report) → ReportsFile also (Some other) (Some []) (Some other_report)
     → report ≡ other_report
 
 -- Where every slice found in the copies is the original's for its tile, and each tile's is found in some copy, what is restored of a
--- file made of them is the original byte for byte, and each sample shown is the one that the greatest decoded tile covering it spells.
+-- file made of them is the original byte for byte.
 abbrev pub CommandsRestoreTheOriginal : Type 0
 CommandsRestoreTheOriginal =
-    (config : List ℕ) (width height : ℕ) (setup : SetupValue) (copies : List (List ℕ)) (file original : List ℕ) (slices : List (List ℕ))
-    → IsSetupOf config width height setup → IsMadeOf config width height copies file
-    → IsOriginal (profile_rules setup) original slices → AreCopiesOfSlices (profile_rules setup) slices copies
-    → RestoresOnly file original × ShowsOnly setup file slices
+    (recordings : Recordings) (config : List ℕ) (width height : ℕ) (reel : Reel) (copies : List (List ℕ)) (file original : List ℕ) (slices : List (List ℕ))
+    → IsReelOf recordings config width height reel → IsMadeOf recordings config width height copies file
+    → IsOriginal reel.rules original slices → AreCopiesOfSlices reel.rules slices copies
+    → RestoresOnly recordings file original
 
 -- So it is where each copy is near the original, and each of its slices is intact in one of them.
 abbrev pub CommandsRestoreNearCopies : Type 0
 CommandsRestoreNearCopies =
+    (recordings : Recordings) (config : List ℕ) (width height : ℕ) (reel : Reel) (copies : List (List ℕ)) (file original : List ℕ) (slices : List (List ℕ))
+    → IsReelOf recordings config width height reel → IsMadeOf recordings config width height copies file
+    → AreNear reel.rules original slices copies
+    → RestoresOnly recordings file original
+
+-- Then, of a recording of the profile, each sample shown of the file is the one that the greatest decoded tile covering it spells.
+abbrev pub CommandsShowTheOriginal : Type 0
+CommandsShowTheOriginal =
     (config : List ℕ) (width height : ℕ) (setup : SetupValue) (copies : List (List ℕ)) (file original : List ℕ) (slices : List (List ℕ))
-    → IsSetupOf config width height setup → IsMadeOf config width height copies file
+    → IsSetupOf config width height setup → IsMadeOf Profile config width height copies file
+    → IsOriginal (profile_rules setup) original slices → AreCopiesOfSlices (profile_rules setup) slices copies
+    → ShowsOnly setup file slices
+
+-- So it is of near copies.
+abbrev pub CommandsShowNearCopies : Type 0
+CommandsShowNearCopies =
+    (config : List ℕ) (width height : ℕ) (setup : SetupValue) (copies : List (List ℕ)) (file original : List ℕ) (slices : List (List ℕ))
+    → IsSetupOf config width height setup → IsMadeOf Profile config width height copies file
     → AreNear (profile_rules setup) original slices copies
-    → RestoresOnly file original × ShowsOnly setup file slices
+    → ShowsOnly setup file slices

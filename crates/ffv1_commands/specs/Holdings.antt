@@ -1,11 +1,12 @@
 -- Holding files as a command reads and writes them.
 use Rattle.std.specs.Prelude.{ℕ, ◌≡◌, ◌⊎◌, List, Option, IfSome, Err}
 use Rattle.ffv1_holding.specs.Contents.{Contents, IsHolding}
+use Rattle.ffv1_holding.specs.declared.recordings.Recordings.{Recordings}
 use Rattle.ffv1_hold.specs.HoldingText.{file_text, holding_text, FitsInFile}
 use Rattle.ffv1_hold.specs.declared.version.Version.{Version}
 use Rattle.ffv1_hold.specs.declared.version.Version.TheVariants.{Second}
 use Rattle.ffv1_devices.specs.Logs.{ReadLog, WriteLog, Writes, StopsWriting}
-use Rattle.ffv1_hold.specs.FileFaults.{IsFaultOf, ReadsFile}
+use Rattle.ffv1_hold.specs.FileFaults.{IsTaken, IsFaultOf, ReadsFile}
 use Rattle.ffv1_hold.specs.Saving.{IsTooLong}
 use Rattle.ffv1_hold.specs.declared.file_fault.HoldFileFault.{HoldFileFault}
 use Rattle.ffv1_hold.specs.declared.file_fault.HoldFileFault.TheVariants as files
@@ -16,11 +17,13 @@ use Rattle.ffv1_commands.specs.declared.fault.CliFault.TheVariants as faults
 use Rattle.ffv1_commands.specs.declared.path.CommandPath.{CommandPath}
 use Rattle.ffv1_commands.specs.declared.path.CommandPath.TheVariants as paths
 
--- The whole input is a text of the holding, if its bytes are known: that of version 2, or, where no origins are known, that of version 1.
-pub record IsHoldingFile (input : Option (List ℕ)) (h : Contents) : Type 0 where
+-- The whole input is a text of the holding, which is of these recordings, if its bytes are known: that of version 2, or, where it is of the
+-- profile and no origins are known, that of version 1.
+pub record IsHoldingFile (recordings : Recordings) (input : Option (List ℕ)) (h : Contents) : Type 0 where
   pub version : Version
   pub text : HasBytes input (file_text version h)
   pub well_formed : IsHolding h
+  pub taken : IsTaken recordings h.reel.rules.is_profile
   pub fits : FitsInFile version h
 
 -- A holding that has a file of version 2: it is one, and it and its record are within their limits.
@@ -29,11 +32,11 @@ pub record HasFile (h : Contents) : Type 0 where
   pub fits : FitsInFile Second h
 
 -- Why the file that is this path of the command gave no holding. A holding file's fault is that of the input's bytes.
-abbrev pub IsHoldingFault : CommandPath → Option (List ℕ) → CliFault → Type 0
-IsHoldingFault path input (faults.Read named) = named ≡ path
-IsHoldingFault path input (faults.HoldFile fault) = IfSome input (λ bytes. IsFaultOf bytes fault)
-IsHoldingFault path input faults.Memory = Unit {0}
-IsHoldingFault path input _ = ⊥
+abbrev pub IsHoldingFault : Recordings → CommandPath → Option (List ℕ) → CliFault → Type 0
+IsHoldingFault recordings path input (faults.Read named) = named ≡ path
+IsHoldingFault recordings path input (faults.HoldFile fault) = IfSome input (λ bytes. IsFaultOf recordings bytes fault)
+IsHoldingFault recordings path input faults.Memory = Unit {0}
+IsHoldingFault recordings path input _ = ⊥
 
 -- why a holding has no file
 abbrev pub IsFileFault : Contents → CliFault → Type 0
@@ -41,12 +44,12 @@ IsFileFault h (faults.HoldFile fault) = (fault ≡ files.TooLong) × IsTooLong h
 IsFileFault h _ = ⊥
 
 -- The file that is this path of the command was not read as that of a holding: a fault of reading it is reported as one of the command.
-abbrev pub HoldingStops : CommandPath → CliFault → ReadLog → ReadLog → Type 0
-HoldingStops path fault old new = (f : HoldFileFault) × (fault ≡ of_hold_file path f) × ReadsFile (Err f) old new
+abbrev pub HoldingStops : Recordings → CommandPath → CliFault → ReadLog → ReadLog → Type 0
+HoldingStops recordings path fault old new = (f : HoldFileFault) × (fault ≡ of_hold_file path f) × ReadsFile recordings (Err f) old new
 
 -- A source was given up as a holding file was read.
-abbrev pub IsUnheld : (old new : ReadLog) → Type 0
-IsUnheld old new = ReadsFile (Err files.Read) old new
+abbrev pub IsUnheld : Recordings → (old new : ReadLog) → Type 0
+IsUnheld recordings old new = ReadsFile recordings (Err files.Read) old new
 
 -- How the file of a holding was not written to OUT: it has none, which leaves OUT as it was, or a front of it was written.
 abbrev pub SavingBreaks : Contents → (old new : WriteLog) → CliFault → Type 0

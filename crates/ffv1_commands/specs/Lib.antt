@@ -18,6 +18,7 @@ pub mod RestoreText
 pub mod SamplesText
 pub mod DecodeText
 pub mod PictureText
+pub mod AnyPictureText
 pub mod PlayText
 pub mod ReportedText
 pub mod SpliceText

@@ -2,12 +2,14 @@
 use Rattle.std.specs.Prelude.{ℕ, ◌≡◌, ◌<◌, ◌⊎◌, List, [], length, Option, IfSome, Result, Ok, Err}
 use Rattle.std.specs.Io.KnownBytes.{Appends}
 use Rattle.ffv1_bits.specs.Limits.{file_limit}
+use Rattle.ffv1_holding.specs.declared.recordings.Recordings.{Recordings}
 use Rattle.ffv1_devices.specs.Writing.{WritesFront}
 use Rattle.ffv1_holding.specs.Reels.{Reel}
 use Rattle.ffv1_holding.specs.Contents.{Contents, IsSameReel, joined}
 use Rattle.ffv1_hold.specs.HoldingText.{head_text, begun_text, holding_text}
 use Rattle.ffv1_hold.specs.FileFaults.{IsFileReel, IsFaultOf}
-use Rattle.ffv1_hold.specs.MergedStreams.{Inputs, StreamBegins, BeginsWithPart, MergeRefuses, WritesUnion, WritesNoEnd, WritesFrontSoFar}
+use Rattle.ffv1_hold.specs.MergedStreams.{StreamBegins, BeginsWithPart, MergeRefuses, WritesUnion, WritesNoEnd, WritesFrontSoFar}
+use Rattle.ffv1_hold.specs.JoinedStreams.{inputs_of}
 use Rattle.ffv1_hold.specs.MergeLogs.{Devices, AllGoOn, OneStops}
 use Rattle.ffv1_hold.specs.declared.version.Version.{Version}
 use Rattle.ffv1_hold.specs.declared.version.Version.TheVariants.{Second}
@@ -20,11 +22,11 @@ use Rattle.ffv1_commands.specs.declared.fault.CliFault.TheVariants as faults
 use Rattle.ffv1_commands.specs.declared.path.CommandPath.TheVariants as paths
 
 -- Both inputs are the files of holdings of one reel, and the file of their union was written.
-pub record MergesFiles (left right out_before out_after : Option (List ℕ)) : Type 0 where
+pub record MergesFiles (recordings : Recordings) (left right out_before out_after : Option (List ℕ)) : Type 0 where
   pub one : Contents
   pub other : Contents
-  pub left_file : IsHoldingFile left one
-  pub right_file : IsHoldingFile right other
+  pub left_file : IsHoldingFile recordings left one
+  pub right_file : IsHoldingFile recordings right other
   pub same : IsSameReel one other
   pub has_file : HasFile (joined one other)
   pub written : Appends out_before out_after (holding_text (joined one other))
@@ -39,11 +41,11 @@ pub record BeginsUnion (left right : Option (List ℕ)) (union : Contents) : Typ
   pub is : union ≡ joined one other
 
 -- The inputs, if their bytes are known, begin with heads of two reels.
-pub record HeadsDiffer (left right : Option (List ℕ)) : Type 0 where
+pub record HeadsDiffer (recordings : Recordings) (left right : Option (List ℕ)) : Type 0 where
   pub one : Reel
   pub other : Reel
-  pub one_is : IsFileReel one
-  pub other_is : IsFileReel other
+  pub one_is : IsFileReel recordings one
+  pub other_is : IsFileReel recordings other
   pub left_version : Version
   pub right_version : Version
   pub left_begins : StreamBegins left (head_text left_version one)
@@ -53,21 +55,21 @@ pub record HeadsDiffer (left right : Option (List ℕ)) : Type 0 where
 -- ---- why two files were not merged
 
 -- the fault of one of the inputs
-abbrev pub IsFaultOfEither : Option (List ℕ) → Option (List ℕ) → HoldFileFault → Type 0
-IsFaultOfEither left right fault = IfSome left (λ bytes. IsFaultOf bytes fault) ⊎ IfSome right (λ bytes. IsFaultOf bytes fault)
+abbrev pub IsFaultOfEither : Recordings → Option (List ℕ) → Option (List ℕ) → HoldFileFault → Type 0
+IsFaultOfEither recordings left right fault = IfSome left (λ bytes. IsFaultOf recordings bytes fault) ⊎ IfSome right (λ bytes. IsFaultOf recordings bytes fault)
 
 -- the fault of both together: their heads are of two reels, or the file of what both begin with would pass its limit
-abbrev pub IsFaultOfBoth : Option (List ℕ) → Option (List ℕ) → HoldFileFault → Type 0
-IsFaultOfBoth left right files.OtherReel = HeadsDiffer left right
-IsFaultOfBoth left right files.TooLong = (union : Contents) × BeginsUnion left right union × (file_limit < length (holding_text union))
-IsFaultOfBoth left right _ = ⊥
+abbrev pub IsFaultOfBoth : Recordings → Option (List ℕ) → Option (List ℕ) → HoldFileFault → Type 0
+IsFaultOfBoth recordings left right files.OtherReel = HeadsDiffer recordings left right
+IsFaultOfBoth recordings left right files.TooLong = (union : Contents) × BeginsUnion left right union × (file_limit < length (holding_text union))
+IsFaultOfBoth recordings left right _ = ⊥
 
-abbrev pub IsMergeFault : Option (List ℕ) → Option (List ℕ) → CliFault → Type 0
-IsMergeFault left right (faults.HoldFile fault) = IsFaultOfEither left right fault ⊎ IsFaultOfBoth left right fault
-IsMergeFault left right (faults.Read path) = path ≡ paths.Inputs
-IsMergeFault left right (faults.Write path) = path ≡ paths.Out
-IsMergeFault left right faults.Memory = Unit {0}
-IsMergeFault left right _ = ⊥
+abbrev pub IsMergeFault : Recordings → Option (List ℕ) → Option (List ℕ) → CliFault → Type 0
+IsMergeFault recordings left right (faults.HoldFile fault) = IsFaultOfEither recordings left right fault ⊎ IsFaultOfBoth recordings left right fault
+IsMergeFault recordings left right (faults.Read path) = path ≡ paths.Inputs
+IsMergeFault recordings left right (faults.Write path) = path ≡ paths.Out
+IsMergeFault recordings left right faults.Memory = Unit {0}
+IsMergeFault recordings left right _ = ⊥
 
 -- ---- what a fault left in OUT
 
@@ -102,28 +104,19 @@ ReturnsOtherHeads _ = ⊥
 
 -- ---- over the logs of the devices
 
--- what both inputs have left, before and after
-abbrev pub inputs_of : Devices → Devices → Inputs
-inputs_of old new = record {
-  left_old = old.left.remaining;
-  left_new = new.left.remaining;
-  right_old = old.right.remaining;
-  right_new = new.right.remaining;
-}
-
 -- after a failed write a front of the text of what was read, and after another fault no end tag
-abbrev pub LeavesFront : HoldFileFault → Devices → Devices → Type 0
-LeavesFront files.Write old new = WritesFrontSoFar (inputs_of old new) old.sink.contents new.sink.contents
-LeavesFront _ old new = WritesNoEnd (inputs_of old new) old.sink.contents new.sink.contents
+abbrev pub LeavesFront : Recordings → HoldFileFault → Devices → Devices → Type 0
+LeavesFront recordings files.Write old new = WritesFrontSoFar (inputs_of recordings old new) old.sink.contents new.sink.contents
+LeavesFront recordings _ old new = WritesNoEnd (inputs_of recordings old new) old.sink.contents new.sink.contents
 
 -- Joining both files as streams stopped: what was taken of them shows the fault, and only the device that is the fault was given up.
-pub record MergeStops (f : HoldFileFault) (old new : Devices) : Type 0 where
-  pub shown : MergeRefuses (inputs_of old new) f
-  pub leaves : LeavesFront f old new
+pub record MergeStops (recordings : Recordings) (f : HoldFileFault) (old new : Devices) : Type 0 where
+  pub shown : MergeRefuses (inputs_of recordings old new) f
+  pub leaves : LeavesFront recordings f old new
   pub went : OneStops f old new (0, 0)
 
 -- The file of the union was written; or joining stopped at a fault, which is reported as one of the command.
-abbrev pub ReportsMerge : {T : Type 0} → Result T CliFault → Devices → Devices → Type 0
-ReportsMerge (Ok x) old new =
-    WritesUnion (inputs_of old new) old.sink.contents new.sink.contents × AllGoOn old new (0, 0) (file_limit, file_limit)
-ReportsMerge (Err fault) old new = (f : HoldFileFault) × (fault ≡ of_merge f) × MergeStops f old new
+abbrev pub ReportsMerge : {T : Type 0} → Recordings → Result T CliFault → Devices → Devices → Type 0
+ReportsMerge recordings (Ok x) old new =
+    WritesUnion (inputs_of recordings old new) old.sink.contents new.sink.contents × AllGoOn old new (0, 0) (file_limit, file_limit)
+ReportsMerge recordings (Err fault) old new = (f : HoldFileFault) × (fault ≡ of_merge f) × MergeStops recordings f old new

@@ -3,6 +3,7 @@ use Rattle.std.specs.Prelude.{ℕ, ◌++◌, ◌↔◌, ◌⊎◌, Bool, IsTrue,
 use Rattle.std.specs.List.{flat_map, range_with_len}
 use Rattle.std.specs.Fmt.{decimal}
 use Rattle.std.specs.Io.KnownBytes.{Appends}
+use Rattle.ffv1_holding.specs.declared.recordings.Recordings.TheVariants.{Profile}
 use Rattle.ffv1_devices.specs.Logs.{ReadLog, WriteLog, Writes}
 use Rattle.ffv1_holding.specs.Contents.{Contents}
 use Rattle.ffv1_hold.specs.FileFaults.{ReadsHolding}
@@ -59,7 +60,7 @@ IsDecoded _ = ⊥
 pub record ShowsFile (input out_before out_after printed_before printed_after : Option (List ℕ)) (whole : Bool) : Type 0 where
   pub held : Contents
   pub partial : Partial
-  pub file : IsHoldingFile input held
+  pub file : IsHoldingFile Profile input held
   pub picture : IsPartialPicture held partial
   pub samples : Appends out_before out_after (raw_bytes partial.frame)
   pub printed : Appends printed_before printed_after (picture_text partial.tiles.items)
@@ -68,9 +69,9 @@ pub record ShowsFile (input out_before out_after printed_before printed_after : 
 -- What a fault says, and what it left in the outputs where writing failed: the file's fault, or a front of what is written.
 abbrev pub PictureStops : (input out_before out_after printed_before printed_after : Option (List ℕ)) → CliFault → Type 0
 PictureStops input out_before out_after printed_before printed_after (faults.Write path) =
-    (h : Contents) × (partial : Partial) × IsHoldingFile input h × IsPartialPicture h partial
+    (h : Contents) × (partial : Partial) × IsHoldingFile Profile input h × IsPartialPicture h partial
     × WriteStops (raw_bytes partial.frame) (picture_text partial.tiles.items) out_before out_after printed_before printed_after (faults.Write path)
-PictureStops input out_before out_after printed_before printed_after fault = IsHoldingFault (paths.Hold 0) input fault
+PictureStops input out_before out_after printed_before printed_after fault = IsHoldingFault Profile (paths.Hold 0) input fault
 
 -- ---- over the logs of the devices
 
@@ -94,7 +95,7 @@ pub record WritesPicture (h : Contents) (out_old out_new output_old output_new :
 -- stopped after that.
 abbrev pub ReportsPicture : Result Bool CliFault → (file_old file_new : ReadLog) → (out_old out_new output_old output_new : WriteLog) → Type 0
 ReportsPicture (Ok whole) file_old file_new out_old out_new output_old output_new =
-    (h : Contents) × ReadsHolding file_old file_new h × WritesPicture h out_old out_new output_old output_new whole
+    (h : Contents) × ReadsHolding Profile file_old file_new h × WritesPicture h out_old out_new output_old output_new whole
 ReportsPicture (Err fault) file_old file_new out_old out_new output_old output_new =
-    (HoldingStops (paths.Hold 0) fault file_old file_new × BothKept out_old out_new output_old output_new)
-    ⊎ ((h : Contents) × ReadsHolding file_old file_new h × PictureRefuses h out_old out_new output_old output_new fault)
+    (HoldingStops Profile (paths.Hold 0) fault file_old file_new × BothKept out_old out_new output_old output_new)
+    ⊎ ((h : Contents) × ReadsHolding Profile file_old file_new h × PictureRefuses h out_old out_new output_old output_new fault)

@@ -3,8 +3,8 @@ use Rattle.std.specs.Prelude.{ℕ, List, Option}
 use Rattle.ffv1_range.specs.Setup.{SetupValue, IsSetupOf, RecordingValue, IsRecordingOf}
 use Rattle.ffv1_range.specs.SetupFaults.{FirstSetupFault, FirstRecordingFault}
 use Rattle.ffv1_range.specs.declared.fault.SetupFault.{SetupFault}
-use Rattle.ffv1_holding.specs.Reels.{Reel}
-use Rattle.ffv1_holding.specs.declared.recordings.Recordings.TheVariants.{Profile}
+use Rattle.ffv1_holding.specs.Reels.{Reel, FirstRecordFault}
+use Rattle.ffv1_holding.specs.declared.recordings.Recordings.{Recordings}
 use Rattle.ffv1_hold.specs.Headline.{IsReelOf}
 use Rattle.ffv1_devices.specs.Logs.{ReadLog}
 use Rattle.ffv1_commands.specs.Devices.{IsWholeInput, TakesWhole, FileStops}
@@ -24,10 +24,10 @@ pub record IsRecordingInput (input : Option (List ℕ)) (width height : ℕ) (re
   pub read : IsWholeInput input config
   pub is_recording : IsRecordingOf config width height recording
 
--- The same for a reel of the profile, which keeps the record beside its setup.
-pub record IsReelInput (input : Option (List ℕ)) (width height : ℕ) (reel : Reel) : Type 0 where
+-- The same for a reel of these recordings, which keeps the record beside its setup.
+pub record IsReelInput (recordings : Recordings) (input : Option (List ℕ)) (width height : ℕ) (reel : Reel) : Type 0 where
   pub read : IsWholeInput input reel.config
-  pub of_record : IsReelOf Profile reel.config width height reel
+  pub of_record : IsReelOf recordings reel.config width height reel
 
 -- ---- over the logs of the devices
 
@@ -43,10 +43,10 @@ pub record TakesRecording (width height : ℕ) (old new : ReadLog) (recording : 
   pub read : TakesWhole old new config
   pub is_recording : IsRecordingOf config width height recording
 
--- The same for a reel of the profile, which keeps the record beside its setup.
-pub record TakesReel (width height : ℕ) (old new : ReadLog) (reel : Reel) : Type 0 where
+-- The same for a reel of these recordings, which keeps the record beside its setup.
+pub record TakesReel (recordings : Recordings) (width height : ℕ) (old new : ReadLog) (reel : Reel) : Type 0 where
   pub read : TakesWhole old new reel.config
-  pub of_record : IsReelOf Profile reel.config width height reel
+  pub of_record : IsReelOf recordings reel.config width height reel
 
 -- why a record gave nothing: it was not read, its bytes have this fault first, or memory ran out
 abbrev pub StopsAtRecord : (First : List ℕ → SetupFault → Type 0) → (old new : ReadLog) → CliFault → Type 0
@@ -56,6 +56,10 @@ StopsAtRecord First old new fault = FileStops paths.Record fault old new
 -- why it gave no setup: the fault is the first that reading it meets
 abbrev pub RecordStops : (width height : ℕ) → (old new : ReadLog) → CliFault → Type 0
 RecordStops width height old new fault = StopsAtRecord (λ config first. FirstSetupFault config width height first) old new fault
+
+-- why it gave no reel of these recordings
+abbrev pub ReelStops : Recordings → (width height : ℕ) → (old new : ReadLog) → CliFault → Type 0
+ReelStops recordings width height old new fault = StopsAtRecord (λ config first. FirstRecordFault recordings config width height first) old new fault
 
 -- why it gave no recording of version 3
 abbrev pub RecordingStops : (width height : ℕ) → (old new : ReadLog) → CliFault → Type 0

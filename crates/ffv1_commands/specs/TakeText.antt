@@ -2,18 +2,18 @@
 use Rattle.std.specs.Prelude.{ℕ, ◌≡◌, ◌+◌, ◌-◌, ◌<◌, ◌++◌, ◌⊎◌, List, [], ◌∷◌, length, map, take, Option, slice_index_or, None, Result, Ok, Err, codes}
 use Rattle.std.specs.Fmt.{decimal}
 use Rattle.std.specs.Io.KnownBytes.{Appends}
-use Rattle.ffv1_range.specs.SetupFaults.{FirstSetupFault}
 use Rattle.ffv1_slice.specs.Walk.{links_of}
 use Rattle.ffv1_slice.specs.Slices.{found_slices}
 use Rattle.ffv1_holding.specs.Sets as set
-use Rattle.ffv1_holding.specs.Reels.{Reel}
+use Rattle.ffv1_holding.specs.Reels.{Reel, FirstRecordFault}
 use Rattle.ffv1_holding.specs.Contents.{Contents, holding_of}
+use Rattle.ffv1_holding.specs.declared.recordings.Recordings.{Recordings}
 use Rattle.ffv1_hold.specs.HoldingText.{holding_text}
 use Rattle.ffv1_devices.specs.Logs.{ReadLog, WriteLog}
 use Rattle.ffv1_commands.specs.Devices.{IsWholeInput, AreWholeInputs, WriteStops, IsCopyFault, CopyStops, BothKept}
 use Rattle.ffv1_commands.specs.InTurn.{AreKeptFrom, AreTaken, StopsAtCopy}
 use Rattle.ffv1_commands.specs.Holdings.{HasFile, IsFileFault, IsMade, MadeBreaks}
-use Rattle.ffv1_commands.specs.RecordInputs.{IsReelInput, TakesReel, RecordStops}
+use Rattle.ffv1_commands.specs.RecordInputs.{IsReelInput, TakesReel, ReelStops}
 use Rattle.ffv1_commands.specs.declared.fault.CliFault.{CliFault}
 use Rattle.ffv1_commands.specs.declared.fault.CliFault.TheVariants as faults
 use Rattle.ffv1_commands.specs.declared.path.CommandPath.TheVariants as paths
@@ -49,10 +49,10 @@ pub record TakesEach (inputs : List (Option (List ℕ))) (reel : Reel) (h : Cont
   pub lines : text ≡ take_text reel copies
 
 -- The file of the holding of all copies was written, and then the lines were printed.
-pub record TakesCopies (record' : Option (List ℕ)) (width height : ℕ) (inputs : List (Option (List ℕ)))
+pub record TakesCopies (recordings : Recordings) (record' : Option (List ℕ)) (width height : ℕ) (inputs : List (Option (List ℕ)))
     (out_before out_after printed_before printed_after : Option (List ℕ)) : Type 0 where
   pub reel : Reel
-  pub of_record : IsReelInput record' width height reel
+  pub of_record : IsReelInput recordings record' width height reel
   pub copies : List (List ℕ)
   pub read : AreWholeInputs inputs copies
   pub has_file : HasFile (holding_of reel copies)
@@ -81,42 +81,42 @@ LaterKept reports old new _ = Unit {0}
 
 -- What a fault says, and what it left in the outputs where writing failed: the record's fault, that of a copy, that the holding
 -- of the copies has no file, or a front of what is written.
-abbrev pub TakeStops : Option (List ℕ) → ℕ → ℕ → List (Option (List ℕ)) → (out_before out_after printed_before printed_after : Option (List ℕ)) → CliFault
+abbrev pub TakeStops : Recordings → Option (List ℕ) → ℕ → ℕ → List (Option (List ℕ)) → (out_before out_after printed_before printed_after : Option (List ℕ)) → CliFault
     → Type 0
-TakeStops record' width height inputs out_before out_after printed_before printed_after (faults.Read path) =
-    (path ≡ paths.Record) ⊎ ((reel : Reel) × IsReelInput record' width height reel × IsFaultOfInputs inputs (faults.Read path))
-TakeStops record' width height inputs out_before out_after printed_before printed_after (faults.Setup fault) =
-    (config : List ℕ) × IsWholeInput record' config × FirstSetupFault config width height fault
-TakeStops record' width height inputs out_before out_after printed_before printed_after (faults.Hold fault) =
-    (reel : Reel) × IsReelInput record' width height reel × IsFaultOfInputs inputs (faults.Hold fault)
-TakeStops record' width height inputs out_before out_after printed_before printed_after (faults.HoldFile fault) =
-    (reel : Reel) × (copies : List (List ℕ)) × IsReelInput record' width height reel × AreWholeInputs inputs copies
+TakeStops recordings record' width height inputs out_before out_after printed_before printed_after (faults.Read path) =
+    (path ≡ paths.Record) ⊎ ((reel : Reel) × IsReelInput recordings record' width height reel × IsFaultOfInputs inputs (faults.Read path))
+TakeStops recordings record' width height inputs out_before out_after printed_before printed_after (faults.Setup fault) =
+    (config : List ℕ) × IsWholeInput record' config × FirstRecordFault recordings config width height fault
+TakeStops recordings record' width height inputs out_before out_after printed_before printed_after (faults.Hold fault) =
+    (reel : Reel) × IsReelInput recordings record' width height reel × IsFaultOfInputs inputs (faults.Hold fault)
+TakeStops recordings record' width height inputs out_before out_after printed_before printed_after (faults.HoldFile fault) =
+    (reel : Reel) × (copies : List (List ℕ)) × IsReelInput recordings record' width height reel × AreWholeInputs inputs copies
     × IsFileFault (holding_of reel copies) (faults.HoldFile fault)
-TakeStops record' width height inputs out_before out_after printed_before printed_after (faults.Write path) =
-    (reel : Reel) × (copies : List (List ℕ)) × IsReelInput record' width height reel × AreWholeInputs inputs copies
+TakeStops recordings record' width height inputs out_before out_after printed_before printed_after (faults.Write path) =
+    (reel : Reel) × (copies : List (List ℕ)) × IsReelInput recordings record' width height reel × AreWholeInputs inputs copies
     × WriteStops (holding_text (holding_of reel copies)) (take_text reel copies) out_before out_after printed_before printed_after (faults.Write path)
-TakeStops record' width height inputs out_before out_after printed_before printed_after faults.Memory = Unit {0}
-TakeStops record' width height inputs out_before out_after printed_before printed_after _ = ⊥
+TakeStops recordings record' width height inputs out_before out_after printed_before printed_after faults.Memory = Unit {0}
+TakeStops recordings record' width height inputs out_before out_after printed_before printed_after _ = ⊥
 
 -- ---- over the logs of the devices
 
 -- The record was read, and the copies were taken, and this text has a line for each.
-pub record TakesAll (width height : ℕ) (inputs : List (Option (List ℕ))) (old new : ReadLog) (held : Contents) (text : List ℕ) : Type 0 where
+pub record TakesAll (recordings : Recordings) (width height : ℕ) (inputs : List (Option (List ℕ))) (old new : ReadLog) (held : Contents) (text : List ℕ) : Type 0 where
   pub reel : Reel
-  pub of_record : TakesReel width height old new reel
+  pub of_record : TakesReel recordings width height old new reel
   pub each : TakesEach inputs reel held text
 
 -- The record and the copies were taken, and the file and the lines were written; or the record gave no reel, and all else is as it was; or
 -- a copy was not taken, and those after it and both outputs are as they were; or all were taken, and the file and the lines were not
 -- written whole.
-abbrev pub ReportsTake : {T C : Type 0} → Result T CliFault → (C → Option (List ℕ)) → (width height : ℕ) → (record_old record_new : ReadLog)
+abbrev pub ReportsTake : {T C : Type 0} → Recordings → Result T CliFault → (C → Option (List ℕ)) → (width height : ℕ) → (record_old record_new : ReadLog)
     → (copies_old copies_new : List C) → (out_old out_new output_old output_new : WriteLog) → Type 0
-ReportsTake (Ok x) reports width height record_old record_new copies_old copies_new out_old out_new output_old output_new =
-    (held : Contents) × (text : List ℕ) × TakesAll width height (map reports copies_old) record_old record_new held text
+ReportsTake recordings (Ok x) reports width height record_old record_new copies_old copies_new out_old out_new output_old output_new =
+    (held : Contents) × (text : List ℕ) × TakesAll recordings width height (map reports copies_old) record_old record_new held text
     × IsMade held text out_old out_new output_old output_new
-ReportsTake (Err fault) reports width height record_old record_new copies_old copies_new out_old out_new output_old output_new =
-    (RecordStops width height record_old record_new fault × (copies_new ≡ copies_old) × BothKept out_old out_new output_old output_new)
-    ⊎ ((reel : Reel) × TakesReel width height record_old record_new reel × StopsAtCopy CopyStops reports copies_old copies_new fault
+ReportsTake recordings (Err fault) reports width height record_old record_new copies_old copies_new out_old out_new output_old output_new =
+    (ReelStops recordings width height record_old record_new fault × (copies_new ≡ copies_old) × BothKept out_old out_new output_old output_new)
+    ⊎ ((reel : Reel) × TakesReel recordings width height record_old record_new reel × StopsAtCopy CopyStops reports copies_old copies_new fault
     × BothKept out_old out_new output_old output_new)
-    ⊎ ((held : Contents) × (text : List ℕ) × TakesAll width height (map reports copies_old) record_old record_new held text
+    ⊎ ((held : Contents) × (text : List ℕ) × TakesAll recordings width height (map reports copies_old) record_old record_new held text
     × MadeBreaks held text out_old out_new output_old output_new fault)

@@ -1,5 +1,6 @@
 //! Holding files, read from a source and written to OUT.
 ghost use Rattle.std.specs.Prelude.{◌≡◌, IfErr};
+ghost use Rattle.ffv1_holding.specs.declared.recordings.Recordings.TheVariants.{Profile};
 ghost use Rattle.ffv1_commands.specs.Devices.{UnlessWriting};
 ghost use Rattle.ffv1_commands.specs.Inner.Holdings.{ReadsHeld, SavesNamed, WritesMade};
 
@@ -7,16 +8,32 @@ use crate::devices::write_file;
 use crate::fault::{CliFault, of_hold_file};
 use crate::path::CommandPath;
 use ffv1_devices::{Sink, Source};
-use ffv1_hold::{HoldFileFault, Holding, read_hold, write_hold};
+use ffv1_hold::{HoldFileFault, Holding, Recordings, read_hold, write_hold};
+use ffv1_range::Recording;
 use std::alloc::Global;
 
-/// The holding of the file that is this path of the command.
+/// The holding of the file of these recordings that is this path of the command.
 pub(crate) fn read_holding<S: Source>(
+    alloc: Global,
+    recordings: Recordings,
+    source: &mut S,
+    path: CommandPath,
+) -> Result<Holding<Recording>, CliFault>
+    ensures read { ReadsHeld recordings path result (S.log source.old) (S.log source.new) }
+{
+    match ffv1_hold::read_holding(alloc, recordings, source) {
+        Ok(holding) => Ok(holding),
+        Err(fault) => Err(of_hold_file(path, fault)),
+    }
+}
+
+/// The holding of the profile of the file that is this path of the command.
+pub(crate) fn read_profile_holding<S: Source>(
     alloc: Global,
     source: &mut S,
     path: CommandPath,
 ) -> Result<Holding, CliFault>
-    ensures read { ReadsHeld path result (S.log source.old) (S.log source.new) }
+    ensures read { ReadsHeld Profile path result (S.log source.old) (S.log source.new) }
 {
     match read_hold(alloc, source) {
         Ok(holding) => Ok(holding),
@@ -25,7 +42,7 @@ pub(crate) fn read_holding<S: Source>(
 }
 
 /// Writes the file of a holding to OUT. Returns `HoldFile` if the holding has none, and then OUT is not touched.
-fn write_holding<O: Sink>(out: &mut O, holding: &Holding) -> Result<(), CliFault>
+fn write_holding<O: Sink>(out: &mut O, holding: &Holding<Recording>) -> Result<(), CliFault>
     ensures reported { SavesNamed result holding.now (O.log out.old) (O.log out.new) }
     ensures untouched { IfErr result (λ fault. UnlessWriting fault (out.new ≡ out.old)) }
 {
@@ -40,7 +57,7 @@ fn write_holding<O: Sink>(out: &mut O, holding: &Holding) -> Result<(), CliFault
 /// Writes the file of a holding to OUT, and then prints a text. A holding that has no file leaves both as they were.
 pub(crate) fn write_made<O: Sink, W: Sink>(
     out: &mut O,
-    holding: &Holding,
+    holding: &Holding<Recording>,
     output: &mut W,
     text: &str,
 ) -> Result<(), CliFault>

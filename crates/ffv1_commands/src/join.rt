@@ -15,11 +15,12 @@ use crate::fault::CliFault;
 use crate::holdings::{read_holding, write_made};
 use crate::path::CommandPath;
 use ffv1_devices::{Sink, Source, ThroughWrite};
-use ffv1_hold::{HoldFault, Holding, Join};
+use ffv1_hold::{HoldFault, Holding, Join, Recordings};
+use ffv1_range::Recording;
 use std::alloc::{AllocError, Global};
 use std::io::{Read, Write};
 
-/// Joins the holdings of files, one after the other; writes the file of their union to `out`, and then prints a line
+/// Joins the holdings of files of these recordings, one after the other; writes the file of their union to `out`, and then prints a line
 /// for each file, as `file 1 new 1`: how many of its slices no earlier file had.
 ///
 /// Each file is joined before the next is read: at a fault of one those after it are as they were. Returns `Read` if a
@@ -31,23 +32,25 @@ use std::io::{Read, Write};
 /// The other files are fewer than 2^63, as those of a `Vec` always are, so that each has a number.
 pub fn run_join<R: Read, O: Write, W: Write>(
     alloc: Global,
+    recordings: Recordings,
     first: &mut R,
     others: &mut [R],
     out: &mut O,
     output: &mut W,
 ) -> Result<(), CliFault>
     requires { length others.old < 2 ^ 63 }
-    ensures ok { OnOk result (JoinsFiles (R.remaining first.old ∷ map R.remaining others.old)
+    ensures ok { OnOk result (JoinsFiles recordings (R.remaining first.old ∷ map R.remaining others.old)
         (O.contents out.old) (O.contents out.new) (W.contents output.old) (W.contents output.new)) }
-    ensures err { IfErr result (JoinStops (R.remaining first.old ∷ map R.remaining others.old)
+    ensures err { IfErr result (JoinStops recordings (R.remaining first.old ∷ map R.remaining others.old)
         (O.contents out.old) (O.contents out.new) (W.contents output.old) (W.contents output.new)) }
     ensures untouched { IfErr result (λ fault. UnlessWriting fault ((out.new ≡ out.old) × (output.new ≡ output.old))) }
-    ensures later_kept { IfErr result (LaterFilesKept (R.remaining first.old ∷ map R.remaining others.old) others.old others.new) }
+    ensures later_kept { IfErr result (LaterFilesKept recordings (R.remaining first.old ∷ map R.remaining others.old) others.old others.new) }
     ensures names { IfErr result (NamesPath (IsJoinPath (length others.old + 1))) }
 {
     let mut first = buffered(alloc, first)?;
     join_readers(
         alloc,
+        recordings,
         &mut first,
         others,
         &mut ThroughWrite::new(out),
@@ -59,19 +62,20 @@ pub fn run_join<R: Read, O: Write, W: Write>(
 /// named; no other failures of the first file's source and of the sinks came but interruptions.
 pub fn join_of<F: Source, R: Source, O: Sink, W: Sink>(
     alloc: Global,
+    recordings: Recordings,
     first: &mut F,
     others: &mut [R],
     out: &mut O,
     output: &mut W,
 ) -> Result<(), CliFault>
     requires { length others.old < 2 ^ 63 }
-    ensures reported { ReportsJoin result (λ file. (R.log file).remaining) (F.log first.old) (F.log first.new) others.old others.new
+    ensures reported { ReportsJoin recordings result (λ file. (R.log file).remaining) (F.log first.old) (F.log first.new) others.old others.new
         (O.log out.old) (O.log out.new) (W.log output.old) (W.log output.new) }
-    ensures unread { IfErr result (IfLaterUnread (map R.log others.old) (map R.log others.new)) }
+    ensures unread { IfErr result (IfLaterUnread recordings (map R.log others.old) (map R.log others.new)) }
     ensures untouched { IfErr result (λ fault. UnlessWriting fault ((out.new ≡ out.old) × (output.new ≡ output.old))) }
 {
     let mut lines = String::new(alloc);
-    let whole = join_sources(alloc, first, others, &mut lines)?;
+    let whole = join_sources(alloc, recordings, first, others, &mut lines)?;
     write_made(out, &whole, output, lines.as_str())
 }
 
@@ -79,37 +83,46 @@ pub fn join_of<F: Source, R: Source, O: Sink, W: Sink>(
 /// ends: so the caller can't see its tries.
 fn join_readers<F: Source, R: Read, O: Sink, W: Sink>(
     alloc: Global,
+    recordings: Recordings,
     first: &mut F,
     others: &mut [R],
     out: &mut O,
     output: &mut W,
 ) -> Result<(), CliFault>
     requires { length others.old < 2 ^ 63 }
-    ensures reported { ReportsJoin result R.remaining (F.log first.old) (F.log first.new) others.old others.new
+    ensures reported { ReportsJoin recordings result R.remaining (F.log first.old) (F.log first.new) others.old others.new
         (O.log out.old) (O.log out.new) (W.log output.old) (W.log output.new) }
     ensures untouched { IfErr result (λ fault. UnlessWriting fault ((out.new ≡ out.old) × (output.new ≡ output.old))) }
 {
     let mut lines = String::new(alloc);
-    let whole = join_files(alloc, first, others, &mut lines)?;
+    let whole = join_files(alloc, recordings, first, others, &mut lines)?;
     write_made(out, &whole, output, lines.as_str())
 }
 
 /// Joins the holdings of files, which are sources, and adds a line for each.
 fn join_sources<F: Source, R: Source>(
     alloc: Global,
+    recordings: Recordings,
     first: &mut F,
     others: &mut [R],
     lines: &mut String,
-) -> Result<Holding, CliFault>
+) -> Result<Holding<Recording>, CliFault>
     requires few { length others.old < 2 ^ 63 }
     requires none { string_bytes lines.old ≡ [] }
-    ensures ok { IfOk result (λ whole. JoinsAll (map (λ file. (R.log file).remaining) others.old) (F.log first.old) (F.log first.new) whole (string_bytes lines.new)) }
-    ensures err { IfErr result (StopsAtFile (λ file. (R.log file).remaining) (F.log first.old) (F.log first.new) others.old others.new) }
-    ensures unread { IfErr result (IfLaterUnread (map R.log others.old) (map R.log others.new)) }
+    ensures ok { IfOk result (λ whole. JoinsAll recordings (map (λ file. (R.log file).remaining) others.old) (F.log first.old) (F.log first.new) whole (string_bytes lines.new)) }
+    ensures err { IfErr result (StopsAtFile recordings (λ file. (R.log file).remaining) (F.log first.old) (F.log first.new) others.old others.new) }
+    ensures unread { IfErr result (IfLaterUnread recordings (map R.log others.old) (map R.log others.new)) }
 {
-    let mut whole = first_holding(alloc, first, lines)?;
+    let mut whole = first_holding(alloc, recordings, first, lines)?;
     for place in 0..others.len() {
-        join_file_of(alloc, &mut whole, &mut others[place], place + 1, lines)?;
+        join_file_of(
+            alloc,
+            recordings,
+            &mut whole,
+            &mut others[place],
+            place + 1,
+            lines,
+        )?;
     }
     Ok(whole)
 }
@@ -117,14 +130,15 @@ fn join_sources<F: Source, R: Source>(
 /// The holding of the first file, and its line.
 fn first_holding<F: Source>(
     alloc: Global,
+    recordings: Recordings,
     first: &mut F,
     lines: &mut String,
-) -> Result<Holding, CliFault>
-    ensures ok { IfOk result (ReadsHolding (F.log first.old) (F.log first.new)) }
+) -> Result<Holding<Recording>, CliFault>
+    ensures ok { IfOk result (ReadsHolding recordings (F.log first.old) (F.log first.new)) }
     ensures line { IfOk result (λ whole. string_bytes lines.new ≡ string_bytes lines.old ++ file_line 1 (size whole.slices)) }
-    ensures err { IfErr result (λ fault. FileBreaks (CommandPath.Hold 0) fault (F.log first.old) (F.log first.new)) }
+    ensures err { IfErr result (λ fault. FileBreaks recordings (CommandPath.Hold 0) fault (F.log first.old) (F.log first.new)) }
 {
-    let whole = read_holding(alloc, first, CommandPath::Hold(0))?;
+    let whole = read_holding(alloc, recordings, first, CommandPath::Hold(0))?;
     push_file(lines, 1, whole.size())?;
     Ok(whole)
 }
@@ -132,18 +146,26 @@ fn first_holding<F: Source>(
 /// The same of readers.
 fn join_files<F: Source, R: Read>(
     alloc: Global,
+    recordings: Recordings,
     first: &mut F,
     others: &mut [R],
     lines: &mut String,
-) -> Result<Holding, CliFault>
+) -> Result<Holding<Recording>, CliFault>
     requires few { length others.old < 2 ^ 63 }
     requires none { string_bytes lines.old ≡ [] }
-    ensures ok { IfOk result (λ whole. JoinsAll (map R.remaining others.old) (F.log first.old) (F.log first.new) whole (string_bytes lines.new)) }
-    ensures err { IfErr result (StopsAtFile R.remaining (F.log first.old) (F.log first.new) others.old others.new) }
+    ensures ok { IfOk result (λ whole. JoinsAll recordings (map R.remaining others.old) (F.log first.old) (F.log first.new) whole (string_bytes lines.new)) }
+    ensures err { IfErr result (StopsAtFile recordings R.remaining (F.log first.old) (F.log first.new) others.old others.new) }
 {
-    let mut whole = first_holding(alloc, first, lines)?;
+    let mut whole = first_holding(alloc, recordings, first, lines)?;
     for index in 0..others.len() {
-        if let Err(fault) = join_file(alloc, &mut whole, &mut others[index], index + 1, lines) {
+        if let Err(fault) = join_file(
+            alloc,
+            recordings,
+            &mut whole,
+            &mut others[index],
+            index + 1,
+            lines,
+        ) {
             return Err(fault);
         }
     }
@@ -153,37 +175,39 @@ fn join_files<F: Source, R: Read>(
 /// Joins the holding of a file, before which stand so many others, into another, and adds a line for it.
 fn join_file<R: Read>(
     alloc: Global,
-    whole: &mut Holding,
+    recordings: Recordings,
+    whole: &mut Holding<Recording>,
     file: &mut R,
     before: usize,
     lines: &mut String,
 ) -> Result<(), CliFault>
     requires { before < 2 ^ 63 }
-    ensures { ReadsAlone (JoinsFile result before whole.old whole.new (string_bytes lines.old) (string_bytes lines.new)) (R.remaining file.old) }
+    ensures { ReadsAlone (JoinsFile recordings result before whole.old whole.new (string_bytes lines.old) (string_bytes lines.new)) (R.remaining file.old) }
 {
     let mut file = buffered(alloc, file)?;
-    join_file_of(alloc, whole, &mut file, before, lines)
+    join_file_of(alloc, recordings, whole, &mut file, before, lines)
 }
 
 /// The same over a source.
 fn join_file_of<R: Source>(
     alloc: Global,
-    whole: &mut Holding,
+    recordings: Recordings,
+    whole: &mut Holding<Recording>,
     file: &mut R,
     before: usize,
     lines: &mut String,
 ) -> Result<(), CliFault>
     requires { before < 2 ^ 63 }
-    ensures { JoinsFile result before whole.old whole.new (string_bytes lines.old) (string_bytes lines.new) (R.log file.old) (R.log file.new) }
+    ensures { JoinsFile recordings result before whole.old whole.new (string_bytes lines.old) (string_bytes lines.new) (R.log file.old) (R.log file.new) }
 {
-    let other = read_holding(alloc, file, CommandPath::Hold(before))?;
+    let other = read_holding(alloc, recordings, file, CommandPath::Hold(before))?;
     let new = join_in(whole, other)?;
     push_file(lines, before + 1, new)?;
     Ok(())
 }
 
 /// Joins a holding into another, and returns how many of its slices this one had not.
-fn join_in(whole: &mut Holding, other: Holding) -> Result<usize, HoldFault>
+fn join_in(whole: &mut Holding<Recording>, other: Holding<Recording>) -> Result<usize, HoldFault>
     ensures joined { OnOk result (whole.new ≡ joined whole.old other) }
     ensures growth { IfOk result (λ new. size whole.new.slices ≡ size whole.old.slices + new) }
     ensures joinable { OnOk result (IsSameReel whole.old other) }

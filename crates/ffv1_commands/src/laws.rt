@@ -1,11 +1,11 @@
 //! The way from copies to a frame or a file by commands, whatever their order (own), as contracts of functions that do nothing.
-ghost use Rattle.ffv1_commands.specs.Commands.{MadeOfCopies, SameCopiesMakeOneFile, SameCopiesMakeOneHolding, SameCopiesMakeOneReport, CommandsRestoreTheOriginal, CommandsRestoreNearCopies};
+ghost use Rattle.ffv1_commands.specs.Commands.{MadeOfCopies, SameCopiesMakeOneFile, SameCopiesMakeOneHolding, SameCopiesMakeOneReport, CommandsRestoreTheOriginal, CommandsRestoreNearCopies, CommandsShowTheOriginal, CommandsShowNearCopies};
 ghost use Rattle.ffv1_commands.specs.MendLaws.{ListedIsMade, AnyOrderMakesOneFile, TrueIsVouched, MendGivesTheOriginal};
 ghost use Rattle.ffv1_commands.specs.UnreadLaws.{UnreadIsGivenUp, LongCopyIsGivenUp};
 ghost use Rattle.ffv1_commands.specs.SpliceLaws.{SameCopiesMakeOneSplice, SpliceGivesTheOriginal, SpliceGivesNearCopies, SpliceGivesWovenCopies, SpliceGivesNearWovenCopies, TrueIsWhole};
 
-/// Whatever trees of `take`, `join` and `merge` lead from copies to a holding file, for one record and size: the file
-/// is that of the holding of just what is found in the copies. However the same copies are ordered, grouped or
+/// Whatever trees of `take`, `join` and `merge` lead from copies to a holding file, for one record and size, of recordings of the profile
+/// or of any: the file is that of the holding of just what is found in the copies. However the same copies are ordered, grouped or
 /// repeated, the files are equal byte for byte, what is read of them is equal in every tile and origin, and their
 /// reports are equal.
 pub fn same_copies_make_one_file()
@@ -17,12 +17,14 @@ pub fn same_copies_make_one_file()
 
 /// Whatever trees of `take`, `join` and `merge` lead from copies to a holding file, for one record and size: where
 /// every slice found in the copies is the original's for its tile, and each tile's is found in some copy, `restore`
-/// of the file writes the original byte for byte, or is refused because reading, writing or memory failed, and `picture` of
-/// it shows what the original's slices spell. So it is where all copies differ from the original only within 32 bits
+/// of the file writes the original byte for byte, or is refused because reading, writing or memory failed, and, of a recording of the profile,
+/// `picture` of it shows what the original's slices spell. So it is where all copies differ from the original only within 32 bits
 /// of each slice, its size field undamaged, and each of its slices is intact in one of them.
 pub fn commands_restore_the_original()
     ensures original { CommandsRestoreTheOriginal }
     ensures near { CommandsRestoreNearCopies }
+    ensures shows { CommandsShowTheOriginal }
+    ensures shows_near { CommandsShowNearCopies }
 {}
 
 /// However the same copies are ordered or repeated, `splice` writes the same file, prints the same lines and returns the

@@ -3,6 +3,7 @@
 //! says of the devices, too, how their tries went.
 #![tactic(auto)]
 
+mod any_picture;
 mod chain;
 mod decode;
 mod devices;
@@ -27,6 +28,7 @@ mod show;
 mod splice;
 mod take;
 
+pub use any_picture::{any_picture_of, run_any_picture};
 pub use chain::{chain_of, run_chain};
 pub use decode::{decode_of, run_decode};
 pub use fault::CliFault;

@@ -4,6 +4,7 @@ ghost use Rattle.ffv1_bits.specs.Limits.{file_limit};
 ghost use Rattle.ffv1_holding.specs.Reels.{Reel};
 ghost use Rattle.ffv1_holding.specs.Contents.{Contents, IsSameReel, joined};
 ghost use Rattle.ffv1_hold.specs.declared.version.Version.{Version};
+ghost use Rattle.ffv1_hold.specs.FileFaults.{IsTaken};
 ghost use Rattle.ffv1_hold.specs.MergedStreams.{IsFileOf, BeginsWithHead, WritesAtMost};
 ghost use Rattle.ffv1_commands.specs.Fault.{NamesPath};
 ghost use Rattle.ffv1_commands.specs.Paths.{IsMergePath};
@@ -12,11 +13,11 @@ ghost use Rattle.ffv1_commands.specs.MergeText.{MergesFiles, IsMergeFault, Merge
 use crate::fault::{CliFault, of_merge};
 use crate::path::CommandPath;
 use ffv1_devices::{FromRead, Sink, Source, ThroughWrite};
-use ffv1_hold::{HoldFileFault, join_streams};
+use ffv1_hold::{HoldFileFault, Recordings, join_streams_of};
 use std::alloc::Global;
 use std::io::{Read, Write};
 
-/// Joins two holding files as streams, and writes the file of their union to `out`. At most one entry of each input is
+/// Joins two holding files of these recordings as streams, and writes the file of their union to `out`. At most one entry of each input is
 /// held, however long the files are: the next one is read over it. Nothing is printed.
 ///
 /// The file is the one that `join` writes of both. Returns `Read` of the inputs if one of them fails; `HoldFile`
@@ -26,24 +27,26 @@ use std::io::{Read, Write};
 /// its head and whole entries: no end tag, so that what is there is no holding file.
 pub fn run_merge<R: Read, Q: Read, O: Write>(
     alloc: Global,
+    recordings: Recordings,
     left: &mut R,
     right: &mut Q,
     out: &mut O,
 ) -> Result<(), CliFault>
-    ensures ok { OnOk result (MergesFiles (R.remaining left.old) (Q.remaining right.old) (O.contents out.old) (O.contents out.new)) }
-    ensures err { IfErr result (IsMergeFault (R.remaining left.old) (Q.remaining right.old)) }
+    ensures ok { OnOk result (MergesFiles recordings (R.remaining left.old) (Q.remaining right.old) (O.contents out.old) (O.contents out.new)) }
+    ensures err { IfErr result (IsMergeFault recordings (R.remaining left.old) (Q.remaining right.old)) }
     ensures leaves { IfErr result (MergeLeaves (R.remaining left.old) (Q.remaining right.old) (O.contents out.old) (O.contents out.new)) }
     ensures most { WritesAtMost (O.contents out.old) (O.contents out.new) file_limit }
 
-    ensures only { (v w : Version) (g h : Contents) → IsSameReel g h → IsFileOf (R.remaining left.old) v g → IsFileOf (Q.remaining right.old) w h
+    ensures only { (v w : Version) (g h : Contents) → IsSameReel g h → IsTaken recordings g.reel.rules.is_profile → IsFileOf (R.remaining left.old) v g → IsFileOf (Q.remaining right.old) w h
         → ReturnsFiles (joined g h) result }
-    ensures other { (g h : Reel) → BeginsWithHead (R.remaining left.old) g → BeginsWithHead (Q.remaining right.old) h → ¬ (g ≡ h)
+    ensures other { (g h : Reel) → BeginsWithHead recordings (R.remaining left.old) g → BeginsWithHead recordings (Q.remaining right.old) h → ¬ (g ≡ h)
         → ReturnsOtherHeads result }
     ensures untouched { IsErrOf result (CliFault.HoldFile HoldFileFault.OtherReel) → out.new ≡ out.old }
     ensures names { IfErr result (NamesPath IsMergePath) }
 {
     merge_of(
         alloc,
+        recordings,
         &mut FromRead::new(left),
         &mut FromRead::new(right),
         &mut ThroughWrite::new(out),
@@ -54,21 +57,22 @@ pub fn run_merge<R: Read, Q: Read, O: Write>(
 /// sink was; no other failures came but interruptions.
 pub fn merge_of<R: Source, Q: Source, O: Sink>(
     alloc: Global,
+    recordings: Recordings,
     left: &mut R,
     right: &mut Q,
     out: &mut O,
 ) -> Result<(), CliFault>
-    ensures reported { ReportsMerge result (record { left = R.log left.old; right = Q.log right.old; sink = O.log out.old })
+    ensures reported { ReportsMerge recordings result (record { left = R.log left.old; right = Q.log right.old; sink = O.log out.old })
         (record { left = R.log left.new; right = Q.log right.new; sink = O.log out.new }) }
     ensures most { WritesAtMost (O.log out.old).contents (O.log out.new).contents file_limit }
 
-    ensures only { (v w : Version) (g h : Contents) → IsSameReel g h → IsFileOf (R.log left.old).remaining v g → IsFileOf (Q.log right.old).remaining w h
+    ensures only { (v w : Version) (g h : Contents) → IsSameReel g h → IsTaken recordings g.reel.rules.is_profile → IsFileOf (R.log left.old).remaining v g → IsFileOf (Q.log right.old).remaining w h
         → ReturnsFiles (joined g h) result }
-    ensures other { (g h : Reel) → BeginsWithHead (R.log left.old).remaining g → BeginsWithHead (Q.log right.old).remaining h → ¬ (g ≡ h)
+    ensures other { (g h : Reel) → BeginsWithHead recordings (R.log left.old).remaining g → BeginsWithHead recordings (Q.log right.old).remaining h → ¬ (g ≡ h)
         → ReturnsOtherHeads result }
     ensures untouched { IsErrOf result (CliFault.HoldFile HoldFileFault.OtherReel) → out.new ≡ out.old }
 {
-    match join_streams(alloc, left, right, out) {
+    match join_streams_of(alloc, recordings, left, right, out) {
         Ok(()) => Ok(()),
         Err(fault) => Err(of_merge(fault)),
     }

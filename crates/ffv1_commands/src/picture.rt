@@ -1,4 +1,4 @@
-//! The command `picture`: writes what can be shown of a holding file (own).
+//! The command `picture`: writes what can be shown of a holding file of the profile (own).
 ghost use Rattle.std.specs.Prelude.{◌≡◌, ◌++◌, ◌<◌, ◌^◌, ◌↔◌, All, IsTrue, IfOk, IfErr, OnOk, length, string_bytes};
 ghost use Rattle.ffv1_picture.specs.PartialPictures.{IsPartialPicture};
 ghost use Rattle.ffv1_commands.specs.Fault.{NamesPath};
@@ -8,7 +8,7 @@ ghost use Rattle.ffv1_commands.specs.PictureText.{stuck_line, header_line, unrea
 
 use crate::devices::buffered;
 use crate::fault::CliFault;
-use crate::holdings::read_holding;
+use crate::holdings::read_profile_holding;
 use crate::path::CommandPath;
 use crate::samples::write_shown;
 use ffv1_devices::{Sink, Source, ThroughWrite};
@@ -56,7 +56,7 @@ pub fn picture_of<R: Source, O: Sink, W: Sink>(
     ensures reported { ReportsPicture result (R.log file.old) (R.log file.new) (O.log out.old) (O.log out.new) (W.log output.old) (W.log output.new) }
     ensures untouched { IfErr result (λ fault. UnlessWriting fault ((out.new ≡ out.old) × (output.new ≡ output.old))) }
 {
-    let holding = read_holding(alloc, file, CommandPath::Hold(0))?;
+    let holding = read_profile_holding(alloc, file, CommandPath::Hold(0))?;
     let partial = picture_of_holding(alloc, holding)?;
     let lines = outcomes_text(alloc, partial.tiles.as_slice())?;
     write_shown(out, &partial.frame, output, lines.as_str())?;

@@ -6,7 +6,7 @@ ghost use Rattle.ffv1_commands.specs.Fault.{NamesPath};
 ghost use Rattle.ffv1_commands.specs.Paths.{IsTakePath};
 ghost use Rattle.ffv1_commands.specs.Devices.{IfOfRecord, GivesUpWithin, CopyStops, UnlessWriting};
 ghost use Rattle.ffv1_commands.specs.InTurn.{ReadsAlone, StopsAtCopy, IfCopyUnread};
-ghost use Rattle.ffv1_commands.specs.RecordInputs.{TakesReel, RecordStops};
+ghost use Rattle.ffv1_commands.specs.RecordInputs.{TakesReel, ReelStops};
 ghost use Rattle.ffv1_commands.specs.TakeText.{copy_line, TakesEach, TakesCopies, LaterKept, TakeStops, ReportsTake};
 ghost use Rattle.ffv1_commands.specs.Inner.TakeText.{TakesCopy};
 
@@ -15,12 +15,13 @@ use crate::fault::CliFault;
 use crate::holdings::write_made;
 use crate::path::CommandPath;
 use ffv1_devices::{FromRead, Sink, Source, ThroughWrite};
-use ffv1_hold::{Holding, Taken};
+use ffv1_hold::{Holding, Recordings, Taken};
+use ffv1_range::Recording;
 use std::alloc::{AllocError, Global};
 use std::io::{Read, Write};
 
-/// Takes copies of a frame, one after the other, into an empty holding for a configuration record and the size of the
-/// frame in samples; writes the holding's file to `out`, and then prints a line for each copy, as
+/// Takes copies of a frame, one after the other, into an empty holding for a configuration record, which is one of these recordings, and
+/// the size of the frame in samples; writes the holding's file to `out`, and then prints a line for each copy, as
 /// `copy 1 links 2 slices 1 new 1`: its links, those that are slices, and the slices that no earlier copy gave.
 ///
 /// The record is judged before the first copy is read, and each copy is taken before the next is read: at a fault of one
@@ -33,6 +34,7 @@ use std::io::{Read, Write};
 /// The copies are fewer than 2^63, as those of a `Vec` always are, so that each has a number.
 pub fn run_take<R: Read, C: Read, O: Write, W: Write>(
     alloc: Global,
+    recordings: Recordings,
     configuration: &mut R,
     width: u32,
     height: u32,
@@ -41,9 +43,9 @@ pub fn run_take<R: Read, C: Read, O: Write, W: Write>(
     output: &mut W,
 ) -> Result<(), CliFault>
     requires { length copies.old < 2 ^ 63 }
-    ensures ok { OnOk result (TakesCopies (R.remaining configuration.old) width height (map C.remaining copies.old)
+    ensures ok { OnOk result (TakesCopies recordings (R.remaining configuration.old) width height (map C.remaining copies.old)
         (O.contents out.old) (O.contents out.new) (W.contents output.old) (W.contents output.new)) }
-    ensures err { IfErr result (TakeStops (R.remaining configuration.old) width height (map C.remaining copies.old)
+    ensures err { IfErr result (TakeStops recordings (R.remaining configuration.old) width height (map C.remaining copies.old)
         (O.contents out.old) (O.contents out.new) (W.contents output.old) (W.contents output.new)) }
     ensures untouched { IfErr result (λ fault. UnlessWriting fault ((out.new ≡ out.old) × (output.new ≡ output.old))) }
     ensures in_turn { IfErr result (λ fault. IfOfRecord fault (copies.new ≡ copies.old)) }
@@ -52,6 +54,7 @@ pub fn run_take<R: Read, C: Read, O: Write, W: Write>(
 {
     take_readers(
         alloc,
+        recordings,
         &mut FromRead::new(configuration),
         width,
         height,
@@ -66,6 +69,7 @@ pub fn run_take<R: Read, C: Read, O: Write, W: Write>(
 /// and of the sinks came but interruptions.
 pub fn take_of<R: Source, C: Source, O: Sink, W: Sink>(
     alloc: Global,
+    recordings: Recordings,
     configuration: &mut R,
     width: u32,
     height: u32,
@@ -74,12 +78,12 @@ pub fn take_of<R: Source, C: Source, O: Sink, W: Sink>(
     output: &mut W,
 ) -> Result<(), CliFault>
     requires { length copies.old < 2 ^ 63 }
-    ensures reported { ReportsTake result (λ copy. (C.log copy).remaining) width height (R.log configuration.old) (R.log configuration.new) copies.old copies.new
+    ensures reported { ReportsTake recordings result (λ copy. (C.log copy).remaining) width height (R.log configuration.old) (R.log configuration.new) copies.old copies.new
         (O.log out.old) (O.log out.new) (W.log output.old) (W.log output.new) }
     ensures unread { IfErr result (IfCopyUnread GivesUpWithin (map C.log copies.old) (map C.log copies.new)) }
     ensures untouched { IfErr result (λ fault. UnlessWriting fault ((out.new ≡ out.old) × (output.new ≡ output.old))) }
 {
-    let mut holding = empty_holding(alloc, configuration, width, height)?;
+    let mut holding = empty_holding(alloc, recordings, configuration, width, height)?;
     let lines = take_sources(alloc, &mut holding, copies)?;
     write_made(out, &holding, output, lines.as_str())
 }
@@ -88,6 +92,7 @@ pub fn take_of<R: Source, C: Source, O: Sink, W: Sink>(
 /// the caller can't see its tries.
 fn take_readers<R: Source, C: Read, O: Sink, W: Sink>(
     alloc: Global,
+    recordings: Recordings,
     configuration: &mut R,
     width: u32,
     height: u32,
@@ -96,11 +101,11 @@ fn take_readers<R: Source, C: Read, O: Sink, W: Sink>(
     output: &mut W,
 ) -> Result<(), CliFault>
     requires { length copies.old < 2 ^ 63 }
-    ensures reported { ReportsTake result C.remaining width height (R.log configuration.old) (R.log configuration.new) copies.old copies.new
+    ensures reported { ReportsTake recordings result C.remaining width height (R.log configuration.old) (R.log configuration.new) copies.old copies.new
         (O.log out.old) (O.log out.new) (W.log output.old) (W.log output.new) }
     ensures untouched { IfErr result (λ fault. UnlessWriting fault ((out.new ≡ out.old) × (output.new ≡ output.old))) }
 {
-    let mut holding = empty_holding(alloc, configuration, width, height)?;
+    let mut holding = empty_holding(alloc, recordings, configuration, width, height)?;
     let lines = take_copies(alloc, &mut holding, copies)?;
     write_made(out, &holding, output, lines.as_str())
 }
@@ -108,22 +113,23 @@ fn take_readers<R: Source, C: Read, O: Sink, W: Sink>(
 /// An empty holding for a record, which is read whole, and frames of this size.
 fn empty_holding<R: Source>(
     alloc: Global,
+    recordings: Recordings,
     configuration: &mut R,
     width: u32,
     height: u32,
-) -> Result<Holding, CliFault>
+) -> Result<Holding<Recording>, CliFault>
     ensures empty { IfOk result (λ holding. holding ≡ no_slices holding.reel) }
-    ensures reel { IfOk result (λ holding. TakesReel width height (R.log configuration.old) (R.log configuration.new) holding.reel) }
-    ensures err { IfErr result (RecordStops width height (R.log configuration.old) (R.log configuration.new)) }
+    ensures reel { IfOk result (λ holding. TakesReel recordings width height (R.log configuration.old) (R.log configuration.new) holding.reel) }
+    ensures err { IfErr result (ReelStops recordings width height (R.log configuration.old) (R.log configuration.new)) }
 {
     let config = read_file(alloc, configuration, CommandPath::Record)?;
-    Ok(Holding::new(alloc, config.as_slice(), width, height)?)
+    Ok(Holding::of_record(alloc, recordings, config.as_slice(), width, height)?)
 }
 
 /// Takes copies, which are sources, into an empty holding, and adds a line for each.
 fn take_sources<C: Source>(
     alloc: Global,
-    holding: &mut Holding,
+    holding: &mut Holding<Recording>,
     copies: &mut [C],
 ) -> Result<String, CliFault>
     requires empty { holding.old ≡ no_slices holding.old.reel }
@@ -143,7 +149,7 @@ fn take_sources<C: Source>(
 /// The same of readers.
 fn take_copies<C: Read>(
     alloc: Global,
-    holding: &mut Holding,
+    holding: &mut Holding<Recording>,
     copies: &mut [C],
 ) -> Result<String, CliFault>
     requires empty { holding.old ≡ no_slices holding.old.reel }
@@ -164,7 +170,7 @@ fn take_copies<C: Read>(
 /// Takes a copy, before which stand so many others, and adds a line for it.
 fn take_copy<C: Read>(
     alloc: Global,
-    holding: &mut Holding,
+    holding: &mut Holding<Recording>,
     copy: &mut C,
     before: usize,
     lines: &mut String,
@@ -179,7 +185,7 @@ fn take_copy<C: Read>(
 /// The same over a source.
 fn take_copy_of<C: Source>(
     alloc: Global,
-    holding: &mut Holding,
+    holding: &mut Holding<Recording>,
     copy: &mut C,
     before: usize,
     lines: &mut String,

@@ -7,8 +7,9 @@ use crate::stock::{
 use ffv1_bits::remainder;
 use ffv1_hold::{
     FromRead, FromWrite, HoldFault, HoldFileFault, Holding, Join, RestoreFault, TakeAllFault,
-    join_streams, read_hold, write_hold,
+    join_streams, read_hold, read_holding, write_hold,
 };
+use ffv1_holding::Recordings;
 use ffv1_picture::{Decoder, Frame, FrameFault, Partial, TileOutcome, picture, report, write_raw};
 use ffv1_plane::{TileFault, decode_tile};
 use ffv1_range::{Setup, SetupFault};
@@ -225,6 +226,23 @@ pub struct ReadHold<'a> {
 impl Attempt for ReadHold<'_> {
     fn attempt(&mut self, alloc: Global) -> Tried {
         match read_hold(alloc, &mut FromRead::new(self.file)) {
+            Ok(holding) => Tried::Done(remainder_of(&holding)),
+            Err(HoldFileFault::Memory) => Tried::Memory,
+            Err(_) => Tried::Wrong,
+        }
+    }
+}
+
+/// `read_holding` of the file of both copies, as one of any recording.
+#[derive(Drop)]
+pub struct ReadHolding<'a> {
+    /// The file.
+    pub file: &'a [u8],
+}
+
+impl Attempt for ReadHolding<'_> {
+    fn attempt(&mut self, alloc: Global) -> Tried {
+        match read_holding(alloc, Recordings::Any, &mut FromRead::new(self.file)) {
             Ok(holding) => Tried::Done(remainder_of(&holding)),
             Err(HoldFileFault::Memory) => Tried::Memory,
             Err(_) => Tried::Wrong,

@@ -4,9 +4,10 @@ use crate::attempt::{Attempt, Tried};
 use crate::buffer::Buffer;
 use crate::stock::{SIZE, Stock, TORN_LIST, damaged_copies, first_copy, second_copy};
 use ffv1_commands::{
-    CliFault, run_chain, run_decode, run_join, run_mend, run_merge, run_picture, run_report,
+    CliFault, run_any_picture, run_chain, run_decode, run_join, run_mend, run_merge, run_picture, run_report,
     run_restore, run_samples, run_scan, run_setup, run_show, run_splice, run_take,
 };
+use ffv1_holding::Recordings;
 use ffv1_test_frames::{RECORDED, RECORDED_RECORD};
 use std::alloc::Global;
 
@@ -65,6 +66,8 @@ pub enum Command {
     Restore,
     /// `run_picture` of the file of both copies.
     Picture,
+    /// `run_any_picture` of the file of both copies.
+    AnyPicture,
     /// `run_splice` of both damaged copies.
     Splice,
     /// `run_scan` of the frame as one range.
@@ -101,16 +104,18 @@ impl<'a> Run<'a> {
     fn run(&mut self, alloc: Global) -> Result<(), CliFault> {
         let (mut first, mut both) = (self.first_file, self.both_file);
         let Outputs { made, printed } = &mut self.outputs;
+        let profile = Recordings::Profile;
         match self.command {
             Command::Chain => run_chain(alloc, &mut RECORDED.as_slice(), printed),
             Command::Show => show_record(alloc, printed),
             Command::Setup => setup_record(alloc, printed),
             Command::Take => take_both(alloc, made, printed),
-            Command::Join => run_join(alloc, &mut first, &mut [both], made, printed),
-            Command::Merge => run_merge(alloc, &mut first, &mut both, made),
-            Command::Report => run_report(alloc, &mut both, printed),
-            Command::Restore => run_restore(alloc, &mut both, made, printed),
+            Command::Join => run_join(alloc, profile, &mut first, &mut [both], made, printed),
+            Command::Merge => run_merge(alloc, profile, &mut first, &mut both, made),
+            Command::Report => run_report(alloc, profile, &mut both, printed),
+            Command::Restore => run_restore(alloc, profile, &mut both, made, printed),
             Command::Picture => unit(run_picture(alloc, &mut both, made, printed)),
+            Command::AnyPicture => unit(run_any_picture(alloc, &mut both, made, printed)),
             Command::Splice => splice_damaged(alloc, made, printed),
             Command::Scan => scan_frame(alloc, printed),
             Command::Mend => mend_damaged(alloc, made, printed),
@@ -147,6 +152,7 @@ fn take_both(alloc: Global, made: &mut Buffer, printed: &mut Buffer) -> Result<(
     let mut copies = [one.as_slice(), other.as_slice()];
     run_take(
         alloc,
+        Recordings::Profile,
         &mut record,
         SIZE.0,
         SIZE.1,

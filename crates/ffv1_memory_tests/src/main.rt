@@ -17,11 +17,11 @@ mod stock;
 use attempt::{Attempt, Tried};
 use calls::{
     DecodeFrame, DecodeTile, JoinStreams, JoinWith, MakeDecoder, MakeHolding, Picture, ReadHold,
-    ReadSetup, Repair, Report, Restore, Splice, Take, TakeAll, Vote, Weave, WriteHold,
+    ReadHolding, ReadSetup, Repair, Report, Restore, Splice, Take, TakeAll, Vote, Weave, WriteHold,
 };
 use commands::{Command, Run};
 use mending::{Mend, MendStretches, ReadList};
-use playing::{DecodeSlice, MakePlayer, PlayFrame, ReadLayout};
+use playing::{DecodeSlice, MakePlayer, PlayFrame, ReadLayout, ShowHolding};
 use std::io;
 use std::process::ExitCode;
 use stock::Stock;
@@ -58,6 +58,7 @@ fn report_files(rt: &HostRuntime, stock: &Stock) -> io::Result<()> {
     report(rt, "restore", Restore { held })?;
     report(rt, "write_hold", WriteHold { held })?;
     report(rt, "read_hold", ReadHold { file })?;
+    report(rt, "read_holding", ReadHolding { file })?;
     report(rt, "join_streams", JoinStreams::new(stock))
 }
 
@@ -70,6 +71,7 @@ fn report_pictures(rt: &HostRuntime, stock: &Stock) -> io::Result<()> {
     report(rt, "decode_frame", DecodeFrame::new(rt.alloc())?)?;
     let first = &stock.alone.first.holding;
     report(rt, "picture", Picture { held: first })?;
+    report(rt, "show_holding", ShowHolding { held: first })?;
     report(rt, "report", Report { held })
 }
 
@@ -97,7 +99,7 @@ fn report_stretches(rt: &HostRuntime) -> io::Result<()> {
 }
 
 /// The functions of the commands, by their names.
-static COMMANDS: [(&str, Command); 14] = [
+static COMMANDS: [(&str, Command); 15] = [
     ("run_chain", Command::Chain),
     ("run_show", Command::Show),
     ("run_setup", Command::Setup),
@@ -107,6 +109,7 @@ static COMMANDS: [(&str, Command); 14] = [
     ("run_report", Command::Report),
     ("run_restore", Command::Restore),
     ("run_picture", Command::Picture),
+    ("run_any_picture", Command::AnyPicture),
     ("run_splice", Command::Splice),
     ("run_scan", Command::Scan),
     ("run_mend", Command::Mend),

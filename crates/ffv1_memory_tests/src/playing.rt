@@ -3,8 +3,9 @@ use crate::attempt::{Attempt, Tried};
 use crate::buffer::Buffer;
 use crate::stock::SIZE;
 use ffv1_devices::FromWrite;
+use ffv1_hold::Holding;
 use ffv1_layout::{LayoutFault, PlacedSlice, read_layout};
-use ffv1_player::{Player, Samples, SamplesFault, write_samples};
+use ffv1_player::{Player, Samples, SamplesFault, Shown, ShownTile, show_holding, write_samples};
 use ffv1_range::{Recording, SetupFault};
 use ffv1_samples::{SliceFault, SlicePicture, decode_slice};
 use ffv1_test_frames::{RECORDED, RECORDED_RECORD};
@@ -140,6 +141,30 @@ impl Attempt for PlayFrame {
             Ok(frame) => samples_reported(&frame),
             Err(SamplesFault::Memory) => Tried::Memory,
             Err(_) => Tried::Wrong,
+        }
+    }
+}
+
+/// `show_holding` of the first copy.
+#[derive(Drop)]
+pub struct ShowHolding<'a> {
+    /// The holding.
+    pub held: &'a Holding,
+}
+
+impl Attempt for ShowHolding<'_> {
+    fn attempt(&mut self, alloc: Global) -> Tried {
+        let Ok(Shown { samples, tiles }) = show_holding(alloc, self.held) else {
+            return Tried::Memory;
+        };
+        match tiles.as_slice() {
+            [
+                ShownTile::Missing,
+                ShownTile::Decoded(_),
+                ShownTile::Missing,
+                ShownTile::Decoded(_),
+            ] => samples_reported(&samples),
+            _ => Tried::Wrong,
         }
     }
 }

@@ -3,6 +3,7 @@
 use crate::buffer::Buffer;
 use ebml_crc::crc32;
 use ffv1_hold::{FromWrite, Holding, write_hold};
+use ffv1_range::Recorded;
 use ffv1_test_frames::{RECORDED, RECORDED_RECORD};
 use std::alloc::Global;
 use std::io;
@@ -72,7 +73,7 @@ pub fn holding_of(alloc: Global, copies: &[&[u8]]) -> io::Result<Holding> {
 }
 
 /// The file of a holding; no bytes where it could not be written.
-pub fn file_of(holding: &Holding) -> Buffer {
+pub fn file_of<S: Recorded>(holding: &Holding<S>) -> Buffer {
     let mut sink = FromWrite::new(Buffer::new());
     match write_hold(holding, &mut sink) {
         Ok(()) => sink.into_inner(),
@@ -81,7 +82,7 @@ pub fn file_of(holding: &Holding) -> Buffer {
 }
 
 /// The remainder of the file of a holding.
-pub fn remainder_of(holding: &Holding) -> u32 {
+pub fn remainder_of<S: Recorded>(holding: &Holding<S>) -> u32 {
     file_of(holding).remainder()
 }
 

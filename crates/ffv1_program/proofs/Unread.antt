@@ -2,6 +2,8 @@
 use Rattle.std.proofs.Common.{◌≡◌, ◌+◌, ◌∙◌, ap, Bool, List, [], ◌∷◌, ℕ, zero, suc, map, Bor, Option, Result, Ok, Err, IfErr, add-one, inl, inr, subst, sym, refl}
 use Rattle.std.specs.List.{AllZip}
 use Rattle.ffv1_devices.specs.Logs.{ReadLog, WriteLog}
+use Rattle.ffv1_holding.specs.declared.recordings.Recordings.{Recordings}
+use Rattle.ffv1_holding.specs.declared.recordings.Recordings.TheVariants.{Profile, Any}
 use Rattle.ffv1_hold.specs.FileFaults.{ReadsFile}
 use Rattle.ffv1_hold.specs.declared.file_fault.HoldFileFault.TheVariants as files
 use Rattle.ffv1_commands.specs.Devices.{GivesUpWithin, IsUnread}
@@ -14,6 +16,7 @@ use Rattle.ffv1_commands.specs.DecodeText.{ReportsDecode}
 use Rattle.ffv1_commands.specs.ReportedText.{ReportsReport}
 use Rattle.ffv1_commands.specs.RestoreText.{ReportsRestore}
 use Rattle.ffv1_commands.specs.PictureText.{ReportsPicture}
+use Rattle.ffv1_commands.specs.AnyPictureText.{ReportsAnyPicture}
 use Rattle.ffv1_commands.specs.InTurn.{WentAt, IfCopyUnread}
 use Rattle.ffv1_commands.specs.SpliceText.{ReportsSplice}
 use Rattle.ffv1_commands.specs.TakeText.{ReportsTake}
@@ -57,31 +60,40 @@ module _ {T : Type 0} (a b : ReadLog) (x y : WriteLog) where
 
 -- ---- holding files
 
-unheld : (a b : ReadLog) (path : CommandPath) → HoldingStops (paths.Hold 0) (faults.Read path) a b → ReadsFile (Err files.Read) a b
-unheld a b path (files.Read, is, stops) = stops
-unheld a b path (files.Write, is, stops) = absurd (cc)
-unheld a b path (files.Memory, is, stops) = absurd (cc)
-unheld a b path (fault, is, stops) = absurd (cc)
+unheld : (recordings : Recordings) (a b : ReadLog) (path : CommandPath) → HoldingStops recordings (paths.Hold 0) (faults.Read path) a b
+    → IsUnheld recordings a b
+unheld recordings a b path (files.Read, is, stops) = stops
+unheld recordings a b path (files.Write, is, stops) = absurd (cc)
+unheld recordings a b path (files.Memory, is, stops) = absurd (cc)
+unheld recordings a b path (fault, is, stops) = absurd (cc)
 
-module _ (a b : ReadLog) (x y : WriteLog) where
-  pub report_unread : {T : Type 0} (r : Result T CliFault) → ReportsReport r a b x y → IfErr r (IfUnread (λ _. ReadsFile (Err files.Read) a b))
+module _ (recordings : Recordings) (a b : ReadLog) (x y : WriteLog) where
+  pub report_unread : {T : Type 0} (r : Result T CliFault) → ReportsReport recordings r a b x y → IfErr r (IfUnread (λ _. IsUnheld recordings a b))
   report_unread (Ok value) reported = tt
-  report_unread (Err (faults.Read path)) (inl (stops, kept)) = unheld a b path stops
+  report_unread (Err (faults.Read path)) (inl (stops, kept)) = unheld recordings a b path stops
   report_unread (Err (faults.Read path)) (inr (h, read, breaks)) = absurd breaks
   report_unread (Err fault) reported = tt
 
-module _ (a b : ReadLog) (o o' x y : WriteLog) where
-  pub restore_unread : {T : Type 0} (r : Result T CliFault) → ReportsRestore r a b o o' x y → IfErr r (IfUnread (λ _. ReadsFile (Err files.Read) a b))
+module _ (recordings : Recordings) (a b : ReadLog) (o o' x y : WriteLog) where
+  pub restore_unread : {T : Type 0} (r : Result T CliFault) → ReportsRestore recordings r a b o o' x y
+      → IfErr r (IfUnread (λ _. IsUnheld recordings a b))
   restore_unread (Ok value) reported = tt
-  restore_unread (Err (faults.Read path)) (inl (stops, kept)) = unheld a b path stops
+  restore_unread (Err (faults.Read path)) (inl (stops, kept)) = unheld recordings a b path stops
   restore_unread (Err (faults.Read path)) (inr (h, read, breaks)) = absurd breaks
   restore_unread (Err fault) reported = tt
 
-  pub picture_unread : (r : Result Bool CliFault) → ReportsPicture r a b o o' x y → IfErr r (IfUnread (λ _. ReadsFile (Err files.Read) a b))
+module _ (a b : ReadLog) (o o' x y : WriteLog) where
+  pub picture_unread : (r : Result Bool CliFault) → ReportsPicture r a b o o' x y → IfErr r (IfUnread (λ _. IsUnheld Profile a b))
   picture_unread (Ok value) reported = tt
-  picture_unread (Err (faults.Read path)) (inl (stops, kept)) = unheld a b path stops
+  picture_unread (Err (faults.Read path)) (inl (stops, kept)) = unheld Profile a b path stops
   picture_unread (Err (faults.Read path)) (inr (h, read, breaks)) = absurd breaks
   picture_unread (Err fault) reported = tt
+
+  pub any_picture_unread : (r : Result Bool CliFault) → ReportsAnyPicture r a b o o' x y → IfErr r (IfUnread (λ _. IsUnheld Any a b))
+  any_picture_unread (Ok value) reported = tt
+  any_picture_unread (Err (faults.Read path)) (inl (stops, kept)) = unheld Any a b path stops
+  any_picture_unread (Err (faults.Read path)) (inr (h, read, breaks)) = absurd breaks
+  any_picture_unread (Err fault) reported = tt
 
 -- ---- two files
 
@@ -138,18 +150,18 @@ module _ {Device : Type 0} (is_at : List ℕ → Device → Type 0) (log : Devic
     abbrev Untaken : CommandPath → Type 0
     Untaken = IsUntaken (SomeSource is_at log) word (words_of words)
 
-    pub take_unread : {T : Type 0} (remaining : Device → Option (List ℕ)) (width height : ℕ) (o o' x y : WriteLog) (r : Result T CliFault)
-        → ReportsTake r remaining width height (log a) (log b) old new o o' x y → IfErr r (IfCopyUnread GivesUpWithin (map log old) (map log new))
+    pub take_unread : {T : Type 0} (recordings : Recordings) (remaining : Device → Option (List ℕ)) (width height : ℕ) (o o' x y : WriteLog) (r : Result T CliFault)
+        → ReportsTake recordings r remaining width height (log a) (log b) old new o o' x y → IfErr r (IfCopyUnread GivesUpWithin (map log old) (map log new))
         → IfErr r (IfUnread Untaken)
-    take_unread remaining width height o o' x y (Ok value) reported unread = tt
-    take_unread remaining width height o o' x y (Err (faults.Read path)) (inl ((same, not_read), as_before, kept)) unread = subst Untaken (sym same) (a, b, at, not_read)
-    take_unread remaining width height o o' x y (Err (faults.Read path)) (inr (inl (reel, read, stops, kept))) unread =
+    take_unread recordings remaining width height o o' x y (Ok value) reported unread = tt
+    take_unread recordings remaining width height o o' x y (Err (faults.Read path)) (inl ((same, not_read), as_before, kept)) unread = subst Untaken (sym same) (a, b, at, not_read)
+    take_unread recordings remaining width height o o' x y (Err (faults.Read path)) (inr (inl (reel, read, stops, kept))) unread =
         let same : path ≡ paths.Copy stops.index = stops.stopped.1.0 in
         subst Untaken (sym same) (went_held is_at log GivesUpWithin stops.index words old new all
         (subst (λ p. IfCopyUnread GivesUpWithin (map log old) (map log new) (faults.Read p)) same unread))
-    take_unread remaining width height o o' x y (Err (faults.Read path)) (inr (inr (held, text, taken, inl (breaks, kept)))) unread = absurd breaks
-    take_unread remaining width height o o' x y (Err (faults.Read path)) (inr (inr (held, text, taken, inr (is, has, wrote, printed)))) unread = absurd (cc)
-    take_unread remaining width height o o' x y (Err fault) reported unread = tt
+    take_unread recordings remaining width height o o' x y (Err (faults.Read path)) (inr (inr (held, text, taken, inl (breaks, kept)))) unread = absurd breaks
+    take_unread recordings remaining width height o o' x y (Err (faults.Read path)) (inr (inr (held, text, taken, inr (is, has, wrote, printed)))) unread = absurd (cc)
+    take_unread recordings remaining width height o o' x y (Err fault) reported unread = tt
 
     abbrev Unplayed : CommandPath → Type 0
     Unplayed = IsUnplayed (SomeSource is_at log) word (words_of words)
@@ -171,29 +183,29 @@ module _ {Device : Type 0} (is_at : List ℕ → Device → Type 0) (log : Devic
 -- ---- holding files that are read in turn
 
 -- the file that was not read is the one at this path
-held_path : (path named : CommandPath) (a b : ReadLog) → HoldingStops path (faults.Read named) a b → named ≡ path
-held_path path named a b (files.Read, is, stops) = cc
-held_path path named a b (files.Write, is, stops) = absurd (cc)
-held_path path named a b (files.Memory, is, stops) = absurd (cc)
-held_path path named a b (fault, is, stops) = absurd (cc)
+held_path : (recordings : Recordings) (path named : CommandPath) (a b : ReadLog) → HoldingStops recordings path (faults.Read named) a b → named ≡ path
+held_path recordings path named a b (files.Read, is, stops) = cc
+held_path recordings path named a b (files.Write, is, stops) = absurd (cc)
+held_path recordings path named a b (files.Memory, is, stops) = absurd (cc)
+held_path recordings path named a b (fault, is, stops) = absurd (cc)
 
-module _ {Device : Type 0} (is_at : List ℕ → Device → Type 0) (log : Device → ReadLog) (words : List (Bor (List ℕ))) (old new : List Device)
+module _ {Device : Type 0} (recordings : Recordings) (is_at : List ℕ → Device → Type 0) (log : Device → ReadLog) (words : List (Bor (List ℕ))) (old new : List Device)
     (all : AllZip (λ word device. is_at word.now device) words old) (word : List ℕ) (a b : Device) (at : is_at word a) where
   abbrev Unjoined : CommandPath → Type 0
-  Unjoined = IsUnjoined (SomeSource is_at log) word (words_of words)
+  Unjoined = IsUnjoined recordings (SomeSource is_at log) word (words_of words)
 
-  unjoined_first : (path : CommandPath) → HoldingStops (paths.Hold 0) (faults.Read path) (log a) (log b) → Unjoined path
-  unjoined_first path stops = subst Unjoined (sym (held_path (paths.Hold 0) path _ _ stops)) (a, b, at, unheld (log a) (log b) path stops)
+  unjoined_first : (path : CommandPath) → HoldingStops recordings (paths.Hold 0) (faults.Read path) (log a) (log b) → Unjoined path
+  unjoined_first path stops = subst Unjoined (sym (held_path recordings (paths.Hold 0) path _ _ stops)) (a, b, at, unheld recordings (log a) (log b) path stops)
 
-  unjoined_later : (path : CommandPath) (i : ℕ) (c d : ReadLog) → HoldingStops (paths.Hold (i + 1)) (faults.Read path) c d
-      → IfLaterUnread (map log old) (map log new) (faults.Read path) → Unjoined path
+  unjoined_later : (path : CommandPath) (i : ℕ) (c d : ReadLog) → HoldingStops recordings (paths.Hold (i + 1)) (faults.Read path) c d
+      → IfLaterUnread recordings (map log old) (map log new) (faults.Read path) → Unjoined path
   unjoined_later path i c d stops unread =
-      let same : path ≡ paths.Hold (suc i) = held_path (paths.Hold (i + 1)) path c d stops ∙ ap paths.Hold (add-one i) in
-      subst Unjoined (sym same) (went_held is_at log IsUnheld i words old new all
-      (subst (λ p. IfLaterUnread (map log old) (map log new) (faults.Read p)) same unread))
+      let same : path ≡ paths.Hold (suc i) = held_path recordings (paths.Hold (i + 1)) path c d stops ∙ ap paths.Hold (add-one i) in
+      subst Unjoined (sym same) (went_held is_at log (IsUnheld recordings) i words old new all
+      (subst (λ p. IfLaterUnread recordings (map log old) (map log new) (faults.Read p)) same unread))
 
   pub join_unread : {T : Type 0} (remaining : Device → Option (List ℕ)) (o o' x y : WriteLog) (r : Result T CliFault)
-      → ReportsJoin r remaining (log a) (log b) old new o o' x y → IfErr r (IfLaterUnread (map log old) (map log new)) → IfErr r (IfUnread Unjoined)
+      → ReportsJoin recordings r remaining (log a) (log b) old new o o' x y → IfErr r (IfLaterUnread recordings (map log old) (map log new)) → IfErr r (IfUnread Unjoined)
   join_unread remaining o o' x y (Ok value) reported unread = tt
   join_unread remaining o o' x y (Err (faults.Read path)) (inl (inl (inl stops, same), kept)) unread = unjoined_first path stops
   join_unread remaining o o' x y (Err (faults.Read path)) (inl (inl (inr (is, read), same), kept)) unread = absurd (cc)
@@ -207,13 +219,13 @@ module _ {Device : Type 0} (is_at : List ℕ → Device → Type 0) (log : Devic
 
 -- ---- two streams that are joined
 
-module _ {Device : Type 0} (is_at : List ℕ → Device → Type 0) (log : Device → ReadLog) (unopened : List ℕ → Type 0) (left right : List ℕ)
+module _ {Device : Type 0} (recordings : Recordings) (is_at : List ℕ → Device → Type 0) (log : Device → ReadLog) (unopened : List ℕ → Type 0) (left right : List ℕ)
     (a b c d : Device) (at : is_at left a) (at_too : is_at right c) where
   abbrev Unmerged : CommandPath → Type 0
   Unmerged = IsUnmerged unopened (SomeSource is_at log) left right
 
   pub merge_unread : {T : Type 0} (x y : WriteLog) (r : Result T CliFault)
-      → ReportsMerge r (record { left = log a; right = log c; sink = x }) (record { left = log b; right = log d; sink = y }) → IfErr r (IfUnread Unmerged)
+      → ReportsMerge recordings r (record { left = log a; right = log c; sink = x }) (record { left = log b; right = log d; sink = y }) → IfErr r (IfUnread Unmerged)
   merge_unread x y (Ok value) reported = tt
   merge_unread x y (Err (faults.Read path)) (files.Read, is, stops) =
       let same : path ≡ paths.Inputs = cc in

@@ -23,6 +23,7 @@ pub use Rattle.ffv1_commands.specs.MergeText
 pub use Rattle.ffv1_commands.specs.ReportedText
 pub use Rattle.ffv1_commands.specs.RestoreText
 pub use Rattle.ffv1_commands.specs.PictureText
+pub use Rattle.ffv1_commands.specs.AnyPictureText
 pub use Rattle.ffv1_commands.specs.SpliceText
 pub use Rattle.ffv1_commands.specs.MendText
 pub use Rattle.ffv1_commands.specs.DecodeText

@@ -1,5 +1,6 @@
 -- Why `merge` stopped, before its files are read and after that.
 use Rattle.std.specs.Prelude.{ℕ, ◌≡◌, zero, suc, ◌⊎◌, List, Option}
+use Rattle.ffv1_holding.specs.declared.recordings.Recordings.{Recordings}
 use Rattle.ffv1_hold.specs.declared.file_fault.HoldFileFault.TheVariants as files
 use Rattle.ffv1_commands.specs.MergeText.{IsMergeFault, MergeLeaves}
 use Rattle.ffv1_commands.specs.declared.fault.CliFault.{CliFault}
@@ -24,8 +25,8 @@ IfNotBegun _ P = Unit {0}
 
 -- Why two files were not merged, and what that left in the file that is made: it is refused, as it is one of the inputs; or one of these was
 -- not opened; or joining them stopped.
-abbrev pub StopsMerging : (refused : Type 0) → (unopened : List ℕ → Type 0) → (left_word right_word : List ℕ)
+abbrev pub StopsMerging : Recordings → (refused : Type 0) → (unopened : List ℕ → Type 0) → (left_word right_word : List ℕ)
     → (left right out_before out_after : Option (List ℕ)) → CliFault → Type 0
-StopsMerging refused unopened left_word right_word left right out_before out_after fault =
+StopsMerging recordings refused unopened left_word right_word left right out_before out_after fault =
     (refused × (fault ≡ faults.Write paths.Out)) ⊎ IsUnopened unopened left_word right_word fault
-    ⊎ (IsMergeFault left right fault × MergeLeaves left right out_before out_after fault)
+    ⊎ (IsMergeFault recordings left right fault × MergeLeaves left right out_before out_after fault)

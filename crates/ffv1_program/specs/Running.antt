@@ -3,6 +3,8 @@ use Rattle.std.specs.Prelude.{ℕ, ◌≡◌, ◌⊎◌, List, [], ◌∷◌, ma
 use Rattle.std.specs.Borrow.{Bor}
 use Rattle.std.specs.Io.KnownBytes.{Appends}
 use Rattle.ffv1_devices.specs.Logs.{ReadLog}
+use Rattle.ffv1_holding.specs.declared.recordings.Recordings.{Recordings}
+use Rattle.ffv1_holding.specs.declared.recordings.Recordings.TheVariants.{Profile, Any}
 use Rattle.ffv1_help.specs.Texts.{help_text, version_text}
 use Rattle.ffv1_help.specs.Writing.{WritesFront}
 use Rattle.ffv1_commands.specs.Devices.{UnlessWriting, IfOfRecord, IsWrittenIfTouched, IsUnread}
@@ -18,6 +20,7 @@ use Rattle.ffv1_commands.specs.MergeText.{MergesFiles}
 use Rattle.ffv1_commands.specs.ReportedText.{ReportsFile, ReportStops}
 use Rattle.ffv1_commands.specs.RestoreText.{RestoresFile, RestoreStops}
 use Rattle.ffv1_commands.specs.PictureText.{ShowsFile, PictureStops}
+use Rattle.ffv1_commands.specs.AnyPictureText.{ShowsAnyFile, AnyPictureStops}
 use Rattle.ffv1_commands.specs.SpliceText.{SplicesCopies}
 use Rattle.ffv1_commands.specs.MendText.{MendsFiles}
 use Rattle.ffv1_commands.specs.DecodeText.{DecodesFile, DecodeStops}
@@ -67,21 +70,32 @@ abbrev pub StopsPrinting : (text : List ℕ) (printed_before printed_after : Opt
 StopsPrinting text printed_before printed_after fault =
     (fault ≡ faults.Write paths.StandardOutput) × WritesFront printed_before printed_after text
 
--- The files that are read, by their words: their bytes, if they are known; what holds of one that was not opened; and of one of which a
+-- What `picture` did, and why it stopped, of holdings of these recordings.
+abbrev pub ShowsFileOf : Recordings → (input out_before out_after printed_before printed_after : Option (List ℕ)) → Bool → Type 0
+ShowsFileOf Profile input out_before out_after printed_before printed_after whole = ShowsFile input out_before out_after printed_before printed_after whole
+ShowsFileOf Any input out_before out_after printed_before printed_after whole = ShowsAnyFile input out_before out_after printed_before printed_after whole
+
+abbrev pub PictureStopsOf : Recordings → (input out_before out_after printed_before printed_after : Option (List ℕ)) → CliFault → Type 0
+PictureStopsOf Profile input out_before out_after printed_before printed_after fault = PictureStops input out_before out_after printed_before printed_after fault
+PictureStopsOf Any input out_before out_after printed_before printed_after fault = AnyPictureStops input out_before out_after printed_before printed_after fault
+
+-- The recordings whose holdings are taken, and the files that are read, by their words: their bytes, if they are known; what holds of one that was not opened; and of one of which a
 -- source went so, a source that was opened before that, or a source with a buffer.
 pub record FilesRead : Type 1 where
+  pub recordings : Recordings
   pub bytes_at : List ℕ → Option (List ℕ)
   pub IsUnopened : List ℕ → Type 0
   pub OpenedWent : (ReadLog → ReadLog → Type 0) → List ℕ → Type 0
   pub SourceWent : (ReadLog → ReadLog → Type 0) → List ℕ → Type 0
   pub BufferedWent : (ReadLog → ReadLog → Type 0) → List ℕ → Type 0
 
--- those of a file system, by its sources, those with a buffer, and its openings
-abbrev pub files_of : {Device Buffered : Type 0} → (bytes_at : List ℕ → Option (List ℕ)) → (cannot_open_at : List ℕ → Type 0)
+-- those of these recordings and a file system, by its sources, those with a buffer, and its openings
+abbrev pub files_of : {Device Buffered : Type 0} → Recordings → (bytes_at : List ℕ → Option (List ℕ)) → (cannot_open_at : List ℕ → Type 0)
     → (is_opened_at is_device_at : List ℕ → Device → Type 0) → (log : Device → ReadLog)
     → (is_buffered_at : List ℕ → Buffered → Type 0) → (buffered_log : Buffered → ReadLog) → FilesRead
-files_of bytes_at cannot_open_at is_opened_at is_device_at log is_buffered_at buffered_log =
+files_of recordings bytes_at cannot_open_at is_opened_at is_device_at log is_buffered_at buffered_log =
     record {
+      recordings = recordings;
       bytes_at = bytes_at;
       IsUnopened = cannot_open_at;
       OpenedWent = SomeSource is_opened_at log;
@@ -169,9 +183,9 @@ promise_of files made printed (Setup recording) =
     }
 promise_of files made printed (Take recording out copies) =
     record {
-      Does = λ returned. (returned ≡ true) × TakesCopies (files.bytes_at recording.record.now) recording.width recording.height
+      Does = λ returned. (returned ≡ true) × TakesCopies files.recordings (files.bytes_at recording.record.now) recording.width recording.height
           (bytes_of_all files.bytes_at copies.items) made.before made.after printed.before printed.after;
-      Stops = TakeStops (files.bytes_at recording.record.now) recording.width recording.height (bytes_of_all files.bytes_at copies.items)
+      Stops = TakeStops files.recordings (files.bytes_at recording.record.now) recording.width recording.height (bytes_of_all files.bytes_at copies.items)
           made.before made.after printed.before printed.after;
       Keeps = λ fault. UnlessWriting fault (made.IsKept × printed.IsKept);
       Unread = IfUnread (IsUntaken files.SourceWent recording.record.now (words_of copies.items));
@@ -180,19 +194,19 @@ promise_of files made printed (Take recording out copies) =
     }
 promise_of files made printed (Join out first others) =
     record {
-      Does = λ returned. (returned ≡ true) × JoinsFiles (files.bytes_at first.now ∷ bytes_of_all files.bytes_at others.items)
+      Does = λ returned. (returned ≡ true) × JoinsFiles files.recordings (files.bytes_at first.now ∷ bytes_of_all files.bytes_at others.items)
           made.before made.after printed.before printed.after;
-      Stops = JoinStops (files.bytes_at first.now ∷ bytes_of_all files.bytes_at others.items)
+      Stops = JoinStops files.recordings (files.bytes_at first.now ∷ bytes_of_all files.bytes_at others.items)
           made.before made.after printed.before printed.after;
       Keeps = λ fault. UnlessWriting fault (made.IsKept × printed.IsKept);
-      Unread = IfUnread (IsUnjoined files.BufferedWent first.now (words_of others.items));
+      Unread = IfUnread (IsUnjoined files.recordings files.BufferedWent first.now (words_of others.items));
       Refuses = λ _. Unit {0};
       Leaves = λ _ _. Unit {0};
     }
 promise_of files made printed (Merge out left right) =
     record {
-      Does = λ returned. (returned ≡ true) × MergesFiles (files.bytes_at left.now) (files.bytes_at right.now) made.before made.after;
-      Stops = StopsMerging (IsEither out.now left.now right.now) files.IsUnopened left.now right.now (files.bytes_at left.now) (files.bytes_at right.now)
+      Does = λ returned. (returned ≡ true) × MergesFiles files.recordings (files.bytes_at left.now) (files.bytes_at right.now) made.before made.after;
+      Stops = StopsMerging files.recordings (IsEither out.now left.now right.now) files.IsUnopened left.now right.now (files.bytes_at left.now) (files.bytes_at right.now)
           made.before made.after;
       Keeps = λ fault. IfNotBegun fault made.IsKept;
       Unread = IfUnread (IsUnmerged files.IsUnopened files.OpenedWent left.now right.now);
@@ -201,28 +215,28 @@ promise_of files made printed (Merge out left right) =
     }
 promise_of files made printed (Report file) =
     record {
-      Does = λ returned. (returned ≡ true) × ReportsFile (files.bytes_at file.now) printed.before printed.after;
-      Stops = ReportStops (files.bytes_at file.now) printed.before printed.after;
+      Does = λ returned. (returned ≡ true) × ReportsFile files.recordings (files.bytes_at file.now) printed.before printed.after;
+      Stops = ReportStops files.recordings (files.bytes_at file.now) printed.before printed.after;
       Keeps = λ fault. UnlessWriting fault printed.IsKept;
-      Unread = IfUnread (λ _. files.BufferedWent IsUnheld file.now);
+      Unread = IfUnread (λ _. files.BufferedWent (IsUnheld files.recordings) file.now);
       Refuses = λ _. Unit {0};
       Leaves = λ Made Printed. Made;
     }
 promise_of files made printed (Restore file out) =
     record {
-      Does = λ returned. (returned ≡ true) × RestoresFile (files.bytes_at file.now) made.before made.after printed.before printed.after;
-      Stops = RestoreStops (files.bytes_at file.now) made.before made.after printed.before printed.after;
+      Does = λ returned. (returned ≡ true) × RestoresFile files.recordings (files.bytes_at file.now) made.before made.after printed.before printed.after;
+      Stops = RestoreStops files.recordings (files.bytes_at file.now) made.before made.after printed.before printed.after;
       Keeps = λ fault. UnlessWriting fault (made.IsKept × printed.IsKept);
-      Unread = IfUnread (λ _. files.BufferedWent IsUnheld file.now);
+      Unread = IfUnread (λ _. files.BufferedWent (IsUnheld files.recordings) file.now);
       Refuses = λ _. Unit {0};
       Leaves = λ _ _. Unit {0};
     }
 promise_of files made printed (Picture file out) =
     record {
-      Does = ShowsFile (files.bytes_at file.now) made.before made.after printed.before printed.after;
-      Stops = PictureStops (files.bytes_at file.now) made.before made.after printed.before printed.after;
+      Does = ShowsFileOf files.recordings (files.bytes_at file.now) made.before made.after printed.before printed.after;
+      Stops = PictureStopsOf files.recordings (files.bytes_at file.now) made.before made.after printed.before printed.after;
       Keeps = λ fault. UnlessWriting fault (made.IsKept × printed.IsKept);
-      Unread = IfUnread (λ _. files.BufferedWent IsUnheld file.now);
+      Unread = IfUnread (λ _. files.BufferedWent (IsUnheld files.recordings) file.now);
       Refuses = λ _. Unit {0};
       Leaves = λ _ _. Unit {0};
     }

@@ -2,6 +2,7 @@
 -- file system has its own sources, and no other can be named.
 use Rattle.std.specs.Prelude.{ℕ, ◌≡◌, zero, suc, ◌⊎◌, List, Some}
 use Rattle.std.specs.List.{slice_get}
+use Rattle.ffv1_holding.specs.declared.recordings.Recordings.{Recordings}
 use Rattle.ffv1_devices.specs.Logs.{ReadLog}
 use Rattle.ffv1_devices.specs.Exact.{StopsReading}
 use Rattle.ffv1_commands.specs.Devices.{IsGivenUp, GivesUpWithin, IsUnread}
@@ -48,10 +49,10 @@ IsUntaken SourceWent record' copies (paths.Copy place) = HoldsAt (SourceWent Giv
 IsUntaken SourceWent record' copies _ = ⊥
 
 -- The first file was not read, or one of those after it.
-abbrev pub IsUnjoined : (BufferedWent : (ReadLog → ReadLog → Type 0) → List ℕ → Type 0) → (first : List ℕ) → (others : List (List ℕ)) → CommandPath → Type 0
-IsUnjoined BufferedWent first others (paths.Hold zero) = BufferedWent IsUnheld first
-IsUnjoined BufferedWent first others (paths.Hold (suc place)) = HoldsAt (BufferedWent IsUnheld) others place
-IsUnjoined BufferedWent first others _ = ⊥
+abbrev pub IsUnjoined : Recordings → (BufferedWent : (ReadLog → ReadLog → Type 0) → List ℕ → Type 0) → (first : List ℕ) → (others : List (List ℕ)) → CommandPath → Type 0
+IsUnjoined recordings BufferedWent first others (paths.Hold zero) = BufferedWent (IsUnheld recordings) first
+IsUnjoined recordings BufferedWent first others (paths.Hold (suc place)) = HoldsAt (BufferedWent (IsUnheld recordings)) others place
+IsUnjoined recordings BufferedWent first others _ = ⊥
 
 -- A file was not opened, or one of both was not read once they were.
 abbrev pub IsUnmerged : (IsUnopened : List ℕ → Type 0) → (OpenedWent : (ReadLog → ReadLog → Type 0) → List ℕ → Type 0) → (left right : List ℕ)

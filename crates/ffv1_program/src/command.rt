@@ -11,6 +11,7 @@ use crate::stretches::mend_files;
 use ffv1_commands::{CliFault, CommandPath};
 use ffv1_devices::WriteFailed;
 use ffv1_help::{run_help, run_version};
+use ffv1_holding::Recordings;
 use ffv1_words::Words;
 use std::alloc::Global;
 use std::io::Write;
@@ -53,14 +54,15 @@ fn all_printed(printed: Result<(), WriteFailed>) -> Result<bool, CliFault>
     }
 }
 
-/// Runs a command on the files that its words name; `made` is the one that it makes. Returns `false` where `picture` wrote its file and
-/// some tile has no samples, or `splice` its own and not all of the frame is given back, or `mend` its own and a stretch is missing,
+/// Runs a command on the files that its words name, and takes holdings of these recordings; `made` is the one that it makes. Returns `false` where `picture` wrote its file and
+/// some tile has no samples, or, of any recording, a slice that does not end as an encoder ends it, or `splice` its own and not all of the frame is given back, or `mend` its own and a stretch is missing,
 /// disputed, open or alone, or `samples` its own and a slice does not end as an encoder ends it, or `scan` found a range that is not whole
 /// with all its links passing; else `true`.
 ///
 /// It stops where the command does. A command that makes no file leaves `made` untouched.
 pub fn run<'a, F: FileSystem<'a>, O: MakeFile, W: Write>(
     alloc: Global,
+    recordings: Recordings,
     files: &F,
     words: &Words<'a>,
     made: &mut O,
@@ -68,7 +70,7 @@ pub fn run<'a, F: FileSystem<'a>, O: MakeFile, W: Write>(
 ) -> Result<bool, CliFault>
     requires { O.is_unmade_at made.old (out_word words.now) }
     ensures { RunsCommand
-        (files_of (F.bytes_at files.now) (F.cannot_open_at files.now) (F.is_opened_at files.now) (F.is_device_at files.now) F.Device.log
+        (files_of recordings (F.bytes_at files.now) (F.cannot_open_at files.now) (F.is_opened_at files.now) (F.is_device_at files.now) F.Device.log
         (F.is_buffered_at files.now) F.Buffered.log)
         (made_by O.contents O.is_made made.old made.new) (printed_by W.contents output.old output.new) words.now result }
 {
@@ -81,16 +83,18 @@ pub fn run<'a, F: FileSystem<'a>, O: MakeFile, W: Write>(
             recording,
             copies,
             ..
-        } => all_done(take_files(alloc, files, recording, copies, made, output)),
+        } => all_done(take_files(alloc, recordings, files, recording, copies, made, output)),
         Words::Join { first, others, .. } => {
-            all_done(join_files(alloc, files, first, others, made, output))
+            all_done(join_files(alloc, recordings, files, first, others, made, output))
         }
         Words::Merge { out, left, right } => all_done(merge_files(
-            alloc, files, left, right, out, made,
+            alloc, recordings, files, left, right, out, made,
         )),
-        Words::Report { file } => all_done(report_file(alloc, files, file, output)),
-        Words::Restore { file, .. } => all_done(restore_file(alloc, files, file, made, output)),
-        Words::Picture { file, .. } => picture_file(alloc, files, file, made, output),
+        Words::Report { file } => all_done(report_file(alloc, recordings, files, file, output)),
+        Words::Restore { file, .. } => all_done(restore_file(
+            alloc, recordings, files, file, made, output,
+        )),
+        Words::Picture { file, .. } => picture_file(alloc, recordings, files, file, made, output),
         Words::Splice { copies, .. } => splice_files(alloc, files, copies, made, output),
         Words::Mend { list, out, copies } => {
             mend_files(alloc, files, list, copies, out, made, output)

@@ -2,6 +2,7 @@
 //! word is of the file that it makes.
 ghost use Rattle.std.specs.Prelude.{ℕ, List};
 ghost use Rattle.std.specs.Borrow.{Bor};
+ghost use Rattle.ffv1_holding.specs.declared.recordings.Recordings.{Recordings};
 ghost use Rattle.ffv1_words.specs.declared.words.Words.TheVariants.{Chain, Scan, Show, Setup, Splice};
 ghost use Rattle.ffv1_program.specs.Running.{KeepsPromise, files_of, made_by, printed_by};
 ghost use Rattle.ffv1_program.specs.Inner.Calls.{all_done, nothing_written};
@@ -23,8 +24,8 @@ pub(crate) fn chain_file<'a, F: FileSystem<'a>, W: Write>(
     frame: &'a str,
     output: &mut W,
 ) -> Result<(), CliFault>
-    ensures { KeepsPromise
-        (files_of (F.bytes_at files.now) (F.cannot_open_at files.now) (F.is_opened_at files.now) (F.is_device_at files.now) F.Device.log
+    ensures { (recordings : Recordings) → KeepsPromise
+        (files_of recordings (F.bytes_at files.now) (F.cannot_open_at files.now) (F.is_opened_at files.now) (F.is_device_at files.now) F.Device.log
         (F.is_buffered_at files.now) F.Buffered.log)
         nothing_written (printed_by W.contents output.old output.new)
         (Chain frame.entry) (all_done result) }
@@ -46,8 +47,8 @@ pub(crate) fn scan_files<'a, F: FileSystem<'a>, W: Write>(
     file: &'a str,
     output: &mut W,
 ) -> Result<bool, CliFault>
-    ensures { KeepsPromise
-        (files_of (F.bytes_at files.now) (F.cannot_open_at files.now) (F.is_opened_at files.now) (F.is_device_at files.now) F.Device.log
+    ensures { (recordings : Recordings) → KeepsPromise
+        (files_of recordings (F.bytes_at files.now) (F.cannot_open_at files.now) (F.is_opened_at files.now) (F.is_device_at files.now) F.Device.log
         (F.is_buffered_at files.now) F.Buffered.log)
         nothing_written (printed_by W.contents output.old output.new)
         (Scan ranges.entry file.entry) result }
@@ -69,8 +70,8 @@ pub(crate) fn show_record<'a, F: FileSystem<'a>, W: Write>(
     recording: &Recording<'a>,
     output: &mut W,
 ) -> Result<(), CliFault>
-    ensures { KeepsPromise
-        (files_of (F.bytes_at files.now) (F.cannot_open_at files.now) (F.is_opened_at files.now) (F.is_device_at files.now) F.Device.log
+    ensures { (recordings : Recordings) → KeepsPromise
+        (files_of recordings (F.bytes_at files.now) (F.cannot_open_at files.now) (F.is_opened_at files.now) (F.is_device_at files.now) F.Device.log
         (F.is_buffered_at files.now) F.Buffered.log)
         nothing_written (printed_by W.contents output.old output.new)
         (Show recording.now) (all_done result) }
@@ -93,8 +94,8 @@ pub(crate) fn setup_record<'a, F: FileSystem<'a>, W: Write>(
     recording: &Recording<'a>,
     output: &mut W,
 ) -> Result<(), CliFault>
-    ensures { KeepsPromise
-        (files_of (F.bytes_at files.now) (F.cannot_open_at files.now) (F.is_opened_at files.now) (F.is_device_at files.now) F.Device.log
+    ensures { (recordings : Recordings) → KeepsPromise
+        (files_of recordings (F.bytes_at files.now) (F.cannot_open_at files.now) (F.is_opened_at files.now) (F.is_device_at files.now) F.Device.log
         (F.is_buffered_at files.now) F.Buffered.log)
         nothing_written (printed_by W.contents output.old output.new)
         (Setup recording.now) (all_done result) }
@@ -125,8 +126,8 @@ pub(crate) fn splice_files<'a, F: FileSystem<'a>, O: MakeFile, W: Write>(
     made: &mut O,
     output: &mut W,
 ) -> Result<bool, CliFault>
-    ensures { (out : Bor (List ℕ)) → KeepsPromise
-        (files_of (F.bytes_at files.now) (F.cannot_open_at files.now) (F.is_opened_at files.now) (F.is_device_at files.now) F.Device.log
+    ensures { (recordings : Recordings) (out : Bor (List ℕ)) → KeepsPromise
+        (files_of recordings (F.bytes_at files.now) (F.cannot_open_at files.now) (F.is_opened_at files.now) (F.is_device_at files.now) F.Device.log
         (F.is_buffered_at files.now) F.Buffered.log)
         (made_by O.contents O.is_made made.old made.new) (printed_by W.contents output.old output.new)
         (Splice out copies.now) result }

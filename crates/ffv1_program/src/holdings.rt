@@ -10,6 +10,7 @@ use crate::files::{FileSystem, MakeFile};
 use crate::inputs::{buffered_of, sources_of};
 use ffv1_commands::{CliFault, CommandPath, join_of, merge_of, report_of, restore_of, take_of};
 use ffv1_devices::ThroughWrite;
+use ffv1_holding::Recordings;
 use ffv1_words::Recording;
 use std::alloc::Global;
 use std::io::Write;
@@ -20,6 +21,7 @@ use std::io::Write;
 /// was written or printed.
 pub(crate) fn take_files<'a, F: FileSystem<'a>, O: MakeFile, W: Write>(
     alloc: Global,
+    recordings: Recordings,
     files: &F,
     recording: &Recording<'a>,
     copies: &Vec<&'a str>,
@@ -27,7 +29,7 @@ pub(crate) fn take_files<'a, F: FileSystem<'a>, O: MakeFile, W: Write>(
     output: &mut W,
 ) -> Result<(), CliFault>
     ensures { (out : Bor (List ℕ)) → KeepsPromise
-        (files_of (F.bytes_at files.now) (F.cannot_open_at files.now) (F.is_opened_at files.now) (F.is_device_at files.now) F.Device.log
+        (files_of recordings (F.bytes_at files.now) (F.cannot_open_at files.now) (F.is_opened_at files.now) (F.is_device_at files.now) F.Device.log
         (F.is_buffered_at files.now) F.Buffered.log)
         (made_by O.contents O.is_made made.old made.new) (printed_by W.contents output.old output.new)
         (Take recording.now out copies.now) (all_done result) }
@@ -35,6 +37,7 @@ pub(crate) fn take_files<'a, F: FileSystem<'a>, O: MakeFile, W: Write>(
     let mut copies = sources_of(alloc, files, copies.as_slice())?;
     take_of(
         alloc,
+        recordings,
         &mut files.device(recording.record),
         recording.width,
         recording.height,
@@ -50,6 +53,7 @@ pub(crate) fn take_files<'a, F: FileSystem<'a>, O: MakeFile, W: Write>(
 /// was written or printed.
 pub(crate) fn join_files<'a, F: FileSystem<'a>, O: MakeFile, W: Write>(
     alloc: Global,
+    recordings: Recordings,
     files: &F,
     first: &'a str,
     others: &Vec<&'a str>,
@@ -57,7 +61,7 @@ pub(crate) fn join_files<'a, F: FileSystem<'a>, O: MakeFile, W: Write>(
     output: &mut W,
 ) -> Result<(), CliFault>
     ensures { (out : Bor (List ℕ)) → KeepsPromise
-        (files_of (F.bytes_at files.now) (F.cannot_open_at files.now) (F.is_opened_at files.now) (F.is_device_at files.now) F.Device.log
+        (files_of recordings (F.bytes_at files.now) (F.cannot_open_at files.now) (F.is_opened_at files.now) (F.is_device_at files.now) F.Device.log
         (F.is_buffered_at files.now) F.Buffered.log)
         (made_by O.contents O.is_made made.old made.new) (printed_by W.contents output.old output.new)
         (Join out first.entry others.now) (all_done result) }
@@ -66,6 +70,7 @@ pub(crate) fn join_files<'a, F: FileSystem<'a>, O: MakeFile, W: Write>(
     let mut first = files.buffered(alloc, first)?;
     join_of(
         alloc,
+        recordings,
         &mut first,
         others.as_mut_slice(),
         &mut ThroughWrite::new(made),
@@ -80,6 +85,7 @@ pub(crate) fn join_files<'a, F: FileSystem<'a>, O: MakeFile, W: Write>(
 /// opened. Then the file that is made is not touched, and neither is it where the heads of both are of another record or size.
 pub(crate) fn merge_files<'a, F: FileSystem<'a>, O: MakeFile>(
     alloc: Global,
+    recordings: Recordings,
     files: &F,
     left: &'a str,
     right: &'a str,
@@ -87,7 +93,7 @@ pub(crate) fn merge_files<'a, F: FileSystem<'a>, O: MakeFile>(
     made: &mut O,
 ) -> Result<(), CliFault>
     ensures { KeepsPromise
-        (files_of (F.bytes_at files.now) (F.cannot_open_at files.now) (F.is_opened_at files.now) (F.is_device_at files.now) F.Device.log
+        (files_of recordings (F.bytes_at files.now) (F.cannot_open_at files.now) (F.is_opened_at files.now) (F.is_device_at files.now) F.Device.log
         (F.is_buffered_at files.now) F.Buffered.log)
         (made_by O.contents O.is_made made.old made.new) nothing_written
         (Merge out.entry left.entry right.entry) (all_done result) }
@@ -101,7 +107,8 @@ pub(crate) fn merge_files<'a, F: FileSystem<'a>, O: MakeFile>(
     let Ok(mut right) = files.opened(right) else {
         return Err(CliFault::Read(CommandPath::Hold(1)));
     };
-    merge_of(alloc, &mut left, &mut right, &mut ThroughWrite::new(made))
+    let mut made = ThroughWrite::new(made);
+    merge_of(alloc, recordings, &mut left, &mut right, &mut made)
 }
 
 /// Prints the report of the holding file of this path.
@@ -109,18 +116,19 @@ pub(crate) fn merge_files<'a, F: FileSystem<'a>, O: MakeFile>(
 /// It stops where `report_of` does, and with `Memory` if a buffer can't be allocated. After a fault that is not `Write` nothing was printed.
 pub(crate) fn report_file<'a, F: FileSystem<'a>, W: Write>(
     alloc: Global,
+    recordings: Recordings,
     files: &F,
     file: &'a str,
     output: &mut W,
 ) -> Result<(), CliFault>
     ensures { KeepsPromise
-        (files_of (F.bytes_at files.now) (F.cannot_open_at files.now) (F.is_opened_at files.now) (F.is_device_at files.now) F.Device.log
+        (files_of recordings (F.bytes_at files.now) (F.cannot_open_at files.now) (F.is_opened_at files.now) (F.is_device_at files.now) F.Device.log
         (F.is_buffered_at files.now) F.Buffered.log)
         nothing_written (printed_by W.contents output.old output.new)
         (Report file.entry) (all_done result) }
 {
     let mut file = files.buffered(alloc, file)?;
-    report_of(alloc, &mut file, &mut ThroughWrite::new(output))
+    report_of(alloc, recordings, &mut file, &mut ThroughWrite::new(output))
 }
 
 /// Restores the frame of the holding file of this path into the file that is made.
@@ -128,13 +136,14 @@ pub(crate) fn report_file<'a, F: FileSystem<'a>, W: Write>(
 /// It stops where `restore_of` does, and with `Memory` if a buffer can't be allocated. After a fault that is not `Write` nothing was written or printed.
 pub(crate) fn restore_file<'a, F: FileSystem<'a>, O: MakeFile, W: Write>(
     alloc: Global,
+    recordings: Recordings,
     files: &F,
     file: &'a str,
     made: &mut O,
     output: &mut W,
 ) -> Result<(), CliFault>
     ensures { (out : Bor (List ℕ)) → KeepsPromise
-        (files_of (F.bytes_at files.now) (F.cannot_open_at files.now) (F.is_opened_at files.now) (F.is_device_at files.now) F.Device.log
+        (files_of recordings (F.bytes_at files.now) (F.cannot_open_at files.now) (F.is_opened_at files.now) (F.is_device_at files.now) F.Device.log
         (F.is_buffered_at files.now) F.Buffered.log)
         (made_by O.contents O.is_made made.old made.new) (printed_by W.contents output.old output.new)
         (Restore file.entry out) (all_done result) }
@@ -142,6 +151,7 @@ pub(crate) fn restore_file<'a, F: FileSystem<'a>, O: MakeFile, W: Write>(
     let mut file = files.buffered(alloc, file)?;
     restore_of(
         alloc,
+        recordings,
         &mut file,
         &mut ThroughWrite::new(made),
         &mut ThroughWrite::new(output),

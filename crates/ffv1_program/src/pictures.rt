@@ -7,8 +7,9 @@ ghost use Rattle.ffv1_program.specs.Inner.Calls.{all_done};
 
 use crate::files::{FileSystem, MakeFile, make_after};
 use crate::inputs::{is_among, sources_of};
-use ffv1_commands::{CliFault, CommandPath, decode_of, picture_of, samples_of};
+use ffv1_commands::{CliFault, CommandPath, any_picture_of, decode_of, picture_of, samples_of};
 use ffv1_devices::ThroughWrite;
+use ffv1_holding::Recordings;
 use ffv1_words::Recording;
 use std::alloc::Global;
 use std::io::Write;
@@ -18,24 +19,24 @@ use std::io::Write;
 /// It stops where `picture_of` does, and with `Memory` if a buffer can't be allocated. After a fault that is not `Write` nothing was written or printed.
 pub(crate) fn picture_file<'a, F: FileSystem<'a>, O: MakeFile, W: Write>(
     alloc: Global,
+    recordings: Recordings,
     files: &F,
     file: &'a str,
     made: &mut O,
     output: &mut W,
 ) -> Result<bool, CliFault>
     ensures { (out : Bor (List ℕ)) → KeepsPromise
-        (files_of (F.bytes_at files.now) (F.cannot_open_at files.now) (F.is_opened_at files.now) (F.is_device_at files.now) F.Device.log
+        (files_of recordings (F.bytes_at files.now) (F.cannot_open_at files.now) (F.is_opened_at files.now) (F.is_device_at files.now) F.Device.log
         (F.is_buffered_at files.now) F.Buffered.log)
         (made_by O.contents O.is_made made.old made.new) (printed_by W.contents output.old output.new)
         (Picture file.entry out) result }
 {
     let mut file = files.buffered(alloc, file)?;
-    picture_of(
-        alloc,
-        &mut file,
-        &mut ThroughWrite::new(made),
-        &mut ThroughWrite::new(output),
-    )
+    let (mut made, mut output) = (ThroughWrite::new(made), ThroughWrite::new(output));
+    match recordings {
+        Recordings::Profile => picture_of(alloc, &mut file, &mut made, &mut output),
+        Recordings::Any => any_picture_of(alloc, &mut file, &mut made, &mut output),
+    }
 }
 
 /// Decodes the frame of these paths into the file that is made.
@@ -49,8 +50,8 @@ pub(crate) fn decode_files<'a, F: FileSystem<'a>, O: MakeFile, W: Write>(
     made: &mut O,
     output: &mut W,
 ) -> Result<(), CliFault>
-    ensures { (out : Bor (List ℕ)) → KeepsPromise
-        (files_of (F.bytes_at files.now) (F.cannot_open_at files.now) (F.is_opened_at files.now) (F.is_device_at files.now) F.Device.log
+    ensures { (recordings : Recordings) (out : Bor (List ℕ)) → KeepsPromise
+        (files_of recordings (F.bytes_at files.now) (F.cannot_open_at files.now) (F.is_opened_at files.now) (F.is_device_at files.now) F.Device.log
         (F.is_buffered_at files.now) F.Buffered.log)
         (made_by O.contents O.is_made made.old made.new) (printed_by W.contents output.old output.new)
         (Decode recording.now frame.entry out) (all_done result) }
@@ -81,8 +82,8 @@ pub(crate) fn samples_files<'a, F: FileSystem<'a>, O: MakeFile, W: Write>(
     made: &mut O,
     output: &mut W,
 ) -> Result<bool, CliFault>
-    ensures { KeepsPromise
-        (files_of (F.bytes_at files.now) (F.cannot_open_at files.now) (F.is_opened_at files.now) (F.is_device_at files.now) F.Device.log
+    ensures { (recordings : Recordings) → KeepsPromise
+        (files_of recordings (F.bytes_at files.now) (F.cannot_open_at files.now) (F.is_opened_at files.now) (F.is_device_at files.now) F.Device.log
         (F.is_buffered_at files.now) F.Buffered.log)
         (made_by O.contents O.is_made made.old made.new) (printed_by W.contents output.old output.new)
         (Samples recording.now out.entry frames.now) result }

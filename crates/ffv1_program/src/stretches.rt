@@ -2,6 +2,7 @@
 ghost use Rattle.std.specs.Prelude.{◌≡◌, All, map, IfOk};
 ghost use Rattle.std.specs.List.{AllZip};
 ghost use Rattle.ffv1_stretches.specs.Copies.{state_of};
+ghost use Rattle.ffv1_holding.specs.declared.recordings.Recordings.{Recordings};
 ghost use Rattle.ffv1_words.specs.declared.words.Words.TheVariants.{Mend};
 ghost use Rattle.ffv1_program.specs.Running.{KeepsPromise, files_of, made_by, printed_by};
 ghost use Rattle.ffv1_program.specs.Inner.Calls.{IsLogAt};
@@ -48,8 +49,8 @@ pub(crate) fn mend_files<'a, F: FileSystem<'a>, O: MakeFile, W: Write>(
     made: &mut O,
     output: &mut W,
 ) -> Result<bool, CliFault>
-    ensures { KeepsPromise
-        (files_of (F.bytes_at files.now) (F.cannot_open_at files.now) (F.is_opened_at files.now) (F.is_device_at files.now) F.Device.log
+    ensures { (recordings : Recordings) → KeepsPromise
+        (files_of recordings (F.bytes_at files.now) (F.cannot_open_at files.now) (F.is_opened_at files.now) (F.is_device_at files.now) F.Device.log
         (F.is_buffered_at files.now) F.Buffered.log)
         (made_by O.contents O.is_made made.old made.new) (printed_by W.contents output.old output.new)
         (Mend list.entry out.entry copies.now) result }

@@ -5,8 +5,9 @@ ghost use Rattle.ffv1_words.specs.WordPaths.{IsPathOf};
 use crate::fakes::{FakeOutput, Fakes, Order};
 use ffv1_commands::{CliFault, run_take};
 use ffv1_program::{out_word, run};
+use ffv1_holding::Recordings;
 use ffv1_test_frames::{FRAME, TWO_TILES};
-use ffv1_words::{Words, read_words};
+use ffv1_words::{Words, read_words, recordings_of_words};
 use std::alloc::Global;
 use std::test::Fail;
 
@@ -125,12 +126,15 @@ const ROWS: [Row; 29] = [
 ];
 
 /// Words of the program, after its name, whose files are all one holding file; and then in which order files are opened and made.
-const HELD: [(&[&str], u32); 5] = [
+const HELD: [(&[&str], u32); 8] = [
     (&["join", "9", "1", "2", "3"], 1239),
     (&["merge", "9", "1", "2"], 129),
     (&["report", "1"], 1),
     (&["restore", "1", "9"], 19),
     (&["picture", "1", "9"], 19),
+    (&["join", "--any", "9", "1", "2"], 129),
+    (&["report", "--any", "1"], 1),
+    (&["picture", "--any", "1", "9"], 19),
 ];
 
 /// The line of a fault of the command of these words, with the path that it names.
@@ -146,12 +150,13 @@ fn line_of(alloc: Global, fault: &CliFault, words: &Words<'_>) -> Result<String,
 /// Runs the command of these words, of which the first is the program's name, and gives what it returns, or the line of its fault.
 fn reported<'a>(
     alloc: Global,
-    given: &'a [String],
+    given: &'a mut Vec<String>,
     order: &'a Order,
     first: &'a [u8],
     others: &'a [u8],
 ) -> Result<String, Fail> {
-    let words = read_words(alloc, given).ok().ok_or("words of a command")?;
+    let recordings = recordings_of_words(given);
+    let words = read_words(alloc, given.as_slice()).ok().ok_or("words of a command")?;
     let files = Fakes {
         order,
         first,
@@ -159,7 +164,7 @@ fn reported<'a>(
     };
     let mut made = FakeOutput::new(order, out_word(&words));
     let mut printed = Vec::new(alloc);
-    match run(alloc, &files, &words, &mut made, &mut printed) {
+    match run(alloc, recordings, &files, &words, &mut made, &mut printed) {
         Ok(true) => Ok(String::from_str(alloc, "true")?),
         Ok(false) => Ok(String::from_str(alloc, "false")?),
         Err(fault) => line_of(alloc, &fault, &words),
@@ -183,9 +188,9 @@ fn opened(
     first: &[u8],
     others: &[u8],
 ) -> Result<(u32, String), Fail> {
-    let given = given_of(alloc, words)?;
+    let mut given = given_of(alloc, words)?;
     let order = Order::new();
-    let reported = reported(alloc, given.as_slice(), &order, first, others)?;
+    let reported = reported(alloc, &mut given, &order, first, others)?;
     Ok((order.number(), reported))
 }
 
@@ -207,6 +212,7 @@ fn held(alloc: Global) -> Result<Vec<u8>, Fail> {
     let (mut file, mut printed) = (Vec::new(alloc), Vec::new(alloc));
     let returned = run_take(
         alloc,
+        Recordings::Profile,
         &mut record,
         2,
         1,

@@ -15,9 +15,10 @@ pub use ffv1_commands::{
     splice_weaves_the_original,
 };
 use ffv1_files::OutputFile;
+use ffv1_holding::Recordings;
 pub use ffv1_program::run;
 use ffv1_program::{Disk, OUT_OF_MEMORY, command_line, early_line, end_status, out_word};
-use ffv1_words::{Words, read_words};
+use ffv1_words::{Words, read_words, recordings_of_words};
 use std::alloc::AllocError;
 use std::fs::File;
 use std::process::ExitCode;
@@ -72,12 +73,17 @@ fn hold_streams(rt: &HostRuntime) -> [Option<File>; 3] {
 }
 
 /// Runs a command on the files of the runtime, and prints on its standard output.
-fn run_words<'a>(rt: &'a HostRuntime, words: &Words<'a>) -> Result<bool, CliFault>
+fn run_words<'a>(
+    rt: &'a HostRuntime,
+    recordings: Recordings,
+    words: &Words<'a>,
+) -> Result<bool, CliFault>
     ensures { IfErr result (NamesPath (IsPathOf words.now)) }
 {
     let mut made = OutputFile::new(rt, out_word(words));
     run(
         rt.alloc(),
+        recordings,
         &Disk::new(rt),
         words,
         &mut made,
@@ -86,12 +92,12 @@ fn run_words<'a>(rt: &'a HostRuntime, words: &Words<'a>) -> Result<bool, CliFaul
 }
 
 /// Reads the words that the program was given, runs their command, reports its fault, and ends.
-fn run_given<'a>(rt: &'a HostRuntime, given: &'a [String]) -> ExitCode {
+fn run_given<'a>(rt: &'a HostRuntime, recordings: Recordings, given: &'a [String]) -> ExitCode {
     let words = match read_words(rt.alloc(), given) {
         Ok(words) => words,
         Err(fault) => return report_early(rt, fault),
     };
-    let done = run_words(rt, &words);
+    let done = run_words(rt, recordings, &words);
     if let Err(fault) = &done {
         print_line(rt, command_line(rt.alloc(), fault, &words));
     }
@@ -101,7 +107,10 @@ fn run_given<'a>(rt: &'a HostRuntime, given: &'a [String]) -> ExitCode {
 fn main(rt: HostRuntime) -> ExitCode {
     let _held = hold_streams(&rt);
     match given_words(&rt) {
-        Ok(given) => run_given(&rt, given.as_slice()),
+        Ok(mut given) => {
+            let recordings = recordings_of_words(&mut given);
+            run_given(&rt, recordings, given.as_slice())
+        }
         Err(fault) => report_early(&rt, fault),
     }
 }

@@ -1,6 +1,7 @@
 -- How private calls read a holding file and write one.
 use Rattle.std.specs.Prelude.{ℕ, List, Option, Result, Ok, Err}
 use Rattle.ffv1_holding.specs.Contents.{Contents}
+use Rattle.ffv1_holding.specs.declared.recordings.Recordings.{Recordings}
 use Rattle.ffv1_hold.specs.HoldingText.{holding_text}
 use Rattle.ffv1_devices.specs.Logs.{ReadLog, WriteLog, Writes}
 use Rattle.ffv1_hold.specs.FileFaults.{ReadsHolding}
@@ -19,9 +20,9 @@ MadeStops h text out_before out_after text_before text_after fault = IsFileFault
 -- ---- over the log of the file
 
 -- the file was read to its end and is that of the holding, or it was not
-abbrev pub ReadsHeld : CommandPath → Result Contents CliFault → ReadLog → ReadLog → Type 0
-ReadsHeld path (Ok h) old new = ReadsHolding old new h
-ReadsHeld path (Err fault) old new = HoldingStops path fault old new
+abbrev pub ReadsHeld : Recordings → CommandPath → Result Contents CliFault → ReadLog → ReadLog → Type 0
+ReadsHeld recordings path (Ok h) old new = ReadsHolding recordings old new h
+ReadsHeld recordings path (Err fault) old new = HoldingStops recordings path fault old new
 
 -- ---- over the logs of both outputs
 

@@ -13,7 +13,7 @@ returns-in_err-other g c =
 pub returns-in_err-new : goal.returns-in_err-new
 returns-in_err-new g c =
     let p = err_from_is_err_and c.from_residual-in_err-new.result c.from_residual-in_err-new.ensures.1 in
-    rw (p.1, p.2) (join_refused c.args.before _ _ c.args.whole.now c.in_ok-other.other c.in_ok-other.ensures.read c.join_in.result
+    rw (p.1, p.2) (join_refused _ c.args.before _ _ c.args.whole.now c.in_ok-other.other c.in_ok-other.ensures.read c.join_in.result
     c.in_err-new.field-0.0 c.in_err-new.was c.join_in.ensures.other_reel c.join_in.ensures.too_long)
 
 pub returns-in_err-push_file : goal.returns-in_err-push_file

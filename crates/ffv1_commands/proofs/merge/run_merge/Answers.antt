@@ -9,28 +9,28 @@ remaining_of log = log.remaining
 
 pub returns-clause-other : goal.returns-clause-other
 returns-clause-other g c one two left right other =
-    c.merge_of.ensures.other one two (subst (λ (o : Option (List ℕ)). BeginsWithHead o one) (sym (ap remaining_of c.new.ensures.log)) left)
-    (subst (λ (o : Option (List ℕ)). BeginsWithHead o two) (sym (ap remaining_of c.new-2.ensures.log)) right) other
+    c.merge_of.ensures.other one two (subst (λ (o : Option (List ℕ)). BeginsWithHead c.args.recordings o one) (sym (ap remaining_of c.new.ensures.log)) left)
+    (subst (λ (o : Option (List ℕ)). BeginsWithHead c.args.recordings o two) (sym (ap remaining_of c.new-2.ensures.log)) right) other
 
 pub returns-clause-only : goal.returns-clause-only
-returns-clause-only g c v w one two same left right =
-    c.merge_of.ensures.only v w one two same (subst (λ (o : Option (List ℕ)). IsFileOf o v one) (sym (ap remaining_of c.new.ensures.log)) left)
+returns-clause-only g c v w one two same taken left right =
+    c.merge_of.ensures.only v w one two same taken (subst (λ (o : Option (List ℕ)). IsFileOf o v one) (sym (ap remaining_of c.new.ensures.log)) left)
     (subst (λ (o : Option (List ℕ)). IsFileOf o w two) (sym (ap remaining_of c.new-2.ensures.log)) right)
 
 pub returns-clause-ok : goal.returns-clause-ok
 returns-clause-ok g c =
-    let bytes = merge_of_bytes _ _ c.merge_of.result c.merge_of.ensures.reported in
+    let bytes = merge_of_bytes _ _ _ c.merge_of.result c.merge_of.ensures.reported in
     search (rules, bytes.ok)
 
 pub returns-clause-err : goal.returns-clause-err
 returns-clause-err g c =
-    let bytes = merge_of_bytes _ _ c.merge_of.result c.merge_of.ensures.reported in
+    let bytes = merge_of_bytes _ _ _ c.merge_of.result c.merge_of.ensures.reported in
     search (rules, bytes.err)
 
 pub returns-clause-leaves : goal.returns-clause-leaves
 returns-clause-leaves g c =
-    let bytes = merge_of_bytes _ _ c.merge_of.result c.merge_of.ensures.reported in
+    let bytes = merge_of_bytes _ _ _ c.merge_of.result c.merge_of.ensures.reported in
     search (rules, bytes.leaves)
 
 pub returns-clause-names : goal.returns-clause-names
-returns-clause-names g c = (merge_of_bytes _ _ c.merge_of.result c.merge_of.ensures.reported).names
+returns-clause-names g c = (merge_of_bytes _ _ _ c.merge_of.result c.merge_of.ensures.reported).names

@@ -31,7 +31,7 @@ returns g c =
     let wrote = c.as_slice.ensures.value ∙ c.in_ok-payload.ensures.ok in
     let reported = c.as_str.ensures.value ∙ c.in_ok-line.ensures ∙ ap restored_line (c.len.ensures ∙ sym c.as_slice.ensures.len) in
     record {
-      reported = restored _ _ _ _ _ _ c.in_ok-holding.holding payload line c.in_ok-holding.ensures.read c.in_ok-payload.ensures.settled wrote reported
+      reported = restored _ _ _ _ _ _ _ c.in_ok-holding.holding payload line c.in_ok-holding.ensures.read c.in_ok-payload.ensures.settled wrote reported
           c.write_both.result c.write_both.ensures;
       untouched = both_untouched payload line _ _ _ _ _ c.write_both.result c.write_both.ensures;
     }

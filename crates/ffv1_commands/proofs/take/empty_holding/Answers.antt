@@ -1,28 +1,31 @@
-use Rattle.std.proofs.Common.{ℕ, List, ◌∙◌, subst}
+use Rattle.std.proofs.Common.{ℕ, List, sym, ap, ◌∙◌, subst}
 use Rattle.std.proofs.lemmas.Result.{err_from_is_err_and}
-use Rattle.ffv1_range.specs.Setup.{IsSetupOf}
-use Rattle.ffv1_holding.proofs.Reels.{setup_reel_of}
-use Rattle.ffv1_commands.proofs.RecordFaults.{record_unread, record_refused}
+use Rattle.ffv1_holding.specs.Reels.{IsRecordingFor, reel_of}
+use Rattle.ffv1_holding.specs.Contents.{Contents, no_slices}
+use Rattle.ffv1_commands.proofs.RecordFaults.{reel_unread, reel_refused}
 use Rattle.ffv1_commands.proofs.TakeReported.{reel_read}
 use Rattle.ffv1_commands.proofs.take.empty_holding.Goals as goal
 
 pub returns-in_err-config-clause-err : goal.returns-in_err-config-clause-err
 returns-in_err-config-clause-err g c =
     let p = err_from_is_err_and c.from_residual.result c.from_residual.ensures.1 in
-    rw (p.1, p.2) (record_unread c.args.width c.args.height _ _ c.in_err-config.field-0.0 c.in_err-config.ensures)
+    rw (p.1, p.2) (reel_unread c.args.recordings c.args.width c.args.height _ _ c.in_err-config.field-0.0 c.in_err-config.ensures)
 
-pub returns-in_err-new-clause-err : goal.returns-in_err-new-clause-err
-returns-in_err-new-clause-err g c =
-    let p = err_from_is_err_and c.from_residual-in_err-new.result c.from_residual-in_err-new.ensures.1 in
-    rw (p.1, p.2) (record_refused c.args.width c.args.height _ _ c.in_ok-config.config.items _ c.as_slice.ensures.value c.in_ok-config.ensures
-    c.in_err-new.field-0.0 c.in_err-new.ensures.fault)
+pub returns-in_err-of_record-clause-err : goal.returns-in_err-of_record-clause-err
+returns-in_err-of_record-clause-err g c =
+    let p = err_from_is_err_and c.from_residual-in_err-of_record.result c.from_residual-in_err-of_record.ensures.1 in
+    rw (p.1, p.2) (reel_refused c.args.recordings c.args.width c.args.height _ _ c.in_ok-config.config.items _ c.as_slice.ensures.value c.in_ok-config.ensures
+    c.in_err-of_record.field-0.0 c.in_err-of_record.ensures.fault)
+
+pub returns-clause-empty : goal.returns-clause-empty
+returns-clause-empty g c =
+    let same = c.in_ok-of_record.ensures.found.2 in
+    same ∙ ap no_slices (sym (ap (λ (h : Contents). h.reel) same))
 
 pub returns-clause-reel : goal.returns-clause-reel
 returns-clause-reel g c =
-    let reel = c.in_ok-new.field-0.reel in
+    let found = c.in_ok-of_record.ensures.found in
     let same = c.as_slice.ensures.value in
-    let made = c.in_ok-new.ensures in
-    let config = made.config ∙ same in
-    let setup = subst (λ (bytes : List ℕ). IsSetupOf bytes c.args.width c.args.height reel.setup) same made.setup in
-    let is = setup_reel_of c.in_ok-config.config.items c.args.width c.args.height reel made.well_formed config setup in
-    reel_read _ _ _ c.args.width c.args.height reel c.in_ok-config.ensures is
+    let is = subst (λ (bytes : List ℕ). IsRecordingFor c.args.recordings bytes c.args.width c.args.height found.0) same found.1 in
+    let reel = ap (λ (h : Contents). h.reel) found.2 ∙ ap (λ (bytes : List ℕ). reel_of bytes found.0) same in
+    reel_read c.args.recordings _ _ c.in_ok-config.config.items c.args.width c.args.height c.in_ok-of_record.field-0.reel c.in_ok-config.ensures (found.0, is, reel)

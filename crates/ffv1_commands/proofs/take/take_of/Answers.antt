@@ -3,7 +3,7 @@ use Rattle.std.proofs.lemmas.Result.{err_from_is_err_and}
 use Rattle.ffv1_commands.specs.Devices.{GivesUpWithin}
 use Rattle.ffv1_commands.specs.InTurn.{IfCopyUnread}
 use Rattle.ffv1_commands.specs.TakeText.{TakesEach}
-use Rattle.ffv1_commands.proofs.RecordFaults.{record_both}
+use Rattle.ffv1_commands.proofs.RecordFaults.{reel_both}
 use Rattle.ffv1_commands.proofs.InputFaults.{untouched_both}
 use Rattle.ffv1_commands.proofs.MadeFiles.{made_err}
 use Rattle.ffv1_commands.proofs.TakeReported.{copies-unwritten, made_reported, record_read}
@@ -16,8 +16,8 @@ returns-in_err-holding g c =
     let stops = c.in_err-holding.ensures.err in
     rw (p.1, p.2) (record {
       reported = inl (stops, refl, (refl, refl));
-      unread = record_read _ _ _ c.args.width c.args.height _ _ f stops;
-      untouched = record_both c.args.width c.args.height _ _ c.args.out.now c.args.output.now f stops;
+      unread = record_read c.args.recordings _ _ _ c.args.width c.args.height _ _ f stops;
+      untouched = reel_both c.args.recordings c.args.width c.args.height _ _ c.args.out.now c.args.output.now f stops;
     })
 
 pub returns-in_err-lines : goal.returns-in_err-lines
@@ -38,7 +38,7 @@ returns g c =
     let each = subst (TakesEach _ reel c.take_sources.new.holding) (sym c.as_str.ensures.value) c.in_ok-lines.ensures.ok in
     let r = c.write_made.result in
     record {
-      reported = made_reported _ c.args.width c.args.height _ _ c.args.copies.now _ _ _ _ _ c.take_sources.new.holding c.as_str.result.now
+      reported = made_reported c.args.recordings _ c.args.width c.args.height _ _ c.args.copies.now _ _ _ _ _ c.take_sources.new.holding c.as_str.result.now
           (record { reel = reel; of_record = c.in_ok-holding.ensures.reel; each = each }) r c.write_made.ensures.reported;
       unread = made_err c.take_sources.new.holding c.as_str.result.now _ _ _ _ (IfCopyUnread GivesUpWithin _ _) (λ file. tt) tt tt r c.write_made.ensures.reported;
       untouched = c.write_made.ensures.untouched;

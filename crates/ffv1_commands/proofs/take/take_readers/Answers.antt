@@ -1,7 +1,7 @@
 use Rattle.std.proofs.Common.{refl, inl, inr, sym, subst}
 use Rattle.std.proofs.lemmas.Result.{err_from_is_err_and}
 use Rattle.ffv1_commands.specs.TakeText.{TakesEach}
-use Rattle.ffv1_commands.proofs.RecordFaults.{record_both}
+use Rattle.ffv1_commands.proofs.RecordFaults.{reel_both}
 use Rattle.ffv1_commands.proofs.InputFaults.{untouched_both}
 use Rattle.ffv1_commands.proofs.TakeReported.{copies-unwritten, made_reported}
 use Rattle.ffv1_commands.proofs.take.take_readers.Goals as goal
@@ -13,7 +13,7 @@ returns-in_err-holding g c =
     let stops = c.in_err-holding.ensures.err in
     rw (p.1, p.2) (record {
       reported = inl (stops, refl, (refl, refl));
-      untouched = record_both c.args.width c.args.height _ _ c.args.out.now c.args.output.now f stops;
+      untouched = reel_both c.args.recordings c.args.width c.args.height _ _ c.args.out.now c.args.output.now f stops;
     })
 
 pub returns-in_err-lines : goal.returns-in_err-lines
@@ -33,7 +33,7 @@ returns g c =
     let each = subst (TakesEach _ reel c.take_copies.new.holding) (sym c.as_str.ensures.value) c.in_ok-lines.ensures.ok in
     let r = c.write_made.result in
     record {
-      reported = made_reported _ c.args.width c.args.height _ _ c.args.copies.now _ _ _ _ _ c.take_copies.new.holding c.as_str.result.now
+      reported = made_reported c.args.recordings _ c.args.width c.args.height _ _ c.args.copies.now _ _ _ _ _ c.take_copies.new.holding c.as_str.result.now
           (record { reel = reel; of_record = c.in_ok-holding.ensures.reel; each = each }) r c.write_made.ensures.reported;
       untouched = c.write_made.ensures.untouched;
     }

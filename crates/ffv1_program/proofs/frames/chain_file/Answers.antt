@@ -6,7 +6,7 @@ use Rattle.ffv1_program.proofs.Unread.{unread_as, chain_unread}
 use Rattle.ffv1_program.proofs.frames.chain_file.Goals as goal
 
 pub returns : goal.returns
-returns g c =
+returns g c recordings =
     let bytes = chain_of_bytes _ _ _ _ c.chain_of.result c.chain_of.ensures.reported in
     let kept = one_through c.chain_of.result _ _ _ c.new.ensures.writer c.chain_of.ensures.untouched in
     record {

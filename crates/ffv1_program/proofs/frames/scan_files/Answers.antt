@@ -6,7 +6,7 @@ use Rattle.ffv1_program.proofs.Unread.{scan_unread}
 use Rattle.ffv1_program.proofs.frames.scan_files.Goals as goal
 
 pub returns : goal.returns
-returns g c =
+returns g c recordings =
     let bytes = scan_of_bytes _ _ _ _ _ _ c.scan_of.result c.scan_of.ensures.scans in
     let kept = second_through Ranges _ c.scan_of.result _ _ _ c.new.ensures.writer c.scan_of.ensures.in_turn in
     record {

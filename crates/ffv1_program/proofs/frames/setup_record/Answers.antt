@@ -6,7 +6,7 @@ use Rattle.ffv1_program.proofs.Unread.{unread_as, setup_unread}
 use Rattle.ffv1_program.proofs.frames.setup_record.Goals as goal
 
 pub returns : goal.returns
-returns g c =
+returns g c recordings =
     let bytes = renamed _ _ _ _ _ _ _ (g.W.Write.contents c.args.output.now) _ (g.W.Write.contents c.output-1.given.0)
     c.device.ensures.bytes (search rules) (search rules)
     (setup_of_bytes _ _ _ _ _ _ c.setup_of.result c.setup_of.ensures.reported) in

@@ -6,7 +6,7 @@ use Rattle.ffv1_program.proofs.Unread.{unread_as, show_unread}
 use Rattle.ffv1_program.proofs.frames.show_record.Goals as goal
 
 pub returns : goal.returns
-returns g c =
+returns g c recordings =
     let bytes = show_of_bytes _ _ _ _ _ _ c.show_of.result c.show_of.ensures.reported in
     let kept = one_through c.show_of.result _ _ _ c.new.ensures.writer c.show_of.ensures.untouched in
     record {

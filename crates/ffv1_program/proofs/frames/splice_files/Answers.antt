@@ -13,12 +13,12 @@ use Rattle.ffv1_program.proofs.frames.splice_files.Goals as goal
 
 -- memory for the copies was refused, and nothing was written
 pub returns-in_err-copies : goal.returns-in_err-copies
-returns-in_err-copies g c out =
+returns-in_err-copies g c recordings out =
     rw (is_fault faults.Memory c.from_residual.result c.from_residual.ensures.1)
     (record { does = tt; stops = inr (inl tt); keeps = (refl, refl); unread = tt; refuses = tt; names = tt })
 
 pub returns : goal.returns
-returns g c out =
+returns g c recordings out =
     let all = c.splice_of-all.result in
     let bytes = splice_of_bytes _ _ _ _ _ _ _ all c.splice_of-all.ensures.reported in
     let kept = both_through all _ _ _ _ _ _ c.new.ensures.writer c.new-2.ensures.writer c.splice_of-all.ensures.untouched in

@@ -17,5 +17,5 @@ returns g c =
       names = all_err r _ bytes.names;
       refuses = tt;
       unread = all_err r _ (unread_as _ _ r (λ path unread. (c.in_ok-file.file, c.report_of.new.file, c.in_ok-file.ensures.at, unread))
-          (report_unread _ _ _ _ r c.report_of.ensures.reported));
+          (report_unread c.args.recordings _ _ _ _ r c.report_of.ensures.reported));
     }

@@ -17,5 +17,5 @@ returns g c out =
       names = all_err r _ bytes.names;
       refuses = tt;
       unread = all_err r _ (unread_as _ _ r (λ path unread. (c.in_ok-file.file, c.restore_of.new.file, c.in_ok-file.ensures.at, unread))
-          (restore_unread _ _ _ _ _ _ r c.restore_of.ensures.reported));
+          (restore_unread c.args.recordings _ _ _ _ _ _ r c.restore_of.ensures.reported));
     }

@@ -6,7 +6,7 @@ use Rattle.ffv1_program.proofs.Unread.{decode_unread}
 use Rattle.ffv1_program.proofs.pictures.decode_files.Goals as goal
 
 pub returns : goal.returns
-returns g c out =
+returns g c recordings out =
     let r = c.decode_of.result in
     let bytes = decode_of_bytes _ _ _ _ _ _ _ _ _ _ r c.decode_of.ensures.reported in
     let kept = both_through r _ _ _ _ _ _ c.new.ensures.writer c.new-2.ensures.writer c.decode_of.ensures.untouched in

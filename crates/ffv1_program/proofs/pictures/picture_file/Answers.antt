@@ -1,15 +1,16 @@
 use Rattle.std.proofs.Common.{rules}
+use Rattle.ffv1_commands.proofs.AnyPictureSteps.{any_picture_of_bytes}
 use Rattle.ffv1_commands.proofs.PictureSteps.{picture_of_bytes}
 use Rattle.ffv1_commands.proofs.Wrapped.{both_through}
-use Rattle.ffv1_program.proofs.Unread.{unread_as, picture_unread}
+use Rattle.ffv1_program.proofs.Unread.{unread_as, picture_unread, any_picture_unread}
 use Rattle.ffv1_program.proofs.pictures.picture_file.Goals as goal
 
-pub returns : goal.returns
-returns g c out =
+pub returns-in-Profile : goal.returns-in-Profile
+returns-in-Profile g c out =
     let r = c.picture_of.result in
     let bytes = picture_of_bytes _ _ _ _ _ _ r c.picture_of.ensures.reported in
     let kept = both_through r _ _ _ _ _ _ c.new.ensures.writer c.new-2.ensures.writer c.picture_of.ensures.untouched in
-    record {
+    rw c.in-Profile.is (record {
       does = search (rules, rw c.in_ok-file.ensures.bytes at bytes.ok);
       stops = search (rules, rw c.in_ok-file.ensures.bytes at bytes.err);
       keeps = search (rules, kept);
@@ -17,4 +18,19 @@ returns g c out =
       names = bytes.names;
       unread = unread_as _ _ r (λ path unread. (c.in_ok-file.file, c.picture_of.new.file, c.in_ok-file.ensures.at, unread))
           (picture_unread _ _ _ _ _ _ r c.picture_of.ensures.reported);
-    }
+    })
+
+pub returns-in-Any : goal.returns-in-Any
+returns-in-Any g c out =
+    let r = c.any_picture_of.result in
+    let bytes = any_picture_of_bytes _ _ _ _ _ _ r c.any_picture_of.ensures.reported in
+    let kept = both_through r _ _ _ _ _ _ c.new.ensures.writer c.new-2.ensures.writer c.any_picture_of.ensures.untouched in
+    rw c.in-Any.is (record {
+      does = search (rules, rw c.in_ok-file.ensures.bytes at bytes.ok);
+      stops = search (rules, rw c.in_ok-file.ensures.bytes at bytes.err);
+      keeps = search (rules, kept);
+      refuses = tt;
+      names = bytes.names;
+      unread = unread_as _ _ r (λ path unread. (c.in_ok-file.file, c.any_picture_of.new.file, c.in_ok-file.ensures.at, unread))
+          (any_picture_unread _ _ _ _ _ _ r c.any_picture_of.ensures.reported);
+    })

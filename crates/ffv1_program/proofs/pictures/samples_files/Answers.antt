@@ -22,7 +22,7 @@ use Rattle.ffv1_program.proofs.pictures.samples_files.Goals as goal
 
 -- memory for the frames was refused, and nothing was written
 pub returns-in_err-frames : goal.returns-in_err-frames
-returns-in_err-frames g c =
+returns-in_err-frames g c recordings =
     rw (is_fault faults.Memory c.from_residual.result c.from_residual.ensures.1) (record {
       does = tt;
       stops = inr (inr (inl (inl (Keeps-refl _, Keeps-refl _))));
@@ -34,7 +34,7 @@ returns-in_err-frames g c =
 
 -- there is no frame
 pub returns-then-is_empty : goal.returns-then-is_empty
-returns-then-is_empty g c =
+returns-then-is_empty g c recordings =
     record {
       does = tt;
       stops = inr (inl (none_given (g.F.FileSystem.bytes_at c.args.files.now) c.args.frames.now.items (grind (arith, common_steps)), refl));
@@ -48,7 +48,7 @@ returns-then-is_empty g c =
     }
 
 pub returns : goal.returns
-returns g c =
+returns g c recordings =
     let clean = c.samples_of-clean.result in
     let same = through_same _ _ _ _ _ _ _ _ _ _ clean c.samples_of-clean.ensures.reported in
     let inputs = map-map (λ (log : ReadLog). log.remaining) g.F.Device.Source.log c.as_mut_slice.result.now

@@ -20,7 +20,7 @@ use Rattle.ffv1_program.proofs.stretches.mend_files.Goals as goal
 
 -- memory for the copies was refused, and nothing was written
 pub returns-in_err-copies : goal.returns-in_err-copies
-returns-in_err-copies g c =
+returns-in_err-copies g c recordings =
     rw (is_fault faults.Memory c.from_residual.result c.from_residual.ensures.1) (record {
       does = tt;
       stops = inr (inl (of_list faults.Memory tt (Keeps-refl _) (Keeps-refl _)));
@@ -31,7 +31,7 @@ returns-in_err-copies g c =
     })
 
 pub returns : goal.returns
-returns g c =
+returns g c recordings =
     let good = c.mend_of-good.result in
     let bytes = mend_of_bytes _ _ _ _ _ _ _ _ good c.mend_of-good.ensures.reported in
     let inputs = map-map (λ (log : ReadLog). log.remaining) (λ reader. g.F.Device.Source.log reader.source) c.as_mut_slice.result.now

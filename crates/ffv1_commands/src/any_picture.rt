@@ -1,0 +1,170 @@
+//! The command `picture --any`: writes what can be shown of a holding file of any recording (own).
+ghost use Rattle.std.specs.Prelude.{◌≡◌, ◌++◌, ◌↔◌, All, IsTrue, IfOk, IfErr, OnOk, string_bytes};
+ghost use Rattle.ffv1_player.specs.Shown.{ShowsHolding};
+ghost use Rattle.ffv1_player.specs.Written.{samples_bytes};
+ghost use Rattle.ffv1_commands.specs.PictureText.{stuck_line};
+ghost use Rattle.ffv1_commands.specs.Fault.{NamesPath};
+ghost use Rattle.ffv1_commands.specs.Paths.{IsHoldPath};
+ghost use Rattle.ffv1_commands.specs.Devices.{UnlessWriting};
+ghost use Rattle.ffv1_commands.specs.Inner.Devices.{WritesNamed, WritesBoth};
+ghost use Rattle.ffv1_commands.specs.AnyPictureText.{fault_line, unclean_line, shown_line, shown_text, IsShownWhole, ShowsAnyFile, AnyPictureStops, ReportsAnyPicture};
+
+use crate::devices::{buffered, write_file};
+use crate::fault::CliFault;
+use crate::holdings::read_holding;
+use crate::path::CommandPath;
+use ffv1_devices::{Sink, Source, ThroughWrite, WriteFailed};
+use ffv1_hold::{Holding, Recordings};
+use ffv1_player::{Samples, Shown, ShownTile, SliceEnd, show_holding, write_samples};
+use ffv1_range::Recording;
+use ffv1_samples::SliceFault;
+use std::alloc::{AllocError, Global};
+use std::io::{Read, Write};
+
+/// Reads a holding file of any recording to its end; writes what can be shown of it to `out`, planes Y, Cb, Cr and alpha, or G, B, R and
+/// alpha, row by row: a byte a sample at depth 8, else two, the less significant first, and 2^(depth - 1) where there is none; and then
+/// prints a line for each tile without samples, as `tile 0 missing`, and for each whose slice does not end as an encoder ends it, as
+/// `tile 0 unclean spare 8`. Returns whether there is no such tile.
+///
+/// Returns `Read` if the file can't be read; `HoldFile` with its first fault in the order of its bytes; `Memory` if an
+/// allocation fails: then nothing was written, and `out` was not touched. Returns `Write` if `out` or the output fails: then
+/// a front of the samples was written, or all samples and a front of the lines.
+pub fn run_any_picture<R: Read, O: Write, W: Write>(
+    alloc: Global,
+    file: &mut R,
+    out: &mut O,
+    output: &mut W,
+) -> Result<bool, CliFault>
+    ensures ok { IfOk result (ShowsAnyFile (R.remaining file.old) (O.contents out.old) (O.contents out.new) (W.contents output.old) (W.contents output.new)) }
+    ensures err { IfErr result (AnyPictureStops (R.remaining file.old) (O.contents out.old) (O.contents out.new) (W.contents output.old) (W.contents output.new)) }
+    ensures untouched { IfErr result (λ fault. UnlessWriting fault ((out.new ≡ out.old) × (output.new ≡ output.old))) }
+    ensures names { IfErr result (NamesPath IsHoldPath) }
+{
+    let mut file = buffered(alloc, file)?;
+    any_picture_of(
+        alloc,
+        &mut file,
+        &mut ThroughWrite::new(out),
+        &mut ThroughWrite::new(output),
+    )
+}
+
+/// The command over a source and sinks, whose logs say how it went: at `Read` the source was given up, and at `Write` the sink
+/// that is named; no other failures came but interruptions.
+pub fn any_picture_of<R: Source, O: Sink, W: Sink>(
+    alloc: Global,
+    file: &mut R,
+    out: &mut O,
+    output: &mut W,
+) -> Result<bool, CliFault>
+    ensures reported { ReportsAnyPicture result (R.log file.old) (R.log file.new) (O.log out.old) (O.log out.new) (W.log output.old) (W.log output.new) }
+    ensures untouched { IfErr result (λ fault. UnlessWriting fault ((out.new ≡ out.old) × (output.new ≡ output.old))) }
+{
+    let holding = read_holding(alloc, Recordings::Any, file, CommandPath::Hold(0))?;
+    let shown = shown_of_holding(alloc, holding)?;
+    let lines = shown_lines(alloc, shown.tiles.as_slice())?;
+    write_samples_shown(out, &shown.samples, output, lines.as_str())?;
+    Ok(are_whole(shown.tiles.as_slice()))
+}
+
+/// What can be shown of a holding.
+fn shown_of_holding(alloc: Global, holding: Holding<Recording>) -> Result<Shown, AllocError>
+    ensures shown { IfOk result (ShowsHolding holding) }
+{
+    show_holding(alloc, &holding)
+}
+
+/// Writes samples to OUT, or a front of them where that fails.
+fn write_frame<O: Sink>(out: &mut O, samples: &Samples) -> Result<(), CliFault>
+    ensures { WritesNamed CommandPath.Out result (O.log out.old) (O.log out.new) (samples_bytes samples.now) }
+{
+    match write_samples(samples, out) {
+        Ok(()) => Ok(()),
+        Err(WriteFailed) => Err(CliFault::Write(CommandPath::Out)),
+    }
+}
+
+/// Writes samples to OUT, and then prints a text.
+fn write_samples_shown<O: Sink, W: Sink>(
+    out: &mut O,
+    samples: &Samples,
+    output: &mut W,
+    text: &str,
+) -> Result<(), CliFault>
+    ensures { WritesBoth result (samples_bytes samples.now) text.now (O.log out.old) (O.log out.new) (W.log output.old) (W.log output.new) }
+{
+    write_frame(out, samples)?;
+    write_file(output, CommandPath::StandardOutput, text.as_bytes())
+}
+
+/// Whether each tile has samples, and its slice ends as an encoder ends it.
+fn are_whole(tiles: &[ShownTile]) -> bool
+    ensures { IsTrue result ↔ All IsShownWhole tiles.now }
+{
+    tiles.iter().all(|tile| matches!(tile, ShownTile::Decoded(SliceEnd { is_clean: true, .. })))
+}
+
+/// The lines of the tiles.
+fn shown_lines(alloc: Global, tiles: &[ShownTile]) -> Result<String, AllocError>
+    ensures { IfOk result (λ text. string_bytes text ≡ shown_text tiles.now) }
+{
+    let mut text = String::new(alloc);
+    for tile in 0..tiles.len() {
+        push_tile(&mut text, tile, tiles[tile])?;
+    }
+    Ok(text)
+}
+
+/// Adds the line of a tile, if it has one.
+fn push_tile(text: &mut String, tile: usize, shown: ShownTile) -> Result<(), AllocError>
+    ensures { OnOk result (string_bytes text.new ≡ string_bytes text.old ++ shown_line tile shown) }
+{
+    match shown {
+        ShownTile::Decoded(end) => push_end(text, tile, end),
+        ShownTile::Missing => writeln!(text, "tile {tile} missing"),
+        ShownTile::Disputed(slices) => writeln!(text, "tile {tile} disputed {slices}"),
+        ShownTile::NoKeyframe => writeln!(text, "tile {tile} no keyframe"),
+        ShownTile::Fault(cause) => push_fault(text, tile, cause),
+    }
+}
+
+/// Adds the line of a tile whose slice ends so, if it does not end as an encoder ends it.
+fn push_end(text: &mut String, tile: usize, end: SliceEnd) -> Result<(), AllocError>
+    ensures { OnOk result (string_bytes text.new ≡ string_bytes text.old ++ shown_line tile (ShownTile.Decoded end)) }
+{
+    if end.is_clean {
+        return Ok(());
+    }
+    push_unclean(text, tile, end.spare_bits)
+}
+
+/// Adds the line of a tile whose slice does not end as an encoder ends it, and has so many spare bits.
+fn push_unclean(text: &mut String, tile: usize, spare: usize) -> Result<(), AllocError>
+    ensures { OnOk result (string_bytes text.new ≡ string_bytes text.old ++ unclean_line tile spare) }
+{
+    writeln!(text, "tile {tile} unclean spare {spare}")
+}
+
+/// Adds the line of a tile whose settled slice has no picture.
+fn push_fault(text: &mut String, tile: usize, cause: SliceFault) -> Result<(), AllocError>
+    ensures { OnOk result (string_bytes text.new ≡ string_bytes text.old ++ fault_line tile cause) }
+{
+    match cause {
+        SliceFault::Code { plane, y, x, .. } => push_sample(text, tile, plane, y, x),
+        SliceFault::End => writeln!(text, "tile {tile} fault end"),
+        _ => writeln!(text, "tile {tile} fault header"),
+    }
+}
+
+/// Adds the line of a tile with the sample at which its slice can't be read.
+fn push_sample(
+    text: &mut String,
+    tile: usize,
+    plane: usize,
+    y: usize,
+    x: usize,
+) -> Result<(), AllocError>
+    ensures { OnOk result (string_bytes text.new ≡ string_bytes text.old ++ stuck_line tile plane y x) }
+{
+    writeln!(text, "tile {tile} fault plane {plane} y {y} x {x}")
+}
