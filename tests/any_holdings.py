@@ -1,41 +1,46 @@
-"""Holdings of any recording whose slices have parities, read and made by their definitions (docs/FORMAT.md), apart from the program."""
-import hashlib
-
+"""Holdings of any recording whose slices have parities, read and written by their definitions (docs/FORMAT.md), apart from the program: what the
+commands with the word --any make, print and report."""
 import readings
 import sample_reading
-from readings import Fault, judge
+from readings import Fault
 
-ANY_MAGIC, PROFILE_MAGIC = b"FFV1ANY", readings.MAGIC
-PARITIES = readings.ANY._replace(modes=(1,))
+MAGIC, VERSION = b"FFV1ANY", 1
+PARITY_MODE = 16
 
 
-# FORMAT: The holding file
+# FORMAT: The configuration record
 def is_in_profile(recording):
-    """Whether a recording whose slices have parities is in the profile."""
-    is_gray_or_ycbcr = not recording.is_rgb and not recording.has_alpha
-    return recording.coder == 0 and is_gray_or_ycbcr and recording.depth == 8 and max(recording.shifts) <= 2
+    """Whether a recording with parities is in the profile."""
+    fits = recording.coder == 0 and recording.depth == 8 and max(recording.shifts) <= readings.PROFILE.greatest_shift
+    return fits and not recording.is_rgb and not recording.has_alpha
+
+
+# FORMAT: The configuration record
+def recording_of(record, size, is_any):
+    """The recording of a record; Fault where holdings are of no such recording."""
+    if not is_any:
+        return readings.recording_of(record, size, readings.PROFILE)
+    return readings.recording_of(record, size, readings.ANY._replace(modes=(1,)))
 
 
 # FORMAT: Slice headers
-def header_of(recording, piece, is_first):
-    """The header of a slice of one tile, or None where some bytes are none."""
+def header_of(recording, piece, first):
+    """The header of a slice that is of one tile, and the decoder after it; or None."""
     if not readings.is_slice(piece):
         return None
     try:
-        header, _ = sample_reading.start_of_slice(recording, piece[:-8], is_first)
+        header, coder = sample_reading.start_of_slice(recording, piece[:-8], first)
     except sample_reading.FrameFault:
         return None
-    if (header.width, header.height) != (1, 1) or is_in_profile(recording) and header.key is False:
-        return None
-    return header
+    is_taken = header.width == header.height == 1 and first == (header.x == header.y == 0) and (header.key is not False or not is_in_profile(recording))
+    return (header, coder) if is_taken else None
 
 
 # FORMAT: Slice headers
-def tile_of(recording, piece, is_first):
+def tile_of(recording, piece, first):
     """The tile of which some bytes are a slice, or None."""
-    header = header_of(recording, piece, is_first)
-    tile = header and header.y * recording.grid[0] + header.x
-    return tile if header and is_first == (tile == 0) else None
+    found = header_of(recording, piece, first)
+    return found and found[0].y * recording.grid[0] + found[0].x
 
 
 # FORMAT: Slices of a payload
@@ -48,78 +53,125 @@ def found_slices(recording, payload):
 # FORMAT: Holdings
 def taken(recording, payload):
     """What a copy adds to a holding: the slices found in it, each with its tile and the copy's digest."""
-    digest = hashlib.sha256(payload).digest()
+    digest = readings.hashlib.sha256(payload).digest()
     return {each: {digest} for each in found_slices(recording, payload)}
 
 
 # FORMAT: The holding file
-def holding_text(recording, record, held):
-    """The file of a holding: its magic says whether the recording is in the profile."""
+def holding_text(record, recording, held):
+    """The file of a holding: in the profile of version 2, else of its own magic."""
     text = readings.holding_text(record, recording.size, held)
-    return text if is_in_profile(recording) else ANY_MAGIC + b"\x01" + text[8:]
+    return text if is_in_profile(recording) else MAGIC + bytes([VERSION]) + text[8:]
 
 
 # FORMAT: The holding file
-def judge_magic(text):
-    """Whether a file is of any recording: its first byte that neither magic has is its fault."""
-    magics = [PROFILE_MAGIC + b"\x01", PROFILE_MAGIC + b"\x02", ANY_MAGIC + b"\x01"]
-    for end in range(1, 9):
-        judge(len(text) >= end, 3)
-        judge(any(magic.startswith(text[:end]) for magic in magics), 1)
-    return text.startswith(ANY_MAGIC)
-
-
-# FORMAT: The holding file
-def read_holding(text):
-    """The recording, record and slices of a holding file that is read with `--any`, or Fault with the first fault's number."""
-    is_any = judge_magic(text)
+def read_holding(text, is_any):
+    """The record, the recording and the slices of a holding file, or Fault with the number of its first fault."""
+    heads = [readings.MAGIC + b"\x01", readings.MAGIC + b"\x02", *[MAGIC + bytes([VERSION])] * is_any]
+    for place in range(8):
+        if not any(head.startswith(text[: place + 1]) for head in heads):
+            raise Fault(1)
+        readings.judge(place < len(text), 3)
     length = int.from_bytes(text[16:20], "big")
-    judge(len(text) < 20 or length <= readings.RECORD_LIMIT, 11)
-    judge(len(text) >= 20 + length, 3)
+    readings.judge(len(text) < 20 or length <= readings.RECORD_LIMIT, 11)
+    readings.judge(len(text) >= 20 + length, 3)
     record, size = text[20 : 20 + length], (int.from_bytes(text[8:12], "big"), int.from_bytes(text[12:16], "big"))
+    is_other = text.startswith(MAGIC)
     try:
-        recording = readings.recording_of(record, size, PARITIES if is_any else readings.PROFILE)
+        recording = recording_of(record, size, is_other)
     except Fault:
         raise Fault(2) from None
-    judge(not (is_any and is_in_profile(recording)), 1)
-    version = b"\x02" if is_any else text[7:8]
-    return recording, record, readings.read_entries(recording, text[:7] + version + text[8:], 20 + length, tile_of)
+    readings.judge(not (is_other and is_in_profile(recording)), 1)
+    return record, recording, read_entries(recording, text, 20 + length)
 
 
-# man page: picture
-def shown_tile(recording, tile, pieces, is_between):
-    """The slice that is shown in a tile, or None, and the tile's line, or None."""
-    if len(pieces) != 1:
-        return None, f"tile {tile} disputed {len(pieces)}" if pieces else f"tile {tile} missing"
-    if is_between:
-        return None, f"tile {tile} no keyframe"
-    content = pieces[0][:-8]
-    header, coder = sample_reading.start_of_slice(recording, content, tile == 0)
-    try:
-        found = sample_reading.read_slice(recording, content, header, coder, sample_reading.fresh_states(recording, header.tables))
-    except sample_reading.Stuck as stuck:
-        name, *where = stuck.args
-        return None, f"tile {tile} fault end" if name == "End" else "tile {} fault plane {} y {} x {}".format(tile, *where)
-    return found, None if found.is_clean else f"tile {tile} unclean spare {found.spare}"
+# FORMAT: The holding file
+def read_entries(recording, text, place):
+    """The entries of a holding file from a place on."""
+    held, last, is_first = {}, None, text.startswith(readings.MAGIC + b"\x01")
+    while text[place : place + 1] == b"\x01":
+        head = text[place + 1 : place + 7]
+        length = int.from_bytes(head[2:6], "big")
+        readings.judge(len(head) < 6 or length <= readings.SLICE_LIMIT, 11)
+        piece = text[place + 7 : place + 7 + length]
+        readings.judge(len(head) == 6 and len(piece) == length, 3)
+        tile = int.from_bytes(head[:2], "big")
+        readings.judge(tile_of(recording, piece, tile == 0) == tile, 6)
+        readings.judge(last is None or last < (tile, piece), 5)
+        last, place = (tile, piece), place + 7 + length
+        held[last], place = (set(), place) if is_first else readings.read_origins(text, place)
+    readings.judge(place < len(text), 3)
+    readings.judge(text[place] == 0, 4)
+    readings.judge(place + 1 == len(text), 7)
+    return held
 
 
-# man page: picture
-def pictured(recording, held):
-    """What `picture` makes of a holding, what it prints, and its exit status."""
-    stand = readings.standing(held, readings.tiles_of(recording))
-    is_between = len(stand[0]) == 1 and not header_of(recording, stand[0][0], True).key
-    shown = [shown_tile(recording, tile, pieces, is_between) for tile, pieces in enumerate(stand)]
-    lines = "".join(f"{line}\n" for _, line in shown if line)
-    made = sample_reading.samples_text(recording, [found for found, _ in shown if found])
-    return made, lines.encode(), 3 if lines else 0
+# ---- what the commands make
+
+
+# man page: take
+def took(record, size, payloads, is_any=True):
+    """What `take` makes and prints of copies, or Fault with the number of the record's fault."""
+    recording, held, lines = recording_of(record, size, is_any), {}, ""
+    for number, payload in enumerate(payloads, 1):
+        found = taken(recording, payload)
+        lines += f"copy {number} links {len(readings.links(payload)[0])} slices {len(found_slices(recording, payload))} new {len(set(found) - set(held))}\n"
+        held = readings.united(held, found)
+    return holding_text(record, recording, held), lines.encode()
+
+
+# man page: join
+def joined(texts, is_any=True):
+    """What `join` and `merge` make of holding files of one recording, and what `join` prints."""
+    read, held, lines = [read_holding(text, is_any) for text in texts], {}, ""
+    for number, (_, _, more) in enumerate(read, 1):
+        lines += f"file {number} new {len(set(more) - set(held))}\n"
+        held = readings.united(held, more)
+    return holding_text(*read[0][:2], held), lines.encode()
+
+
+# man page: report
+def reported(text, is_any=True):
+    _, recording, held = read_holding(text, is_any)
+    return readings.report_text(recording.size, held, readings.tiles_of(recording))
 
 
 # man page: restore
-def restored(recording, held):
-    """What `restore` makes of a holding, what it prints, and its fault."""
+def restored(text, is_any=True):
+    """The payload of a holding whose tiles are all settled, or None; and the line that names the first tile that is not settled."""
+    _, recording, held = read_holding(text, is_any)
     stand = readings.standing(held, readings.tiles_of(recording))
     for tile, pieces in enumerate(stand):
         if len(pieces) != 1:
-            return None, b"", f"{'disputed' if pieces else 'missing'} tile {tile}"
-    payload = b"".join(pieces[0] for pieces in stand)
-    return payload, f"restored {len(payload)} bytes\n".encode(), None
+            return None, f"{'disputed' if pieces else 'missing'} tile {tile}"
+    return b"".join(pieces[0] for pieces in stand), None
+
+
+# man page: picture
+def shown_slice(recording, piece, first):
+    """The slice that some bytes are, decoded from initial states, or its fault in a line."""
+    header, coder = header_of(recording, piece, first)
+    try:
+        return sample_reading.read_slice(recording, piece[:-8], header, coder, sample_reading.fresh_states(recording, header.tables))
+    except sample_reading.Stuck as stuck:
+        return "fault end" if stuck.args[0] == "End" else "fault plane {} y {} x {}".format(*stuck.args[1:])
+
+
+# man page: picture
+def pictured(text, is_any=True):
+    """What `picture` writes of a holding, what it prints, and its status. Ends that are not an encoder's are reported with --any alone."""
+    _, recording, held = read_holding(text, is_any)
+    stand = readings.standing(held, readings.tiles_of(recording))
+    first = header_of(recording, stand[0][0], True) if len(stand[0]) == 1 else None
+    has_states, slices, lines = not (first and first[0].key is False), [], ""
+    for tile, pieces in enumerate(stand):
+        if len(pieces) != 1:
+            lines += f"tile {tile} " + (f"disputed {len(pieces)}\n" if pieces else "missing\n")
+            continue
+        shown = shown_slice(recording, pieces[0], tile == 0) if has_states else "no keyframe"
+        if isinstance(shown, str):
+            lines += f"tile {tile} {shown}\n"
+        else:
+            slices.append(shown)
+            lines += "" if shown.is_clean or not is_any else f"tile {tile} unclean spare {shown.spare}\n"
+    return sample_reading.samples_text(recording, slices), lines.encode(), 3 if lines else 0
