@@ -11,6 +11,7 @@ if __name__ == "__main__":
     sys.dont_write_bytecode = True
     sys.path.insert(0, str(pathlib.Path(__file__).resolve().parent.parent))
 
+import any_holdings
 import readings
 import sample_reading
 
@@ -46,6 +47,66 @@ def samples(words: list[str]) -> int:
     return end(printed, status, fault)
 
 
+def take(words: list[str]) -> int:
+    is_any, words = any_first(words)
+    payloads = [pathlib.Path(path).read_bytes() for path in words[4:]]
+    try:
+        made, printed = any_holdings.took(pathlib.Path(words[0]).read_bytes(), (int(words[1]), int(words[2])), payloads, is_any)
+    except readings.Fault as fault:
+        return end(b"", 1, f"setup fault {fault.args[0]}")
+    return written(words[3], made, printed)
+
+
+def join(words: list[str], prints: bool = True) -> int:
+    is_any, words = any_first(words)
+    try:
+        made, printed = any_holdings.joined([pathlib.Path(path).read_bytes() for path in words[1:]], is_any)
+    except readings.Fault as fault:
+        return end(b"", 1, f"holding file fault {fault.args[0]}")
+    return written(words[0], made, printed if prints else b"")
+
+
+def merge(words: list[str]) -> int:
+    return join(words, False)
+
+
+def report(words: list[str]) -> int:
+    is_any, words = any_first(words)
+    try:
+        return end(any_holdings.reported(pathlib.Path(words[0]).read_bytes(), is_any), 0, None)
+    except readings.Fault as fault:
+        return end(b"", 1, f"holding file fault {fault.args[0]}")
+
+
+def restore(words: list[str]) -> int:
+    is_any, words = any_first(words)
+    try:
+        payload, lacks = any_holdings.restored(pathlib.Path(words[0]).read_bytes(), is_any)
+    except readings.Fault as fault:
+        return end(b"", 1, f"holding file fault {fault.args[0]}")
+    return end(b"", 1, lacks) if payload is None else written(words[1], payload, f"restored {len(payload)} bytes\n".encode())
+
+
+def picture(words: list[str]) -> int:
+    is_any, words = any_first(words)
+    try:
+        made, printed, status = any_holdings.pictured(pathlib.Path(words[0]).read_bytes(), is_any)
+    except readings.Fault as fault:
+        return end(b"", 1, f"holding file fault {fault.args[0]}")
+    return written(words[1], made, printed, status)
+
+
+def any_first(words: list[str]) -> tuple[bool, list[str]]:
+    """Whether the first word is --any, and the other words."""
+    is_any = words[0] == "--any"
+    return is_any, words[is_any:]
+
+
+def written(path: str, made: bytes, printed: bytes, status: int = 0) -> int:
+    pathlib.Path(path).write_bytes(made)
+    return end(printed, status, None)
+
+
 def recording(words: list[str]) -> readings.Recording:
     """The recording of a record and a size."""
     return readings.recording_of(pathlib.Path(words[0]).read_bytes(), (int(words[1]), int(words[2])))
@@ -58,7 +119,8 @@ def end(printed: bytes, status: int, fault: str | None) -> int:
     return status
 
 
-COMMANDS = {"scan": scan, "mend": mend, "setup": setup, "samples": samples}
+COMMANDS = {"scan": scan, "mend": mend, "setup": setup, "samples": samples, "take": take, "join": join, "merge": merge, "report": report,
+            "restore": restore, "picture": picture}
 
 
 def make(folder: pathlib.Path, before: str = "") -> str:

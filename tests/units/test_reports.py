@@ -1,6 +1,7 @@
 """The report for machines, and the page."""
 import base64
 import dataclasses
+import html
 import html.parser
 import io
 import json
@@ -17,7 +18,7 @@ from mend_reel.judging.results import FrameState, NearEnd
 from mend_reel.judging.verdict import Evidence, judge
 from mend_reel.model import Because, Content, Kind, Outcome, SliceReport, State
 from mend_reel.reports import json_document, page, timeline
-from mend_reel.reports.pictures import Drawn
+from mend_reel.reports.pictures import Drawn, Tiles
 from mend_reel.reports.summary import CopySummary, Role, Summary
 from mend_reel.reports.timeline import COLUMNS, Shade, Timeline
 from .test_verdict import element, missing, plain, recording, repaired, settled, undivided, voted
@@ -92,6 +93,17 @@ class MachineTest(unittest.TestCase):
                          [("none", "woven"), ("some", "woven"), ("all", "not restored"), (None, "not restored")])
         self.assertEqual([reason["why"] for reason in read["verdict"]["reasons"]], ["beside", "near_end", "repaired"])
         self.assertIn("frame 1 (0:00:00.040, bytes 724 to 1024): restored with a slice that is voted", read["notes"][0])
+
+    def test_the_tiles_of_frames_that_are_shown(self):
+        made = summary(recording(), *DAMAGED)
+        lost = next(result for result in made.verdict.results.frames.values() if result.state is FrameState.LOST)
+        made.shown = [Drawn(lost, Tiles(frozenset({7, 5}), frozenset({3}), frozenset({2, 1})), 24)]
+        first, second, _ = self.read(made)["stretches"]
+        self.assertEqual(first["frames"][0]["tiles"], {"count": 24, "lost": [5, 7], "undecodable": [3], "unclean": [1, 2], "is_keyframe": True})
+        self.assertEqual([frame["tiles"] for frame in second["frames"]], [None])
+        made.shown = [Drawn(lost, Tiles(frozenset({0}), is_key=False), 1)]
+        self.assertIs(self.read(made)["stretches"][0]["frames"][0]["tiles"]["is_keyframe"], False)
+        self.assertIsNone(self.read(summary(recording(), *DAMAGED))["stretches"][0]["frames"][0]["tiles"])
 
     def test_nothing_is_damaged(self):
         read = self.read(summary(recording(), out=False))
@@ -216,11 +228,34 @@ class PageTest(unittest.TestCase):
     def test_pictures_of_frames_that_are_not_restored(self):
         made = summary(recording(), *DAMAGED)
         lost = [result for result in made.verdict.results.frames.values() if result.state is FrameState.LOST]
-        made.pictures = [Drawn(lost[0], 1, 24, b"few"), Drawn(lost[0], 9, 24, b"more")]
+        made.shown = [Drawn(lost[0], Tiles(frozenset({5})), 24, b"few"), Drawn(lost[0], Tiles(frozenset(range(8)), frozenset({9})), 24, b"more")]
         text, words = self.page(made)
         self.assertLess(words.index("9 of 24 tiles hatched"), words.index("1 of 24 tiles hatched"))
         self.assertEqual(re.findall(r'src="data:image/png;base64,([^"]*)"', text), [base64.b64encode(image).decode() for image in (b"more", b"few")])
         self.assertNotIn("What can be shown", "".join(self.page(summary(recording(), *DAMAGED))[1]))
+        made.shown = [Drawn(lost[0], Tiles(), 24)]
+        self.assertNotIn("What can be shown", "".join(self.page(made)[1]))
+
+    def test_what_is_said_of_a_picture(self):
+        made = summary(recording(), *DAMAGED)
+        lost = next(result for result in made.verdict.results.frames.values() if result.state is FrameState.LOST)
+        said = {Tiles(): {"0 of 6 tiles hatched"}, Tiles(frozenset({1}), frozenset({2, 3})): {"3 of 6 tiles hatched", "2 of these undamaged, but can't be decoded"},
+                Tiles(unclean=frozenset({4})): {"0 of 6 tiles hatched", "1 shown, but their slices do not end as an encoder ends them"},
+                Tiles(frozenset({1}), is_key=False): {"1 of 6 tiles hatched", "no keyframe: undamaged tiles are plain gray, as the frames before are needed to decode them"},
+                Tiles(frozenset(range(6)), is_key=False): {"6 of 6 tiles hatched"}}
+        for tiles, wanted in said.items():
+            self.assertEqual(set(page.captions(Drawn(lost, tiles, 6, b""))), wanted)
+            made.shown = [Drawn(lost, tiles, 6, b"")]
+            text, words = self.page(made)
+            self.assertTrue(all(words.count(each) == 1 and text.count(html.escape(each)) == 2 for each in wanted), text)
+
+    def test_it_is_said_where_more_frames_are_lost_than_shown(self):
+        outcomes = [Outcome(element(number), State.MISSING, 0, "10", {0: tuple(missing("10", at, at + 1) for at in range(6))}) for number in range(4)]
+        made = summary(recording(), *outcomes)
+        lost = list(made.verdict.results.frames.values())
+        for count, is_said in ((3, True), (4, False)):
+            made.shown = [Drawn(result, Tiles(), 24, b"") for result in lost[:count]]
+            self.assertEqual("3 of 4 are shown, those with the most lost tiles" in self.page(made)[1], is_said)
 
     def test_many_frames_make_a_bounded_page(self):
         layout = recording(2200)

@@ -46,9 +46,9 @@ class FrameResult:
     slices: tuple[SliceReport, ...] = ()  # as the program listed them
     near_end: NearEnd | None = None  # where its guessed bytes lie, if it decodes with guessed slices
 
-    def lost_bytes(self) -> int:
-        """How many of its bytes are in no slice that is settled or woven."""
-        return self.frame.size - sum(each.end - each.start for each in self.slices if each.state in GIVEN)
+    def settled(self) -> int:
+        """How many of its slices are settled."""
+        return sum(each.state == "settled" for each in self.slices)
 
 
 @dataclasses.dataclass

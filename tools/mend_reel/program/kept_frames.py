@@ -10,30 +10,31 @@ import tempfile
 from collections.abc import Iterable, Sequence
 from typing import NamedTuple
 
-from ..judging.results import FrameResult
+from ..judging.results import FrameResult, FrameState
 from ..model import Copy, Fault, Track
-from ..reports.pictures import Drawn, Shape, lost_tiles, thumbnail
+from ..reports.pictures import LONGEST, Drawn, Shape, Tiles, blank, picture, shape_of, tiles_of
 from .external_programs import last_line, run
 from .output_files import in_one_line, is_same
 
-# How the samples of a record are named by FFmpeg: by the planes and shifts that `ffv1restore show` prints.
-PIXELS = {"1 0 0": "gray", "3 0 0": "yuv444p", "3 1 0": "yuv422p", "3 1 1": "yuv420p", "3 0 1": "yuv440p", "3 2 0": "yuv411p",
-          "3 2 2": "yuv410p"}
-# What stands for the name of samples that FFmpeg has none for.
-NO_PICTURE = "none"
+# The word by which ffv1restore holds frames of any recording with parities, and the statuses with which it has written a picture.
+ANY, SHOWN = "--any", (0, 3)
 # The names of the files that are kept.
 KEPT = re.compile(r"list|copies|frames-of-copy-\d+|(?:track-\d+-)?frame-\d+\.(?:hold|report|png)")
 
 
 class Held(NamedTuple):
-    """A damaged frame: its name among what is kept, its track, what the copies have of it by their paths, whether it is restored, and what
-    became of it if the report is to show it."""
+    """A damaged frame: its name among what is kept, its track, what the copies have of it by their paths, what became of it, and whether the
+    report is to show it."""
 
     name: str
     track: Track
     pieces: Sequence[tuple[str, bytes]]
-    is_restored: bool
-    drawn: FrameResult | None = None
+    result: FrameResult
+    is_drawn: bool = False
+
+    def is_shown(self) -> bool:
+        """Whether it is to be shown, if frames are."""
+        return self.result.state is FrameState.LOST
 
 
 def refuse_kept(folders: Iterable[str], copies: Sequence[str], force: bool) -> None:
@@ -52,11 +53,8 @@ class Keeper:
     def __init__(self, program: str, work: pathlib.Path, keep: str | None, pictures: str | None, draws: bool = False) -> None:
         self.program, self.work, self.keep, self.pictures, self.draws = program, work, keep, pictures, draws
         self.notes: list[str] = []
-        self.pixels: dict[int, str] = {}
-        self.shapes: dict[int, Shape] = {}
+        self.shapes: dict[int, Shape | None] = {}
         self.drawn: list[Drawn] = []
-        if pictures and not shutil.which("ffmpeg"):
-            raise Fault("there is no ffmpeg on the PATH, and it makes the pictures")
         for name in ("keep", "pictures"):
             (work / name).mkdir()
 
@@ -74,43 +72,42 @@ class Keeper:
             self.notes.append(f"the list is not kept: {error.strerror}")
 
     def is_asked_for(self, track: Track) -> bool:
-        """Whether a track's frames are to be held, and can be: it is in the profile of holdings."""
-        if (self.keep or self.pictures or self.draws) and track.number not in self.pixels:
-            self.pixels[track.number] = self.judge(track)
-        return bool(self.pixels.get(track.number))
+        """Whether a track's frames are to be held, and can be."""
+        return bool(self.keep or self.pictures or self.draws) and self.shape(track) is not None
 
-    def judge(self, track: Track) -> str:
-        """How the samples of a track in the profile are named; nothing where it is not in the profile, which a note says."""
+    def shape(self, track: Track) -> Shape | None:
+        """How a track's frames are recorded; None where they can't be held."""
+        if track.number not in self.shapes:
+            self.shapes[track.number] = self.judge(track)
+        return self.shapes[track.number]
+
+    def judge(self, track: Track) -> Shape | None:
+        """How a track's frames are recorded by its record; None where they can't be held, which a note says if they were to be kept."""
         record = self.work / f"record.{track.number}"
         record.write_bytes(track.record)
-        done = run(self.program, "show", record, str(track.width), str(track.height))
-        if done.returncode:
-            if self.keep or self.pictures:
-                why = last_line(done.stderr, done.returncode)
-                self.notes.append(f"no frame of track {track.number} is kept or shown: the recording is not in the profile ({why})")
-            return ""
-        lines = done.stdout.decode().splitlines()
-        planes, shifts = lines[2].split(" shift ")
-        if self.draws:
-            h, v, across, down = map(int, (*shifts.split(), *lines[3].split()[1].split("x")))
-            self.shapes[track.number] = Shape(track.width, track.height, (h, v) if planes == "planes 3" else None, (across, down))
-        pixels = PIXELS.get(" ".join((planes.split()[1], *shifts.split()[:2])), NO_PICTURE)
-        if self.pictures and pixels == NO_PICTURE:
-            self.notes.append(f"no frame of track {track.number} is shown: its planes ({planes}, shift {shifts}) have no name in FFmpeg")
-        return pixels
+        done = run(self.program, "setup", record, str(track.width), str(track.height))
+        shape, has_parities = (None, False) if done.returncode else shape_of(done.stdout.decode(), (track.width, track.height))
+        if (self.keep or self.pictures) and not has_parities:
+            why = (f"ffv1restore does not read its Configuration Record ({last_line(done.stderr, done.returncode)})" if shape is None else
+                   "its slices have no parities")
+            self.notes.append(f"no frame of track {track.number} is kept or shown: {why}")
+        return shape if has_parities else None
+
+    def lost_tiles(self, track: Track, result: FrameResult) -> int:
+        """How many tiles of a frame have no settled slice, by what became of the frame."""
+        shape = self.shape(track)
+        return shape.tiles() - result.settled() if shape else 0
 
     def hold(self, frame: Held) -> None:
-        """Makes the holding file of a frame, its report, and a picture of what it has."""
+        """Makes the holding file of a frame, its report, and pictures of what it has."""
         try:
             with tempfile.TemporaryDirectory(dir=self.work) as folder:
                 hold = self.take(frame, pathlib.Path(folder))
                 if self.keep:
                     shutil.copyfile(hold, self.work / "keep" / f"{frame.name}.hold")
                     self.report(frame, hold)
-                if self.pictures and not frame.is_restored and self.pixels[frame.track.number] != NO_PICTURE:
+                if frame.is_drawn or self.pictures and frame.is_shown():
                     self.show(frame, hold)
-                if frame.drawn:
-                    self.draw(frame.track, frame.drawn, hold)
         except (Fault, OSError) as fault:
             self.notes.append(f"{frame.name} is not kept: {fault}")
 
@@ -120,7 +117,7 @@ class Keeper:
         for piece, path in paths.items():
             path.write_bytes(piece)
         size = str(frame.track.width), str(frame.track.height)
-        done = run(self.program, "take", self.work / f"record.{frame.track.number}", *size, folder / "hold", *paths.values())
+        done = run(self.program, "take", ANY, self.work / f"record.{frame.track.number}", *size, folder / "hold", *paths.values())
         if done.returncode:
             raise Fault(f"{frame.name} can't be held: {last_line(done.stderr, done.returncode)}")
         return folder / "hold"
@@ -130,24 +127,28 @@ class Keeper:
         givers: dict[str, list[str]] = {}
         for path, piece in frame.pieces:
             givers.setdefault(hashlib.sha256(piece).hexdigest(), []).append(in_one_line(os.path.realpath(path)))
-        lines = run(self.program, "report", hold).stdout.decode().splitlines()
+        done = run(self.program, "report", ANY, hold)
+        if done.returncode:
+            raise Fault(f"its report can't be made: {last_line(done.stderr, done.returncode)}")
+        lines = done.stdout.decode().splitlines()
         named = [line + " " + ", ".join(givers.get(line.split()[3], [])) if " origin " in line else line for line in lines]
         (self.work / "keep" / f"{frame.name}.report").write_bytes(b"".join(os.fsencode(line) + b"\n" for line in named))
 
     def show(self, frame: Held, hold: pathlib.Path) -> None:
-        """An image of what a holding file has."""
-        samples = hold.parent / "samples"
-        if run(self.program, "picture", hold, samples).returncode in (0, 3):
-            run("ffmpeg", "-v", "quiet", "-y", "-f", "rawvideo", "-pix_fmt", self.pixels[frame.track.number], "-s",
-                f"{frame.track.width}x{frame.track.height}", "-i", samples, self.work / "pictures" / f"{frame.name}.png")
-
-    def draw(self, track: Track, result: FrameResult, hold: pathlib.Path) -> None:
-        """A small picture of what a holding file has, for the report."""
-        shape, samples = self.shapes[track.number], hold.parent / "drawn"
-        lost = list(lost_tiles(run(self.program, "report", hold).stdout.decode()))
-        if run(self.program, "picture", hold, samples).returncode in (0, 3):
-            image = thumbnail(shape, samples.read_bytes(), lost)
-            self.drawn.append(Drawn(result, len(lost), shape.grid[0] * shape.grid[1], image))
+        """Pictures of what a holding file has: an image of full size, and a small one for the report."""
+        shape, samples = self.shape(frame.track), hold.parent / "samples"
+        done = run(self.program, "picture", ANY, hold, samples)
+        if shape is None or done.returncode not in SHOWN:
+            self.notes.append(f"{frame.name} is not shown: {last_line(done.stderr, done.returncode)}")
+            return
+        tiles, content = tiles_of(done.stdout.decode()), samples.read_bytes()
+        if not frame.result.frame.key and 0 in tiles.lost:
+            # The slice of tile 0 alone would have said it: the program decoded slices that need the frames before.
+            tiles, content = Tiles(tiles.lost, is_key=False), blank(shape, len(content))
+        if self.pictures and frame.is_shown():
+            (self.work / "pictures" / f"{frame.name}.png").write_bytes(picture(shape, content))
+        small = picture(shape, content, tiles.hatched(), LONGEST) if frame.is_drawn else None
+        self.drawn.append(Drawn(frame.result, tiles, shape.tiles(), small))
 
     def hand_over(self, others: Sequence[str]) -> list[str]:
         """Copies what was kept to where it is asked for, but over none of some other files. Returns what could not be, in lines."""

@@ -20,7 +20,7 @@ from ..judging import copy_health, decoding, frame_digests, kept_digests
 from ..judging.frame_checks import Scan
 from ..judging.results import FrameResult, FrameState, NearEnd
 from ..judging.verdict import Evidence, Verdict, judge
-from ..model import MATROSKA, Copy, Fault, Frame, Layout, Outcome, State, Stretch, open_copy, or_fault
+from ..model import MATROSKA, Copy, Fault, Frame, Layout, Outcome, State, Stretch, Track, open_copy, or_fault
 from ..reports import json_document, page
 from ..reports.summary import CopySummary, Role, Summary
 from . import ddrescue_maps, output_files
@@ -151,6 +151,8 @@ class Session:
         if copy_health.lack_parities(layout, [copies[number] for number in arrangement.basis]):
             layout = copy_health.without_parts(layout)
             self.notes.append(copy_health.NO_PARITIES)
+            for track in filter(lambda track: track.is_ffv1, layout.tracks):
+                self.keeper.is_asked_for(track)
         inputs, layout = gather(arrangement, layout, copies, self.work)
         self.progress.begin("comparing the copies")
         comparison = compare(layout, inputs, self.progress.at)
@@ -273,15 +275,20 @@ class Session:
         """Keeps what was asked for of each damaged frame."""
         tracks = {track.number: track for track in layout.tracks}
         several = sum(track.is_ffv1 for track in layout.tracks) > 1
-        lost = (result for result in verdict.results.frames.values() if result.state is FrameState.LOST)
-        shown = {result.number for result in heapq.nlargest(MOST_SHOWN, lost, key=FrameResult.lost_bytes)} if self.options.report else set()
+        shown = {result.number for result in self.worst(tracks, verdict)} if self.options.report else set()
         for result in verdict.results.frames.values():
             track, is_shown = tracks[result.frame.track], result.number in shown
             if (self.options.keep or self.options.pictures or is_shown) and self.keeper.is_asked_for(track):
                 name = f"track-{track.number}-frame-{result.order}" if several else f"frame-{result.order}"
                 pieces = self.versions(result.frame, made.stretches[result.stretch], inputs)
-                self.keeper.hold(Held(name, track, pieces, result.state is not FrameState.LOST, result if is_shown else None))
+                self.keeper.hold(Held(name, track, pieces, result, is_shown))
         self.notes += self.keeper.notes
+
+    def worst(self, tracks: Mapping[int, Track], verdict: Verdict) -> list[FrameResult]:
+        """The frames that a report shows: of those that are not restored the ones with the most lost tiles, and of these the first ones."""
+        lost = [result for result in verdict.results.frames.values() if result.state is FrameState.LOST]
+        can_be_shown = [result for result in lost if self.keeper.is_asked_for(tracks[result.frame.track])]
+        return heapq.nsmallest(MOST_SHOWN, can_be_shown, key=lambda result: (-self.keeper.lost_tiles(tracks[result.frame.track], result), result.number))
 
     def versions(self, frame: Frame, stretch: Stretch, inputs: Inputs) -> list[tuple[str, bytes]]:
         """What the copies have of a frame, each by its path."""

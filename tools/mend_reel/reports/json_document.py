@@ -7,15 +7,17 @@ from __future__ import annotations
 
 import json
 import os
-from collections.abc import Iterable, Iterator, Sequence
+from collections.abc import Iterable, Iterator, Mapping, Sequence
 from typing import Any, TextIO
 
 from ..judging.reasons import Reason
 from ..judging.results import FrameResult, Results
+from .pictures import Drawn
 from .summary import CopySummary, Role, Summary
 
 FORMAT, FORMAT_VERSION = "mend-reel", 2
 Made = dict[str, Any]
+NONE_SHOWN: Mapping[int, Drawn] = {}
 ROLES = {Role.BASIS: "basis", Role.OTHER: "other file", Role.LEFT: "left out"}
 
 
@@ -28,7 +30,8 @@ def write(file: TextIO, summaries: Sequence[Summary]) -> None:
         file.write(",\n" if number else "\n")
         write_open(file, document(summary), "stretches")
         # They come last, one in a line.
-        for at, stretch in enumerate(listed(summary.verdict.results)):
+        shown = {each.result.number: each for each in summary.shown}
+        for at, stretch in enumerate(listed(summary.verdict.results, shown)):
             file.write((",\n  " if at else "\n  ") + json.dumps(stretch))
         file.write("\n ]\n}")
     file.write("\n ]\n}\n")
@@ -93,14 +96,14 @@ def times_of(times: Iterable[float | None]) -> list[float | None] | None:
 # ---- stretches
 
 
-def listed(results: Results) -> Iterator[Made]:
-    """The stretches that are not whole in every copy."""
+def listed(results: Results, shown: Mapping[int, Drawn] = NONE_SHOWN) -> Iterator[Made]:
+    """The stretches that are not whole in every copy. `shown` has the frames of which a picture was made, by their numbers in the layout."""
     for number, state in enumerate(results.states):
         if number in results.outcomes or not state.is_good():
-            yield stretch_of(results, number)
+            yield stretch_of(results, number, shown)
 
 
-def stretch_of(results: Results, number: int) -> Made:
+def stretch_of(results: Results, number: int, shown: Mapping[int, Drawn]) -> Made:
     stretch, outcome, state = results.stretches[number], results.outcomes.get(number), results.states[number]
     what, marks = stretch.what, outcome.marks if outcome else "-" * len(stretch.places)
     return {
@@ -110,15 +113,22 @@ def stretch_of(results: Results, number: int) -> Made:
         # Where each copy has it, and whether it has there what OUT has.
         "places": [{"copy": results.copy_of_mark[at] + 1, "range": None if place is None else [place, place + stretch.size],
                     "is_alike": {"1": True, "0": False}.get(mark)} for at, (place, mark) in enumerate(zip(stretch.places, marks))],
-        "frames": [frame_of(result, results) for result in results.within(number)],
+        "frames": [frame_of(result, results, shown.get(result.number)) for result in results.within(number)],
     }
 
 
-def frame_of(result: FrameResult, results: Results) -> Made:
+def frame_of(result: FrameResult, results: Results, drawn: Drawn | None = None) -> Made:
     """A frame that some copy has damaged, and its slices by their bytes in it, each with the copies that gave what OUT has."""
     return {"frame": result.order, "track": result.frame.track, "time": round(result.frame.time, 6),
             "range": [result.frame.place, result.frame.end], "state": result.state.value,
             "damaged_in": [copy + 1 for copy in result.damaged],
-            "guessed_near_end": result.near_end.value if result.near_end else None,
+            "guessed_near_end": result.near_end.value if result.near_end else None, "tiles": tiles_of(drawn) if drawn else None,
             "slices": [{"range_in_frame": [place.start, place.end], "state": place.state, "combinations": place.count,
                         "given_by": sorted(copy + 1 for copy in results.copies_with(place.marks, "1"))} for place in result.slices]}
+
+
+def tiles_of(drawn: Drawn) -> Made:
+    """What is said of the tiles of a frame of which a picture was made."""
+    tiles = drawn.tiles
+    return {"count": drawn.count, "lost": sorted(tiles.lost), "undecodable": sorted(tiles.faulty), "unclean": sorted(tiles.unclean),
+            "is_keyframe": tiles.is_key}

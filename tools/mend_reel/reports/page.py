@@ -6,7 +6,7 @@ import functools
 import html
 import itertools
 import pkgutil
-from collections.abc import Iterable, Sequence
+from collections.abc import Iterable, Iterator, Sequence
 from typing import Any, TextIO
 
 from ..judging.reasons import lines, span_of_times, time_code
@@ -22,6 +22,8 @@ STYLE = (pkgutil.get_data(__package__, "page.css") or b"").decode().replace("\n"
 SUMS = {"verified": "pass a checksum", "agreed": "have none, and several copies agree",
         "read": "have none, and only that copy could be read there", "alone": "have none, and one copy alone has them",
         "open": "are damaged, or differ and nothing decides"}
+HATCHED = ("Hatched: tiles of which the footers of the copies lead to no undamaged slice, or to several, or whose slice can't be decoded. "
+           "Of samples of more than 8 bits the upper 8 are shown, and alpha is not.")
 STANDS = {"missing": "not restored"}
 HOW = {"settled": "that of {many} {givers}", "woven": "woven from several copies, one of {count} combinations",
        "voted": "what most copies have, one of {count} combinations", "repaired": "one wrong bit inverted, one of {count} repairs",
@@ -133,19 +135,36 @@ def frame_row(result: FrameResult, frame: Made, several: bool) -> str:
 
 
 def pictures(summary: Summary) -> str:
-    """What can be shown of frames that are not restored, those with the most lost tiles first."""
-    shown = sorted(summary.pictures, key=lambda each: (-each.lost, each.result.number))
+    """What can be shown of frames that are not restored, those with the most hatched tiles first."""
+    shown = sorted((each for each in summary.shown if each.image is not None), key=lambda each: (-len(each.tiles.hatched()), each.result.number))
+    if not shown:
+        return ""
     several = sum(track.is_ffv1 for track in summary.layout.tracks) > 1
     figures = "".join(map(functools.partial(figure, results=summary.verdict.results, several=several), shown))
-    return f'<h2>What can be shown of frames that are not restored</h2><p>Hatched: tiles of which the footers of the copies lead to no undamaged slice, or to several.</p><div class="side">{figures}</div>' if shown else ""
+    lost = summary.verdict.counts.lost
+    most = f" {len(shown):,} of {lost:,} are shown, those with the most lost tiles." if lost > len(shown) else ""
+    return f'<h2>What can be shown of frames that are not restored</h2><p>{HATCHED}{most}</p><div class="frames">{figures}</div>'
 
 
 def figure(drawn: Drawn, results: Results, several: bool) -> str:
     frame = frame_of(drawn.result, results)
     name = f"frame {frame['frame']}" + (f" of track {frame['track']}" if several else "") + f", {time_code(frame['time'])}"
-    image = base64.b64encode(drawn.image).decode()
-    lost = f"{drawn.lost} of {drawn.tiles} tiles hatched"
-    return f'<figure><img src="data:image/png;base64,{image}" alt="{name}: {lost}"><figcaption>{name}<br>{lost}</figcaption></figure>'
+    image, said = base64.b64encode(drawn.image or b"").decode(), list(map(text, captions(drawn)))
+    alt = f"{name}: {'; '.join(said)}"
+    return (f'<figure><img src="data:image/png;base64,{image}" alt="{alt}">'
+            f"<figcaption><b>{name}</b><br>{'<br>'.join(said)}</figcaption></figure>")
+
+
+def captions(drawn: Drawn) -> Iterator[str]:
+    """What is to be said of a picture."""
+    tiles = drawn.tiles
+    yield f"{len(tiles.hatched())} of {drawn.count} tiles hatched"
+    if tiles.faulty:
+        yield f"{len(tiles.faulty)} of these undamaged, but can't be decoded"
+    if not tiles.is_key and len(tiles.hatched()) < drawn.count:
+        yield "no keyframe: undamaged tiles are plain gray, as the frames before are needed to decode them"
+    if tiles.unclean:
+        yield f"{len(tiles.unclean)} shown, but their slices do not end as an encoder ends them"
 
 
 def how_slice(place: Made) -> str:

@@ -52,7 +52,7 @@ class Summary:
     verdict: Verdict
     matched: Sequence[Matched] = ()
     notes: Sequence[str] = ()  # what else is to be said
-    pictures: Sequence[Drawn] = ()  # of frames that are not restored
+    shown: Sequence[Drawn] = ()  # frames that are not restored, of which a picture was made
 
     def title(self) -> str:
         return self.out.name() if self.out else ", ".join(copy.name() for copy in self.copies[:4])
