@@ -3,6 +3,8 @@ reading (tests/readings.py)."""
 import dataclasses
 import pathlib
 
+import any_holdings
+import held_frames
 import makings
 import readings
 
@@ -198,3 +200,40 @@ class Recording:
             if count < 0:
                 return
             yield line
+
+
+class AnyRecording:
+    """A recording of tests/real that is out of the profile: inputs of the commands over holdings with the word --any, and what these make."""
+
+    def __init__(self, name):
+        self.size = tuple(int(side) for side in name.split("-")[1].split("x"))
+        self.record, self.frame = (recorded(f"real/{name}/{part}") for part in ("record", "frame-0"))
+        halves = held_frames.halves(self.frame)
+        whole, lines = any_holdings.took(self.record, self.size, halves)
+        held = [any_holdings.took(self.record, self.size, [half])[0] for half in halves]
+        self.inputs = {"record": self.record, "copy-a": halves[0], "copy-b": halves[1], "held": whole, "held-a": held[0], "held-b": held[1]}
+        words = ["take", "--any", "record", *map(str, self.size), "OUT", "copy-a", "copy-b"]
+        self.commands = [Command(words, lines, whole, refused={"record": (makings.inverted(self.record, 3), "setup fault 2")})]
+        self.add_unions(held, whole)
+        self.add_commands_of_holdings(whole)
+
+    def add_unions(self, held, whole):
+        """Unions of two files of holdings; one of them is refused that is none, or whose frame is a line higher."""
+        none = makings.inverted(whole, 3), "holding file fault 1"
+        higher = whole[:12] + (self.size[1] + 1).to_bytes(4, "big") + whole[16:]
+        self.commands += [
+            Command(["join", "--any", "OUT", "held-a", "held-b"], any_holdings.joined(held)[1], whole,
+                    refused={"held-a": none, "held-b": (higher, "hold fault 1")}),
+            Command(["merge", "--any", "OUT", "held-a", "held-b"], b"", whole,
+                    refused={"held-a": none, "held-b": (higher, "holding file fault 12")}),
+        ]
+
+    def add_commands_of_holdings(self, whole):
+        samples, lines, status = any_holdings.pictured(whole)
+        payload, none = any_holdings.restored(whole)[0], (makings.inverted(whole, 3), "holding file fault 1")
+        assert payload == self.frame
+        self.commands += [
+            Command(["report", "--any", "held"], any_holdings.reported(whole), refused={"held": none}),
+            Command(["restore", "--any", "held", "OUT"], f"restored {len(payload)} bytes\n".encode(), payload, refused={"held": none}),
+            Command(["picture", "--any", "held", "OUT"], lines, samples, status, {"held": (whole[:-1], "holding file fault 3")}),
+        ]
