@@ -64,7 +64,7 @@ class Cases:
 
 
 def recording_of(record, size):
-    return readings.recording_of(record, size, any_holdings.PARITIES)
+    return any_holdings.recording_of(record, size, True)
 
 
 def lines_of(what, recording, held, payloads):
@@ -81,9 +81,14 @@ def report_of(recording, held):
     return readings.report_text(recording.size, held, readings.tiles_of(recording))
 
 
+def restored_line(payload):
+    """What `restore` prints, if it gives a payload."""
+    return f"restored {len(payload)} bytes\n".encode() if payload else b""
+
+
 def picture_said(cases, recording, held, known=None):
     """A case's words for what `picture` makes, what it prints, and its status."""
-    made, printed, status = any_holdings.pictured(recording, held)
+    made, printed, status = any_holdings.shown(recording, held)
     if known and (TESTS / known).exists() and (TESTS / known).read_bytes() == made:
         return f"from {known}", printed, status
     return said(made) if len(made) < 100 else f"sha256 {hashlib.sha256(made).hexdigest()}", printed, status
@@ -108,7 +113,7 @@ def add_recorded(cases, name, frame):
     copies, payloads = zip(*damaged_copies(name, frame))
     held = [any_holdings.taken(recording, payload) for payload in payloads]
     union = readings.united(*held)
-    texts = [any_holdings.holding_text(recording, record, each) for each in (*held, union)]
+    texts = [any_holdings.holding_text(record, recording, each) for each in (*held, union)]
     parts = ["copy-a-with-origins", "copy-b-with-origins", "both-with-origins"]
     a, b, both = (cases.kept(f"holdings/{name}/{part}", text) for part, text in zip(parts, texts))
     inputs = {"record": f"from real/{name}/record", "a": copies[0], "b": copies[1]}
@@ -123,17 +128,17 @@ def add_recorded(cases, name, frame):
               stdout=lines_of("file", recording, [held[1], held[0], held[1]], [b""] * 3))
     cases.add(f"merge-of-{name}", "merge --any OUT a b", files, both)
     cases.add(f"merge-of-{name}-reversed", "merge --any OUT b a", files, both)
-    for part, text, what, each in (("", both, "frame", union), ("-one-copy", a, "copy-a", held[0]), ("-other-copy", b, "copy-b", held[1])):
-        cases.add(f"report-of-{name}{part}", "report --any hold", {"hold": text}, stdout=report_of(recording, each))
-        made, printed, fault = any_holdings.restored(recording, each)
+    for part, hold, text, each in zip(("-one-copy", "-other-copy", ""), (a, b, both), texts, (*held, union)):
+        cases.add(f"report-of-{name}{part}", "report --any hold", {"hold": hold}, stdout=report_of(recording, each))
+        payload, fault = any_holdings.restored(text)
         older = {"OUT": "older"} if fault else {}
-        cases.add(f"restore-of-{name}{part}", "restore --any hold OUT", {"hold": text, **older}, made and f"from real/{name}/{frame}",
-                  stdout=printed, fault=fault)
+        cases.add(f"restore-of-{name}{part}", "restore --any hold OUT", {"hold": hold, **older}, payload and f"from real/{name}/{frame}",
+                  stdout=restored_line(payload), fault=fault)
         made, printed, status = picture_said(cases, recording, each, f"real/{name}/samples-{frame[-1]}")
-        cases.add(f"picture-of-{name}{part}", "picture --any hold OUT", {"hold": text}, made, status, printed)
+        cases.add(f"picture-of-{name}{part}", "picture --any hold OUT", {"hold": hold}, made, status, printed)
         # where each tile is shown, these are the samples that FFmpeg decodes
         assert printed or made == f"from real/{name}/samples-{frame[-1]}"
-    assert any_holdings.restored(recording, union)[0] == (TESTS / "real" / name / frame).read_bytes()
+    assert any_holdings.restored(texts[2])[0] == (TESTS / "real" / name / frame).read_bytes()
 
 
 def add_without(cases):
@@ -160,7 +165,7 @@ def add_profile(cases):
     held = [any_holdings.taken(recording, copy) for copy in copies]
     inputs = {"record": f"from {real}/record", "a": f"from {real}/copy-a", "b": f"from {real}/copy-b"}
     both = f"from {holdings}/both-with-origins"
-    assert any_holdings.holding_text(recording, record, readings.united(*held)) == (TESTS / holdings / "both-with-origins").read_bytes()
+    assert any_holdings.holding_text(record, recording, readings.united(*held)) == (TESTS / holdings / "both-with-origins").read_bytes()
     cases.add("take-of-the-profile", "take --any record 48 32 OUT a b", inputs, both, stdout=lines_of("copy", recording, held, copies))
     files = {letter: f"from {holdings}/copy-{letter}-with-origins" for letter in "ab"}
     cases.add("join-of-the-profile", "join --any OUT a b", files, both, stdout=lines_of("file", recording, held, copies))
@@ -168,7 +173,7 @@ def add_profile(cases):
               f"from {holdings}/both-version-2", stdout=lines_of("file", recording, held, copies))
     cases.add("merge-of-the-profile", "merge --any OUT b a", files, both)
     cases.add("report-of-the-profile", "report --any hold", {"hold": both}, stdout=report_of(recording, readings.united(*held)))
-    cases.add("restore-of-the-profile", "restore --any hold OUT", {"hold": both}, f"from {real}/frame-0", stdout=f"restored {len(frame)} bytes\n".encode())
+    cases.add("restore-of-the-profile", "restore --any hold OUT", {"hold": both}, f"from {real}/frame-0", stdout=restored_line(frame))
     cases.add("picture-of-the-profile", "picture --any hold OUT", {"hold": both}, f"from {real}/planes-0")
     made, printed, status = picture_said(cases, recording, held[0])
     cases.add("picture-of-the-profile-one-copy", "picture --any hold OUT", {"hold": files["a"]}, made, status, printed)
@@ -190,7 +195,7 @@ def add_mixed(cases):
 def add_fault(cases, name, hold, content, commands=("report",)):
     """A holding file that is refused, by the second reading of its bytes."""
     try:
-        any_holdings.read_holding(content)
+        any_holdings.read_holding(content, True)
     except readings.Fault as fault:
         words = {"report": "report --any hold", "join": "join --any OUT hold", "merge": "merge --any OUT hold hold",
                  "restore": "restore --any hold OUT", "picture": "picture --any hold OUT"}
@@ -213,7 +218,7 @@ def add_magics(cases):
     readers = ("join", "merge", "report", "restore", "picture")
     other, profile = f"{RECORDED[4][0]}/both-with-origins", f"{PROFILE}/both-with-origins"
     end_of_record = 20 + len((TESTS / "real" / PROFILE / "record").read_bytes())
-    any_magic, profile_magics = any_holdings.ANY_MAGIC + b"\x01", [any_holdings.PROFILE_MAGIC + bytes([version]) for version in (1, 2)]
+    any_magic, profile_magics = any_holdings.MAGIC + b"\x01", [readings.MAGIC + bytes([version]) for version in (1, 2)]
     add_changed(cases, "version-2", other, "7 02", readers)
     add_changed(cases, "version-0", other, "7 00")
     add_changed(cases, "another-magic", other, "5 4f")
@@ -235,7 +240,7 @@ def add_entries(cases):
     assert [any_holdings.tile_of(recording, piece, True) for piece in (key, between)] == [0, 0]
     inputs = {"record": said(GRAY), "key": said(key), "between": said(between)}
     held = [any_holdings.taken(recording, piece) for piece in (key, between)]
-    both = any_holdings.holding_text(recording, GRAY, readings.united(*held))
+    both = any_holdings.holding_text(GRAY, recording, readings.united(*held))
     cases.add("take-of-disputed-tile", "take --any record 2 1 OUT key between", inputs, said(both), stdout=lines_of("copy", recording, held, [key, between]))
     cases.add("report-of-disputed-tile", "report --any hold", {"hold": said(both)}, stdout=report_of(recording, readings.united(*held)))
     cases.add("restore-of-disputed-tile", "restore --any hold OUT", {"hold": said(both), "OUT": "older"}, fault="disputed tile 0")
@@ -244,7 +249,7 @@ def add_entries(cases):
     entries = [readings.entry_text(0, piece, []) for piece in (between, key)]
 
     def file_of(*texts):
-        return any_holdings.ANY_MAGIC + b"\x01" + readings.file_text(GRAY, (2, 1), texts)[8:]
+        return any_holdings.MAGIC + b"\x01" + readings.file_text(GRAY, (2, 1), texts)[8:]
 
     digests = [bytes([number]) * 32 for number in (1, 2)]
     for name, content in (
@@ -267,11 +272,11 @@ def add_statuses(cases, recording, key, between):
     """Of the slices of a tile only those with the least error status count."""
     worse = readings.sliced(between[:-8], 1)
     held = {(0, key): set(), (0, worse): set()}
-    hold = {"hold": said(any_holdings.holding_text(recording, GRAY, held))}
+    hold = {"hold": said(any_holdings.holding_text(GRAY, recording, held))}
     cases.add("report-of-lesser-status", "report --any hold", hold, stdout=report_of(recording, held))
     made, printed, status = picture_said(cases, recording, held)
     cases.add("picture-of-lesser-status", "picture --any hold OUT", hold, made, status, printed)
-    cases.add("restore-of-lesser-status", "restore --any hold OUT", hold, said(key), stdout=f"restored {len(key)} bytes\n".encode())
+    cases.add("restore-of-lesser-status", "restore --any hold OUT", hold, said(key), stdout=restored_line(key))
 
 
 # ---- pictures
@@ -283,7 +288,7 @@ def cut_content(recording, whole, wanted):
         for byte in range(256):
             content = whole[:end] + bytes([byte])
             piece = readings.sliced(content)
-            if any_holdings.tile_of(recording, piece, True) == 0 and wanted in any_holdings.pictured(recording, {(0, piece): set()})[1]:
+            if any_holdings.tile_of(recording, piece, True) == 0 and wanted in any_holdings.shown(recording, {(0, piece): set()})[1]:
                 return content
     raise ValueError(f"no content ends so: {wanted}")
 
@@ -301,7 +306,7 @@ def add_pictures(cases):
         ("codes-that-are-cut", *CODES_OF_16_BITS[:1], codes, CODES_OF_16_BITS[1][:-3]),
     ):
         held = {(0, readings.sliced(content)): set()}
-        hold = {"hold": said(any_holdings.holding_text(recording, record, held))}
+        hold = {"hold": said(any_holdings.holding_text(record, recording, held))}
         made, printed, status = picture_said(cases, recording, held)
         cases.add(f"picture-of-{name}", "picture --any hold OUT", hold, made, status, printed)
 
@@ -315,7 +320,7 @@ def add_records(cases):
     none = (TESTS / "real" / WITHOUT_PARITIES / "record").read_bytes()
     cases.add("take-without-parities", "take --any record 32 24 OUT a", {"record": f"from real/{WITHOUT_PARITIES}/record", "a": payload, "OUT": "older"},
               fault="setup fault 16")
-    text = any_holdings.ANY_MAGIC + b"\x01" + readings.holding_text(none, (32, 24), {})[8:]
+    text = any_holdings.MAGIC + b"\x01" + readings.holding_text(none, (32, 24), {})[8:]
     add_fault(cases, "recording-without-parities", said(text), text)
     cases.add("take-of-damaged-record", "take --any record 2 1 OUT a", {"record": said(makings.inverted(GRAY, 3)), "a": payload, "OUT": "older"},
               fault="setup fault 2")
@@ -323,7 +328,7 @@ def add_records(cases):
     recording = recording_of(record, (2, 2))
     assert not any_holdings.taken(recording, frame)
     cases.add("take-of-slices-of-two-tiles", "take --any record 2 2 OUT a", {"record": said(record), "a": said(frame)},
-              said(any_holdings.holding_text(recording, record, {})), stdout=b"copy 1 links 2 slices 0 new 0\n")
+              said(any_holdings.holding_text(record, recording, {})), stdout=b"copy 1 links 2 slices 0 new 0\n")
 
 
 # Words that are no command: `--any` stands just after one of six commands, and there alone.
@@ -365,7 +370,7 @@ version --any
 def add_words(cases):
     recording = recording_of(GRAY, (2, 1))
     held = {(0, readings.sliced(TWO_SAMPLES[0])): set()}
-    hold, report = said(any_holdings.holding_text(recording, GRAY, held)), report_of(recording, held)
+    hold, report = said(any_holdings.holding_text(GRAY, recording, held)), report_of(recording, held)
     for words in REFUSED:
         cases.add(f"words-{words.replace(' ', '-').replace('=', '-is-')}", words, {"hold": hold, "record": said(GRAY), "OUT": "older"}, fault="words refused")
     cases.add("words-dash-after-separator", "report --any -- -hold", {"-hold": hold}, stdout=report)

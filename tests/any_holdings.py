@@ -82,28 +82,8 @@ def read_holding(text, is_any):
     except Fault:
         raise Fault(2) from None
     readings.judge(not (is_other and is_in_profile(recording)), 1)
-    return record, recording, read_entries(recording, text, 20 + length)
-
-
-# FORMAT: The holding file
-def read_entries(recording, text, place):
-    """The entries of a holding file from a place on."""
-    held, last, is_first = {}, None, text.startswith(readings.MAGIC + b"\x01")
-    while text[place : place + 1] == b"\x01":
-        head = text[place + 1 : place + 7]
-        length = int.from_bytes(head[2:6], "big")
-        readings.judge(len(head) < 6 or length <= readings.SLICE_LIMIT, 11)
-        piece = text[place + 7 : place + 7 + length]
-        readings.judge(len(head) == 6 and len(piece) == length, 3)
-        tile = int.from_bytes(head[:2], "big")
-        readings.judge(tile_of(recording, piece, tile == 0) == tile, 6)
-        readings.judge(last is None or last < (tile, piece), 5)
-        last, place = (tile, piece), place + 7 + length
-        held[last], place = (set(), place) if is_first else readings.read_origins(text, place)
-    readings.judge(place < len(text), 3)
-    readings.judge(text[place] == 0, 4)
-    readings.judge(place + 1 == len(text), 7)
-    return held
+    version = b"\x02" if is_other else text[7:8]
+    return record, recording, readings.read_entries(recording, text[:7] + version + text[8:], 20 + length, tile_of)
 
 
 # ---- what the commands make
@@ -158,9 +138,8 @@ def shown_slice(recording, piece, first):
 
 
 # man page: picture
-def pictured(text, is_any=True):
+def shown(recording, held, is_any=True):
     """What `picture` writes of a holding, what it prints, and its status. Ends that are not an encoder's are reported with --any alone."""
-    _, recording, held = read_holding(text, is_any)
     stand = readings.standing(held, readings.tiles_of(recording))
     first = header_of(recording, stand[0][0], True) if len(stand[0]) == 1 else None
     has_states, slices, lines = not (first and first[0].key is False), [], ""
@@ -168,10 +147,17 @@ def pictured(text, is_any=True):
         if len(pieces) != 1:
             lines += f"tile {tile} " + (f"disputed {len(pieces)}\n" if pieces else "missing\n")
             continue
-        shown = shown_slice(recording, pieces[0], tile == 0) if has_states else "no keyframe"
-        if isinstance(shown, str):
-            lines += f"tile {tile} {shown}\n"
+        found = shown_slice(recording, pieces[0], tile == 0) if has_states else "no keyframe"
+        if isinstance(found, str):
+            lines += f"tile {tile} {found}\n"
         else:
-            slices.append(shown)
-            lines += "" if shown.is_clean or not is_any else f"tile {tile} unclean spare {shown.spare}\n"
+            slices.append(found)
+            lines += "" if found.is_clean or not is_any else f"tile {tile} unclean spare {found.spare}\n"
     return sample_reading.samples_text(recording, slices), lines.encode(), 3 if lines else 0
+
+
+# man page: picture
+def pictured(text, is_any=True):
+    """The same of a holding file."""
+    _, recording, held = read_holding(text, is_any)
+    return shown(recording, held, is_any)
