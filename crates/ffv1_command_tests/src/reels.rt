@@ -1,5 +1,8 @@
 //! Holdings of recordings that are not of the profile.
 use crate::holding::is_payload;
+use ffv1_hold::{
+    FromRead, FromWrite, HoldFileFault, join_streams, join_streams_of, read_hold, read_holding, write_hold,
+};
 use ffv1_holding::{Holding, Join, Recordings, Reel};
 use ffv1_range::{Recording, Scope, SetupFault, read_scoped, read_tile};
 use ffv1_test_frames::TWO_TILES;
@@ -51,6 +54,64 @@ fn coded(alloc: Global) -> Result<Holding<Recording>, SetupFault> {
 #[test]
 fn slices_of_a_range_coded_recording_are_joined(rt: HostRuntime) {
     assert!(rt; is_joined(rt.alloc()));
+}
+
+/// The holding file of a copy, if it is written.
+fn coded_file(alloc: Global, copy: &[u8]) -> Option<Vec<u8>> {
+    let Ok(mut holding) = coded(alloc) else {
+        return None;
+    };
+    let mut sink = FromWrite::new(Vec::new(alloc));
+    match (holding.take(copy), write_hold(&holding, &mut sink)) {
+        (Ok(_), Ok(())) => Some(sink.into_inner()),
+        _ => None,
+    }
+}
+
+/// Whether the frame is restored of a holding file of any recording, which without that is none.
+fn file_restores(alloc: Global, file: &[u8]) -> bool {
+    let refused = read_hold(alloc, &mut FromRead::new(file)).err();
+    match read_holding(alloc, Recordings::Any, &mut FromRead::new(file)) {
+        Ok(holding) => {
+            refused == Some(HoldFileFault::Magic) && is_payload(holding.restore(), Ok(&CODED))
+        }
+        Err(_) => false,
+    }
+}
+
+/// Whether the files of two damaged copies are joined as streams into one of which the frame is restored.
+fn streams_are_joined(alloc: Global, left: &[u8], right: &[u8]) -> bool {
+    let mut sink = FromWrite::new(Vec::new(alloc));
+    let (mut one, mut other) = (FromRead::new(left), FromRead::new(right));
+    let returned = join_streams_of(alloc, Recordings::Any, &mut one, &mut other, &mut sink);
+    returned.is_ok() && file_restores(alloc, &sink.into_inner())
+}
+
+/// Whether neither call that joins streams of the profile takes such files, and writes anything.
+fn streams_are_refused(alloc: Global, left: &[u8], right: &[u8]) -> bool {
+    let mut sink = FromWrite::new(Vec::new(alloc));
+    let (mut one, mut other) = (FromRead::new(left), FromRead::new(right));
+    let profile = join_streams_of(alloc, Recordings::Profile, &mut one, &mut other, &mut sink);
+    let (mut one, mut other) = (FromRead::new(left), FromRead::new(right));
+    let streams = join_streams(alloc, &mut one, &mut other, &mut sink);
+    let refused = Err(HoldFileFault::Magic);
+    profile == refused && streams == refused && sink.into_inner().is_empty()
+}
+
+#[test]
+fn files_of_a_range_coded_recording_are_joined_as_streams(rt: HostRuntime) {
+    let alloc = rt.alloc();
+    let joined = match (
+        coded_file(alloc, &LEFT_WRONG),
+        coded_file(alloc, &RIGHT_WRONG),
+    ) {
+        (Some(left), Some(right)) => (
+            streams_are_joined(alloc, &left, &right),
+            streams_are_refused(alloc, &left, &right),
+        ),
+        _ => (false, false),
+    };
+    assert!(rt; joined == (true, true));
 }
 
 /// Whether the tiles of slices are those of their headers.

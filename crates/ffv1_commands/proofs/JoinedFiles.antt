@@ -10,6 +10,7 @@ use Rattle.ffv1_holding.specs.Sets as set
 use Rattle.ffv1_holding.specs.Contents.{Contents, IsSameReel}
 use Rattle.ffv1_hold.specs.FileFaults.{IsFaultOf, ReadsHolding}
 use Rattle.ffv1_hold.specs.declared.file_fault.HoldFileFault.TheVariants as files
+use Rattle.ffv1_hold.proofs.Magics.{begun_none}
 use Rattle.ffv1_commands.specs.Fault.{NamesPath, of_hold}
 use Rattle.ffv1_commands.specs.Paths.{IsJoinPath}
 use Rattle.ffv1_commands.specs.InTurn.{AreKeptFrom, log_of, ReadsAlone}
@@ -47,7 +48,7 @@ unbuffered recordings path whole input = (
     files.Memory,
     refl,
     record {
-      fault = record { seen = []; is = inl (inl (omega arith, refl)); taken = Consumes-nil input; within = omega arith };
+      fault = record { seen = []; is = inl (inl (omega arith, begun_none recordings)); taken = Consumes-nil input; within = omega arith };
       tries' = record { counted = omega arith; unbroken = refl; last = inr refl };
       few = omega arith;
     },
@@ -241,7 +242,7 @@ module _ {R : Type 0} (recordings : Recordings) (reports : R → Option (List �
       let stops = made_bytes whole text out out' output output' fault breaks in
       record {
         ok = tt;
-        err = made_refused inputs out.contents out'.contents output.contents output'.contents whole text all.each fault stops;
-        later = made_later inputs out.contents out'.contents output.contents output'.contents whole text all.each old new fault stops;
+        err = made_refused recordings inputs out.contents out'.contents output.contents output'.contents whole text all.each fault stops;
+        later = made_later recordings inputs out.contents out'.contents output.contents output'.contents whole text all.each old new fault stops;
         names = made_says whole text out out' output output' (NamesPath (IsJoinPath (length old + 1))) (λ file. tt) tt tt fault breaks;
       }

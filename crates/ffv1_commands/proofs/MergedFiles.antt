@@ -5,11 +5,12 @@ use Rattle.std.specs.Io.KnownBytes.{Consumes}
 use Rattle.std.proofs.KnownBytes.{Consumes-whole}
 use Rattle.ffv1_bits.specs.Limits.{file_limit}
 use Rattle.ffv1_holding.specs.Contents.{Contents, IsSameReel, joined}
+use Rattle.ffv1_holding.specs.Reels.{Reel}
 use Rattle.ffv1_hold.proofs.HeldEntries.{holding-joined}
 use Rattle.ffv1_hold.specs.HoldingText.{head_text, begun_text, file_text, holding_text}
 use Rattle.ffv1_hold.specs.declared.version.Version.TheVariants.{Second}
 use Rattle.ffv1_hold.specs.FileFaults.{IsOutside, IsFaultOf}
-use Rattle.ffv1_hold.specs.MergedStreams.{Inputs, InputRefuses, OneRefuses, MergeRefuses, EntriesPass, UnionPasses, ReadsAll, ReadsSoFar, ReadsOtherHeads, WritesUnion, WritesNoEnd, WritesFrontSoFar, ReturnsOther, StreamBegins, BeginsWithPart}
+use Rattle.ffv1_hold.specs.MergedStreams.{Inputs, InputRefuses, OneRefuses, MergeRefuses, EntriesPass, UnionPasses, ReadsAll, ReadsSoFar, ReadsOtherHeads, WritesUnion, WritesNoEnd, WritesFrontSoFar, ReturnsUnion, ReturnsOther, StreamBegins, BeginsWithPart}
 use Rattle.ffv1_hold.specs.MergeLogs.{Devices}
 use Rattle.ffv1_hold.specs.declared.file_fault.HoldFileFault.{HoldFileFault}
 use Rattle.ffv1_hold.specs.declared.file_fault.HoldFileFault.TheVariants as files
@@ -21,7 +22,7 @@ use Rattle.ffv1_hold.specs.JoinedStreams.{inputs_of}
 use Rattle.ffv1_commands.specs.Fault.{NamesPath, of_merge}
 use Rattle.ffv1_commands.specs.Paths.{IsMergePath}
 use Rattle.ffv1_commands.specs.Holdings.{IsHoldingFile}
-use Rattle.ffv1_commands.specs.MergeText.{MergesFiles, BeginsUnion, HeadsDiffer, IsFaultOfEither, IsMergeFault, LeavesEntries, MergeLeaves, ReturnsOtherHeads, LeavesFront, ReportsMerge}
+use Rattle.ffv1_commands.specs.MergeText.{MergesFiles, BeginsUnion, HeadsDiffer, IsFaultOfEither, IsMergeFault, LeavesEntries, MergeLeaves, ReturnsFiles, ReturnsOtherHeads, LeavesFront, ReportsMerge}
 use Rattle.ffv1_commands.specs.declared.fault.CliFault.{CliFault}
 
 holding_file : (recordings : Recordings) (old new : Option (List ℕ)) (h : Contents) → IsTaken recordings h.reel.rules.is_profile → ReadsAll old new h
@@ -168,3 +169,13 @@ outside_other fault out = absurd out
 pub returns_other_heads : (f : HoldFileFault) → ReturnsOther (Err f) → ReturnsOtherHeads (Err (of_merge f))
 returns_other_heads f (inl out) = outside_other f out
 returns_other_heads f (inr is) = subst (λ (g : HoldFileFault). ReturnsOtherHeads (Err (of_merge g))) (sym is) refl
+
+outside_union : (union : Contents) (f : HoldFileFault) → IsOutside f → ReturnsFiles union (Err (of_merge f))
+outside_union union files.Read out = tt
+outside_union union files.Memory out = tt
+outside_union union fault out = absurd out
+
+pub returns_files : (union : Contents) (f : HoldFileFault) → ReturnsUnion union (Err f) → ReturnsFiles union (Err (of_merge f))
+returns_files union f (inl out) = outside_union union f out
+returns_files union f (inr (inl is)) = subst (λ (g : HoldFileFault). ReturnsFiles union (Err (of_merge g))) (sym is) tt
+returns_files union f (inr (inr (is, long))) = subst (λ (g : HoldFileFault). ReturnsFiles union (Err (of_merge g))) (sym is) (refl, long)

@@ -201,7 +201,7 @@ module _ {C : Type 0} (recordings : Recordings) (reports : C → Option (List �
       }
   take_of_bytes (Err fault) (inr (inr (held, lines, all, breaks))) = record {
     ok = tt;
-    err = made_refused a.remaining width height (map reports old) out.contents out'.contents output.contents output'.contents all.reel
+    err = made_refused recordings a.remaining width height (map reports old) out.contents out'.contents output.contents output'.contents all.reel
         (reel_input all.reel all.of_record) held lines all.each fault (made_bytes held lines out out' output output' fault breaks);
     in_turn = made_says held lines out out' output output' (λ f. IfOfRecord f (new ≡ old)) (λ file. tt) tt tt fault breaks;
     later = made_says held lines out out' output output' (LaterKept reports old new) (λ file. tt) tt tt fault breaks;

@@ -15,11 +15,6 @@ begun_none c = record { of_profile = true; version = Second; is_magic = (profile
 abbrev pub IsOneOf : Recordings → List ℕ → Type 0
 IsOneOf c s = (s ≡ take (length s) (magic true First)) ⊎ ((s ≡ take (length s) (magic true Second)) ⊎ ((c ≡ Any) × (s ≡ take (length s) (magic false Second))))
 
-pub begins_one : (c : Recordings) (s : List ℕ) → IsOneOf c s → BeginsMagic c s
-begins_one c s (inl is) = record { of_profile = true; version = First; is_magic = (profile_taken c, refl); begins = is }
-begins_one c s (inr (inl is)) = record { of_profile = true; version = Second; is_magic = (profile_taken c, tt); begins = is }
-begins_one c s (inr (inr (any, is))) = record { of_profile = false; version = Second; is_magic = (subst (λ d. IsTaken d false) (sym any) tt, tt); begins = is }
-
 pub one_begun : (c : Recordings) (s : List ℕ) → BeginsMagic c s → IsOneOf c s
 one_begun c s b = go c b.of_profile b.version b.is_magic.0 b.is_magic.1 b.begins
   where
@@ -34,8 +29,3 @@ one_begun c s b = go c b.of_profile b.version b.is_magic.0 b.is_magic.1 b.begins
 pub part_of_magic : (c : Recordings) (seen s : List ℕ) → length seen < 8 → BeginsMagic c seen → length s < 1 → IsPartOfMagic c (seen ++ s)
 part_of_magic c seen [] few begun short = subst (IsPartOfMagic c) (sym (append-nil seen)) (few, begun)
 part_of_magic c seen (x ∷ s) few begun short = absurd (omega arith)
-
--- and a wrong byte after it
-pub wrong_byte : (c : Recordings) (seen s : List ℕ) (wrong : ℕ) → length seen < 8 → BeginsMagic c seen → s ≡ seen ++ wrong ∷ [] → (BeginsMagic c s → ⊥)
-    → MagicShows c faults.Magic s
-wrong_byte c seen s wrong few begun is other = (seen, wrong, is, (few, begun), other)

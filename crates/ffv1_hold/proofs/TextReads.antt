@@ -81,14 +81,4 @@ module _ (P : List ℕ → Type 0) (W Q : HoldFileFault → List ℕ → Type 0)
   pub trailing : (more : ℕ) → Reads b c (more ∷ []) → W faults.Trailing xs → StopsAt P W Q a c i faults.Trailing
   trailing more r is = grind (arith, Consumes-trans, within, GoesOn-trans)
 
--- ---- calls that read after another
-
-pub ReadsText-after : {T : Type 0} (text : T → List ℕ) (P P' : List ℕ → Type 0) (W W' Q Q' : HoldFileFault → List ℕ → Type 0) (a b c : ReadLog) (i j k : ℕ)
-    (xs : List ℕ) (r : Result T HoldFileFault) → TakesText a b i j xs → ReadsText text P W Q b c j k r
-    → ((s : List ℕ) → P s → P' (xs ++ s)) → ((f : HoldFileFault) (s : List ℕ) → W f s → W' f (xs ++ s))
-    → ((f : HoldFileFault) (s : List ℕ) → Q f s → Q' f (xs ++ s))
-    → ReadsText (λ x. xs ++ text x) P' W' Q' a c i k r
-ReadsText-after text P P' W W' Q Q' a b c i j k xs (Ok x) t more p w q = TakesText-trans a b c i j k xs (text x) t more
-ReadsText-after text P P' W W' Q Q' a b c i j k xs (Err f) t more p w q = StopsAt-after P P' W W' Q Q' a b c i j xs t f more p w q
-
 -- ---- what is derived

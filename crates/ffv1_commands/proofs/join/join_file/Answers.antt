@@ -14,4 +14,4 @@ returns-in_err-file g c =
     rw (p.1, p.2, memory) (unbuffered _ (paths.Hold c.args.before) c.args.whole.now (g.R.Read.remaining c.args.file.now))
 
 pub returns : goal.returns
-returns g c = read_alone (JoinsFile c.join_file_of.result c.args.before _ _ _ _) _ _ _ c.in_ok-file.ensures.ok c.join_file_of.ensures
+returns g c = read_alone (JoinsFile c.args.recordings c.join_file_of.result c.args.before _ _ _ _) _ _ _ c.in_ok-file.ensures.ok c.join_file_of.ensures

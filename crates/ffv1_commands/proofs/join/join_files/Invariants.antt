@@ -7,7 +7,7 @@ use Rattle.ffv1_commands.proofs.join.join_files.Given as goal
 -- The files so far were joined, and the others are as they were.
 abbrev pub invariant-loop-index : goal.invariant-loop-index
 invariant-loop-index g l = record {
-  joined : JoinsAll (take l.index (map g.R.Read.remaining l.initial.others)) (g.F.Source.log l.fn.first) (g.F.Source.log l.first) l.whole
+  joined : JoinsAll l.recordings (take l.index (map g.R.Read.remaining l.initial.others)) (g.F.Source.log l.fn.first) (g.F.Source.log l.first) l.whole
       (string_bytes l.lines);
   others : AreKeptFrom l.index l.initial.others l.others;
 }

@@ -19,9 +19,9 @@ returns-in_err-whole g c =
 
 pub returns : goal.returns
 returns g c =
-    let all = subst (JoinsAll _ _ _ c.in_ok-whole.whole) (sym c.as_str.ensures.value) c.in_ok-whole.ensures.ok in
+    let all = subst (JoinsAll c.args.recordings _ _ _ c.in_ok-whole.whole) (sym c.as_str.ensures.value) c.in_ok-whole.ensures.ok in
     record {
       reported = made_joined _ _ _ _ c.args.others.now _ _ _ _ _ c.in_ok-whole.whole c.as_str.result.now all c.write_made.result c.write_made.ensures.reported;
-      unread = made_err c.in_ok-whole.whole c.as_str.result.now _ _ _ _ (IfLaterUnread _ _) (λ file. tt) tt tt c.write_made.result c.write_made.ensures.reported;
+      unread = made_err c.in_ok-whole.whole c.as_str.result.now _ _ _ _ (IfLaterUnread c.args.recordings _ _) (λ file. tt) tt tt c.write_made.result c.write_made.ensures.reported;
       untouched = c.write_made.ensures.untouched;
     }

@@ -14,7 +14,7 @@ use Rattle.ffv1_commands.proofs.join.join_sources.Goals as goal
 pub loop-place-init : goal.loop-place-init
 loop-place-init g c =
     let reported = c.in_ok-whole.ensures.line ∙ ap (λ t. t ++ file_line 1 (set.size c.in_ok-whole.whole.slices)) c.requires.none in
-    record { joined = all_first _ _ _ c.in_ok-whole.whole _ reported c.in_ok-whole.ensures.ok; others = refl }
+    record { joined = all_first c.args.recordings _ _ c.in_ok-whole.whole _ reported c.in_ok-whole.ensures.ok; others = refl }
 
 pub loop-place-preserved : goal.loop-place-preserved
 loop-place-preserved g c =
@@ -23,11 +23,11 @@ loop-place-preserved g c =
     let there : c.loop-place.place < length c.args.others.now = omega arith in
     let one = c.in_ok-join_file_of.ensures in
     let (log, read) = holding_anew _ _ _ one.other one.file in
-    let more = all_more _ (take c.loop-place.place (map (λ file. (g.R.Source.log file).remaining) old)) _ _ c.loop-place.whole c.join_file_of.new.whole
+    let more = all_more c.args.recordings (take c.loop-place.place (map (λ file. (g.R.Source.log file).remaining) old)) _ _ c.loop-place.whole c.join_file_of.new.whole
     (string_bytes c.loop-place.lines) (string_bytes c.join_file_of.new.lines) _ c.loop-place.place log c.loop-place.invariant.joined
     (length-inputs (λ file. (g.R.Source.log file).remaining) old c.loop-place.place (omega arith)) (joined_by _ _ _ _ _ _ _ one read) in
     record {
-      joined = all_as _ _ _ _ _ _ _
+      joined = all_as c.args.recordings _ _ _ _ _ _
           (inputs_more old c.loop-place.others c.loop-place.place kept (λ file. (g.R.Source.log file).remaining) there c.index-others-place.result) more;
       others = rest_kept old c.loop-place.others c.loop-place.place kept c.join_file_of.new.file;
     }
@@ -49,7 +49,7 @@ returns-in_err-join_file_of g c =
     let kept = c.loop-place.invariant.others in
     let there : i < length c.args.others.now = omega arith in
     let here = input_here c.args.others.now c.loop-place.others i kept (λ file. (g.R.Source.log file).remaining) there c.index-others-place.result in
-    let stops = subst (ReadsAlone (JoinBreaks (paths.Hold (i + 1)) c.loop-place.whole f)) (sym here)
+    let stops = subst (ReadsAlone (JoinBreaks c.args.recordings (paths.Hold (i + 1)) c.loop-place.whole f)) (sym here)
     (join_breaks_anew _ (paths.Hold (i + 1)) c.loop-place.whole f _ _ c.in_err-join_file_of.ensures) in
     let later = rest_kept c.args.others.now c.loop-place.others i kept c.join_file_of.new.file in
     rw (p.1, p.2) (record {
@@ -61,7 +61,7 @@ returns-in_err-join_file_of g c =
 
 pub returns : goal.returns
 returns g c = record {
-  ok = all_as _ _ _ _ _ _ _ (inputs_all (λ file. (g.R.Source.log file).remaining) c.args.others.now c.loop-place.place (omega arith)) c.loop-place.invariant.joined;
+  ok = all_as c.args.recordings _ _ _ _ _ _ (inputs_all (λ file. (g.R.Source.log file).remaining) c.args.others.now c.loop-place.place (omega arith)) c.loop-place.invariant.joined;
   err = tt;
   unread = tt;
 }

@@ -7,7 +7,7 @@ use Rattle.ffv1_commands.proofs.join.join_sources.Given as goal
 -- The files so far were joined, and the others are as they were.
 abbrev pub invariant-loop-place : goal.invariant-loop-place
 invariant-loop-place g l = record {
-  joined : JoinsAll (take l.place (map (λ file. (g.R.Source.log file).remaining) l.initial.others)) (g.F.Source.log l.fn.first) (g.F.Source.log l.first) l.whole
+  joined : JoinsAll l.recordings (take l.place (map (λ file. (g.R.Source.log file).remaining) l.initial.others)) (g.F.Source.log l.fn.first) (g.F.Source.log l.first) l.whole
       (string_bytes l.lines);
   others : AreKeptFrom l.place l.initial.others l.others;
 }

@@ -1,7 +1,8 @@
 use Rattle.std.proofs.Common.{◌≡◌, rules, refl}
+use Rattle.ffv1_holding.specs.Contents.{joined}
 use Rattle.ffv1_hold.specs.MergedStreams.{WritesFrontSoFar, inputs_read}
 use Rattle.ffv1_hold.specs.declared.file_fault.HoldFileFault.TheVariants.{Write}
-use Rattle.ffv1_commands.proofs.MergedFiles.{leaves_front, returns_other_heads}
+use Rattle.ffv1_commands.proofs.MergedFiles.{leaves_front, returns_files, returns_other_heads}
 use Rattle.ffv1_commands.proofs.merge.merge_of.Goals as goal
 
 pub returns-in-Ok-clause-reported : goal.returns-in-Ok-clause-reported
@@ -32,3 +33,7 @@ returns-in-Err-clause-most g c = c.in-Err.ensures.streams.most
 pub returns-in-Err-clause-other : goal.returns-in-Err-clause-other
 returns-in-Err-clause-other g c one two left right other =
     rw c.of_merge.ensures (returns_other_heads c.in-Err.fault (c.in-Err.ensures.streams.other one two left right other))
+
+pub returns-in-Err-clause-only : goal.returns-in-Err-clause-only
+returns-in-Err-clause-only g c v w one two same taken left right =
+    rw c.of_merge.ensures (returns_files (joined one two) c.in-Err.fault (c.in-Err.ensures.streams.only v w one two same taken left right))

@@ -10,7 +10,7 @@ use Rattle.ffv1_program.proofs.holdings.join_files.Goals as goal
 pub returns : goal.returns
 returns g c out =
     let r = c.join_of.result in
-    let bytes = join_of_bytes _ _ _ _ _ _ _ _ _ r c.join_of.ensures.reported in
+    let bytes = join_of_bytes c.args.recordings _ _ _ _ _ _ _ _ _ r c.join_of.ensures.reported in
     let kept = both_through r _ _ _ _ _ _ c.new.ensures.writer c.new-2.ensures.writer c.join_of.ensures.untouched in
     let others = ap (map (λ source. (g.F.Buffered.Source.log source).remaining)) c.as_mut_slice.ensures.value ∙ c.in_ok-others.ensures.bytes in
     let at = rw (c.as_slice.ensures.value, ← c.as_mut_slice.ensures.value) at c.in_ok-others.ensures.at in

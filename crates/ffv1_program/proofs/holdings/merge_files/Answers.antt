@@ -10,7 +10,7 @@ use Rattle.ffv1_program.proofs.holdings.merge_files.Goals as goal
 pub returns : goal.returns
 returns g c =
     let r = c.merge_of.result in
-    let bytes = merge_of_bytes _ _ r c.merge_of.ensures.reported in
+    let bytes = merge_of_bytes c.args.recordings _ _ r c.merge_of.ensures.reported in
     record {
       does = all_ok r _ (search (rules, rw (c.in-Ok.ensures.bytes, c.in-Ok-opened.ensures.bytes) at bytes.ok));
       stops = all_err r _ (merging_stops c.args.recordings (IsEither c.args.out.now c.args.left.now c.args.right.now) (g.F.FileSystem.cannot_open_at c.args.files.now)

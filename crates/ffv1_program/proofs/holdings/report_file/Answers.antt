@@ -8,7 +8,7 @@ use Rattle.ffv1_program.proofs.holdings.report_file.Goals as goal
 pub returns : goal.returns
 returns g c =
     let r = c.report_of.result in
-    let bytes = report_of_bytes _ _ _ _ r c.report_of.ensures.reported in
+    let bytes = report_of_bytes c.args.recordings _ _ _ _ r c.report_of.ensures.reported in
     let kept = one_through r _ _ _ c.new.ensures.writer c.report_of.ensures.untouched in
     record {
       does = all_ok r _ (search (rules, rw c.in_ok-file.ensures.bytes at bytes.ok));

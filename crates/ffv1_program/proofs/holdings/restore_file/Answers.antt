@@ -8,7 +8,7 @@ use Rattle.ffv1_program.proofs.holdings.restore_file.Goals as goal
 pub returns : goal.returns
 returns g c out =
     let r = c.restore_of.result in
-    let bytes = restore_of_bytes _ _ _ _ _ _ r c.restore_of.ensures.reported in
+    let bytes = restore_of_bytes c.args.recordings _ _ _ _ _ _ r c.restore_of.ensures.reported in
     let kept = both_through r _ _ _ _ _ _ c.new.ensures.writer c.new-2.ensures.writer c.restore_of.ensures.untouched in
     record {
       does = all_ok r _ (search (rules, rw c.in_ok-file.ensures.bytes at bytes.ok));

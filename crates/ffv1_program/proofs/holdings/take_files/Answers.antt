@@ -10,7 +10,7 @@ use Rattle.ffv1_program.proofs.holdings.take_files.Goals as goal
 pub returns : goal.returns
 returns g c out =
     let r = c.take_of.result in
-    let bytes = take_of_bytes _ _ _ _ _ _ _ _ _ _ _ r c.take_of.ensures.reported in
+    let bytes = take_of_bytes c.args.recordings _ _ _ _ _ _ _ _ _ _ _ r c.take_of.ensures.reported in
     let kept = both_through r _ _ _ _ _ _ c.new.ensures.writer c.new-2.ensures.writer c.take_of.ensures.untouched in
     let copies = ap (map (λ source. (g.F.Device.Source.log source).remaining)) c.as_mut_slice.ensures.value ∙ c.in_ok-copies.ensures.bytes in
     let at = rw (c.as_slice.ensures.value, ← c.as_mut_slice.ensures.value) at c.in_ok-copies.ensures.at in
