@@ -72,12 +72,12 @@ StopsPrinting text printed_before printed_after fault =
 
 -- What `picture` did, and why it stopped, of holdings of these recordings.
 abbrev pub ShowsFileOf : Recordings → (input out_before out_after printed_before printed_after : Option (List ℕ)) → Bool → Type 0
-ShowsFileOf Profile input out_before out_after printed_before printed_after whole = ShowsFile input out_before out_after printed_before printed_after whole
-ShowsFileOf Any input out_before out_after printed_before printed_after whole = ShowsAnyFile input out_before out_after printed_before printed_after whole
+ShowsFileOf Profile input out_before out_after printed_before printed_after = ShowsFile input out_before out_after printed_before printed_after
+ShowsFileOf Any input out_before out_after printed_before printed_after = ShowsAnyFile input out_before out_after printed_before printed_after
 
 abbrev pub PictureStopsOf : Recordings → (input out_before out_after printed_before printed_after : Option (List ℕ)) → CliFault → Type 0
-PictureStopsOf Profile input out_before out_after printed_before printed_after fault = PictureStops input out_before out_after printed_before printed_after fault
-PictureStopsOf Any input out_before out_after printed_before printed_after fault = AnyPictureStops input out_before out_after printed_before printed_after fault
+PictureStopsOf Profile input out_before out_after printed_before printed_after = PictureStops input out_before out_after printed_before printed_after
+PictureStopsOf Any input out_before out_after printed_before printed_after = AnyPictureStops input out_before out_after printed_before printed_after
 
 -- The recordings whose holdings are taken, and the files that are read, by their words: their bytes, if they are known; what holds of one that was not opened; and of one of which a
 -- source went so, a source that was opened before that, or a source with a buffer.

@@ -22,8 +22,8 @@ returns g c out =
           (search rules) (search rules)
           (rw (c.device.ensures.bytes, copies, c.as_slice.ensures.value, c.new.ensures.writer, c.new-2.ensures.writer) at bytes.err));
       keeps = all_err r _ (search (rules, kept));
-      unread = all_err r _ (take_unread c.args.recordings (g.F.FileSystem.is_device_at c.args.files.now) g.F.Device.Source.log c.args.copies.now.items _ _ at _ c.device.result
-          c.take_of.new.configuration c.device.ensures.at _ _ _ _ _ _ _ r c.take_of.ensures.reported c.take_of.ensures.unread);
+      unread = all_err r _ (take_unread (g.F.FileSystem.is_device_at c.args.files.now) g.F.Device.Source.log c.args.copies.now.items _ _ at _ c.device.result
+          c.take_of.new.configuration c.device.ensures.at c.args.recordings _ _ _ _ _ _ _ r c.take_of.ensures.reported c.take_of.ensures.unread);
       refuses = tt;
       names = all_err r _ (search (rules, bytes.names));
     }
