@@ -1,6 +1,5 @@
 -- Beginnings of magics.
-use Rattle.ffv1_hold.proofs.Common.{◌≡◌, ℕ, ◌+◌, ◌<◌, ◌≤◌, List, [], ◌∷◌, ◌++◌, length, take, get_or, Bool, true, false, refl, sym, ap, ◌∙◌, subst, inl, inr, arith, append-nil, length-take-le, true≢false, ◌⊎◌, take-append_seam, Recordings, Profile, Any, HoldFileFault, Version, First, Second, magic, IsTaken, BeginsMagic, IsPartOfMagic, MagicShows, HasVersion}
-use Rattle.ffv1_hold.specs.declared.file_fault.HoldFileFault.TheVariants as faults
+use Rattle.ffv1_hold.proofs.Common.{◌≡◌, ℕ, ◌<◌, List, [], ◌∷◌, ◌++◌, length, take, Bool, true, false, refl, sym, subst, inl, inr, arith, append-nil, true≢false, ◌⊎◌, Recordings, Profile, Any, Version, First, Second, magic, IsTaken, BeginsMagic, IsPartOfMagic, HasVersion}
 
 -- files of recordings of the profile are always read
 pub profile_taken : (c : Recordings) → IsTaken c true

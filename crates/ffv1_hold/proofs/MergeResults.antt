@@ -1,5 +1,5 @@
 -- What joining two files returns for texts of one reel, and to heads of two.
-use Rattle.ffv1_hold.proofs.Common.{◌≡◌, ℕ, ◌<◌, List, [], ◌∷◌, ◌++◌, length, Option, Some, None, Result, Ok, Err, IfErr, OnOk, IsErrOf, rules, refl, sym, ap, ◌∙◌, subst, inl, inr, arith, append_assoc, length-append, ◌⊎◌, Consumes, Appends, Consumes-nil, Appends-nil, file_limit, Version, Reel, Contents, IsSameReel, joined, HoldFileFault, magic, head_text, entries_text, begun_text, file_entries, file_text, holding_text, IsStated, Refuses, StopsIn, IsFileReel, IsPartOfReel, IsOutside, IsPartOfHead, HeadShows, Inputs, IsFileOf, IsFileOfSome, StreamBegins, BeginsWithHead, InputRefuses, ShowsNoFault, BothRefuse, MergeRefuses, EntriesPass, UnionPasses, ReadsPart, ReadsAll, ReadsOtherHeads, WritesUnion, ReturnsUnion, ReturnsOther, WritesNoEnd, StaysInReadLimit, Facts, both, HeadsRefuse, StopsAtWrite, Stops, MergeIsRefused, part, Recordings, IsTaken, HasVersion, HeadRefuses, sized_record, WritesAtMost}
+use Rattle.ffv1_hold.proofs.Common.{◌≡◌, ℕ, ◌<◌, List, [], ◌∷◌, ◌++◌, length, Option, Some, None, Result, Ok, Err, IfErr, OnOk, IsErrOf, rules, refl, sym, ap, ◌∙◌, subst, inl, inr, arith, append_assoc, length-append, ◌⊎◌, Consumes, Appends, Consumes-nil, Appends-nil, file_limit, Version, Reel, Contents, IsSameReel, joined, HoldFileFault, magic, head_text, entries_text, begun_text, file_entries, file_text, holding_text, IsStated, StopsIn, IsFileReel, IsPartOfReel, IsOutside, IsPartOfHead, HeadShows, Inputs, IsFileOf, IsFileOfSome, StreamBegins, BeginsWithHead, InputRefuses, ShowsNoFault, BothRefuse, MergeRefuses, EntriesPass, UnionPasses, ReadsPart, ReadsAll, ReadsOtherHeads, WritesUnion, ReturnsUnion, ReturnsOther, WritesNoEnd, StaysInReadLimit, Facts, both, HeadsRefuse, StopsAtWrite, Stops, MergeIsRefused, part, Recordings, IsTaken, HasVersion, HeadRefuses, sized_record, WritesAtMost}
 use Rattle.ffv1_hold.specs.declared.file_fault.HoldFileFault.TheVariants as faults
 use Rattle.ffv1_hold.proofs.Bodies.{length-be4}
 use Rattle.ffv1_hold.proofs.TextLaws.{short_reel, one_reel, same_head, same_name, head_parts, after_magic, text_parts, one_file, fitting_items}

@@ -1,5 +1,5 @@
 -- What can be written of a tile and of a holding.
-use Rattle.ffv1_hold.proofs.Common.{◌≡◌, ℕ, true, get_or, sym, ◌∙◌, arith, bytes_total, tile_slices, Contents, AreWithinLimit, AreWritable, size-items, contains_item, contains-tile_slices, ◌<◌, ◌*◌, ap, subst, IsHolding, HeadLimits, reel_limits, reel_tiles_few, Entry, reel_tiles, slice_in_grid, ◌==◌, ◌≤◌}
+use Rattle.ffv1_hold.proofs.Common.{◌≡◌, ℕ, true, get_or, sym, ◌∙◌, arith, bytes_total, tile_slices, Contents, AreWithinLimit, AreWritable, size-items, contains_item, contains-tile_slices, ◌<◌, ◌*◌, ap, subst, IsHolding, HeadLimits, reel_limits, reel_tiles_few, slice_in_grid, ◌==◌}
 use Rattle.ffv1_holding.specs.Sets as set
 
 -- the slices of one tile are within their limit

@@ -1,5 +1,5 @@
 -- Reading text off a source, call after call.
-use Rattle.ffv1_hold.proofs.Common.{◌≡◌, ℕ, ◌+◌, ◌≤◌, List, [], ◌∷◌, ◌++◌, length, Bool, true, false, Result, Ok, Err, arith, inl, subst, append-nil, ◌⊎◌, Consumes, Consumes-trans, file_limit, Tries, ReadLog, GoesOn, Reads, BreaksOff, GoesOn-refl, GoesOn-trans, GivesUp-after, HoldFileFault, TakesText, ReadsText, StopsAt, WentBefore}
+use Rattle.ffv1_hold.proofs.Common.{◌≡◌, ℕ, ◌+◌, ◌≤◌, List, [], ◌∷◌, ◌++◌, length, Bool, true, false, arith, inl, subst, append-nil, ◌⊎◌, Consumes, Consumes-trans, file_limit, Tries, ReadLog, GoesOn, Reads, BreaksOff, GoesOn-refl, GoesOn-trans, GivesUp-after, HoldFileFault, TakesText, StopsAt, WentBefore}
 use Rattle.ffv1_hold.specs.declared.file_fault.HoldFileFault.TheVariants as faults
 use Rattle.ffv1_hold.proofs.ReadRefusals.{Takes-nil, Takes-trans, Refuses-after}
 

@@ -1,5 +1,5 @@
 -- An entry, and a head, by the parts that are written.
-use Rattle.ffv1_hold.proofs.Common.{◌≡◌, ℕ, ◌∷◌, List, ◌++◌, length, ap, ◌∙◌, append_assoc, refl, arith, w32, to_be_bytes, Entry, Reel, Second, be2, be4, slice_text, origins_text, sized_record, head_text, magic, Bool}
+use Rattle.ffv1_hold.proofs.Common.{◌≡◌, ℕ, ◌∷◌, List, ◌++◌, length, ap, ◌∙◌, append_assoc, refl, w32, to_be_bytes, Entry, Reel, Second, be2, be4, slice_text, origins_text, sized_record, head_text, magic, Bool}
 use Rattle.ffv1_hold.proofs.DigestTexts.{whole}
 
 slice_text-parts : (e : Entry) → ((1 ∷ be2 e.0) ++ be4 (length e.1)) ++ e.1 ≡ 1 ∷ slice_text e

@@ -1,4 +1,4 @@
-use Rattle.ffv1_hold.proofs.Common.{rules, inl, refl, arith, subst, ap, WantsMemory}
+use Rattle.ffv1_hold.proofs.Common.{rules, inl, refl, arith, subst, WantsMemory}
 use Rattle.ffv1_hold.proofs.head.judge_reel.Goals as goal
 
 pub returns-in-Err-Memory-clause-fault : goal.returns-in-Err-Memory-clause-fault
