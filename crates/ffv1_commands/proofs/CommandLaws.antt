@@ -16,7 +16,7 @@ use Rattle.ffv1_holding.specs.declared.recordings.Recordings.TheVariants.{Profil
 use Rattle.ffv1_holding.proofs.Reels.{reel_is, has_parities}
 use Rattle.ffv1_holding.specs.Contents.{Contents, holding_of, joined, HasSameCopies}
 use Rattle.ffv1_holding.proofs.ContentsLaws.{joined-holding_of, holding_of-same}
-use Rattle.ffv1_hold.specs.FileFaults.{IsTaken, IsFaultOf}
+use Rattle.ffv1_hold.specs.FileFaults.{MayRead, IsFaultOf}
 use Rattle.ffv1_hold.specs.Headline.{IsReelOf}
 use Rattle.ffv1_hold.specs.HoldingText.{holding_text}
 use Rattle.ffv1_hold.specs.declared.version.Version.TheVariants.{Second}
@@ -163,7 +163,7 @@ module _ (recordings : Recordings) (config : List ℕ) (width height : ℕ) wher
 
 -- the reel of a record is of the recordings as which it is read
 taken_reel : (recordings : Recordings) (config : List ℕ) (width height : ℕ) (reel : Reel) → IsReelOf recordings config width height reel
-    → IsTaken recordings reel.rules.is_profile
+    → MayRead recordings reel.rules.is_profile
 taken_reel Profile config width height reel is =
     ap (λ (r : Reel). r.rules.is_profile) is.2 ∙ record_of_profile config width height is.0 is.1
 taken_reel Any config width height reel is = tt
@@ -234,7 +234,7 @@ same_copies_make_one_report recordings also config width height copies others fi
 -- ---- copies of an original
 
 -- a holding's own file shows no fault
-no_fault : (recordings : Recordings) (h : Contents) (file : List ℕ) → IsTaken recordings h.reel.rules.is_profile → file ≡ holding_text h → HasFile h
+no_fault : (recordings : Recordings) (h : Contents) (file : List ℕ) → MayRead recordings h.reel.rules.is_profile → file ≡ holding_text h → HasFile h
     → (fault : HoldFileFault) → IsHoldingFault recordings (paths.Hold 0) (Some file) (faults.HoldFile fault) → ⊥
 no_fault recordings h file of text has fault stops =
     let own : IsFaultOf recordings (holding_text h) fault = subst (λ (t : List ℕ). IsFaultOf recordings t fault) text stops in
@@ -249,7 +249,7 @@ module _ (recordings : Recordings) (config : List ℕ) (width height : ℕ) (ree
   is_reel : IsReel is.reel
   is_reel = subst IsReel (sym is.of_record.2) (reel_is recordings config width height is.of_record.0 is.of_record.1)
 
-  is_taken : IsTaken recordings is.reel.rules.is_profile
+  is_taken : MayRead recordings is.reel.rules.is_profile
   is_taken = taken_reel recordings config width height is.reel is.of_record
 
   exact : HoldsExactly (holding_of is.reel copies) slices

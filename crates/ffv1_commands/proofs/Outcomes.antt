@@ -3,7 +3,7 @@ use Rattle.std.proofs.Common.{◌≡◌, ℕ, ◌++◌, List, ◌∙◌, append_
 use Rattle.std.specs.Prelude.{codes}
 use Rattle.std.specs.Fmt.{decimal}
 use Rattle.ffv1_commands.specs.PictureText.{stuck_line}
-use Rattle.ffv1_commands.specs.AnyPictureText.{unclean_line}
+use Rattle.ffv1_commands.specs.AnyPictureText.{unclean_tile_line}
 use Rattle.ffv1_commands.specs.SamplesText.{decoded_line}
 use Rattle.ffv1_commands.specs.TakeText.{copy_line}
 use Rattle.ffv1_commands.specs.JoinText.{file_line}
@@ -47,9 +47,9 @@ pub stuck_line-fragments : (tile plane y x : ℕ) → stuck_line tile plane y x
 stuck_line-fragments tile plane y x =
     append-nine (codes "tile ") (decimal tile) (codes " fault plane ") (decimal plane) (codes " y ") (decimal y) (codes " x ") (decimal x) (codes "\n")
 
-pub unclean_line-fragments : (tile spare : ℕ) → unclean_line tile spare
+pub unclean_tile_line-fragments : (tile spare : ℕ) → unclean_tile_line tile spare
     ≡ codes "tile " ++ (decimal tile ++ (codes " unclean spare " ++ (decimal spare ++ codes "\n")))
-unclean_line-fragments tile spare = append-five (codes "tile ") (decimal tile) (codes " unclean spare ") (decimal spare) (codes "\n")
+unclean_tile_line-fragments tile spare = append-five (codes "tile ") (decimal tile) (codes " unclean spare ") (decimal spare) (codes "\n")
 
 pub decoded_line-fragments : (width height planes : ℕ) → decoded_line width height planes
     ≡ codes "decoded " ++ (decimal width ++ (codes " x " ++ (decimal height ++ (codes " planes " ++ (decimal planes ++ codes "\n")))))

@@ -27,26 +27,26 @@ abbrev pub no_keyframe_line : ℕ → List ℕ
 no_keyframe_line tile = codes "tile " ++ decimal tile ++ codes " no keyframe\n"
 
 -- the bit after the last sample can't be read
-abbrev pub end_line : ℕ → List ℕ
-end_line tile = codes "tile " ++ decimal tile ++ codes " fault end\n"
+abbrev pub end_fault_line : ℕ → List ℕ
+end_fault_line tile = codes "tile " ++ decimal tile ++ codes " fault end\n"
 
 -- the slice does not end as an encoder ends it, and has so many spare bits
-abbrev pub unclean_line : (tile spare : ℕ) → List ℕ
-unclean_line tile spare = codes "tile " ++ decimal tile ++ codes " unclean spare " ++ decimal spare ++ codes "\n"
+abbrev pub unclean_tile_line : (tile spare : ℕ) → List ℕ
+unclean_tile_line tile spare = codes "tile " ++ decimal tile ++ codes " unclean spare " ++ decimal spare ++ codes "\n"
 
 -- why a tile's settled slice has no picture
-abbrev pub fault_line : ℕ → SliceFault → List ℕ
-fault_line tile (causes.Code fault plane y x) = stuck_line tile plane y x
-fault_line tile causes.End = end_line tile
-fault_line tile cause = header_line tile
+abbrev pub slice_fault_line : ℕ → SliceFault → List ℕ
+slice_fault_line tile (causes.Code fault plane y x) = stuck_line tile plane y x
+slice_fault_line tile causes.End = end_fault_line tile
+slice_fault_line tile cause = header_line tile
 
 -- the line of a tile; one with samples whose slice ends as an encoder ends it has none
 abbrev pub shown_line : ℕ → ShownTile → List ℕ
-shown_line tile (Decoded end) = if end.is_clean then [] else unclean_line tile end.spare_bits
+shown_line tile (Decoded end) = if end.is_clean then [] else unclean_tile_line tile end.spare_bits
 shown_line tile Missing = missing_line tile
 shown_line tile (Disputed slices) = disputed_line tile slices
 shown_line tile NoKeyframe = no_keyframe_line tile
-shown_line tile (Fault cause) = fault_line tile cause
+shown_line tile (Fault cause) = slice_fault_line tile cause
 
 -- those of all tiles, in tile order
 abbrev pub shown_text : List ShownTile → List ℕ

@@ -7,7 +7,7 @@ ghost use Rattle.ffv1_commands.specs.Fault.{NamesPath};
 ghost use Rattle.ffv1_commands.specs.Paths.{IsHoldPath};
 ghost use Rattle.ffv1_commands.specs.Devices.{UnlessWriting};
 ghost use Rattle.ffv1_commands.specs.Inner.Devices.{WritesNamed, WritesBoth};
-ghost use Rattle.ffv1_commands.specs.AnyPictureText.{fault_line, unclean_line, shown_line, shown_text, IsShownWhole, ShowsAnyFile, AnyPictureStops, ReportsAnyPicture};
+ghost use Rattle.ffv1_commands.specs.AnyPictureText.{slice_fault_line, unclean_tile_line, shown_line, shown_text, IsShownWhole, ShowsAnyFile, AnyPictureStops, ReportsAnyPicture};
 
 use crate::devices::{buffered, write_file};
 use crate::fault::CliFault;
@@ -140,14 +140,14 @@ fn push_end(text: &mut String, tile: usize, end: SliceEnd) -> Result<(), AllocEr
 
 /// Adds the line of a tile whose slice does not end as an encoder ends it, and has so many spare bits.
 fn push_unclean(text: &mut String, tile: usize, spare: usize) -> Result<(), AllocError>
-    ensures { OnOk result (string_bytes text.new ≡ string_bytes text.old ++ unclean_line tile spare) }
+    ensures { OnOk result (string_bytes text.new ≡ string_bytes text.old ++ unclean_tile_line tile spare) }
 {
     writeln!(text, "tile {tile} unclean spare {spare}")
 }
 
 /// Adds the line of a tile whose settled slice has no picture.
 fn push_fault(text: &mut String, tile: usize, cause: SliceFault) -> Result<(), AllocError>
-    ensures { OnOk result (string_bytes text.new ≡ string_bytes text.old ++ fault_line tile cause) }
+    ensures { OnOk result (string_bytes text.new ≡ string_bytes text.old ++ slice_fault_line tile cause) }
 {
     match cause {
         SliceFault::Code { plane, y, x, .. } => push_sample(text, tile, plane, y, x),

@@ -37,9 +37,9 @@ pub use Rattle.ffv1_slice.specs.Slices.{IsSliceOf}
 pub use borrow.Rule.Slice.PartMut.{put_mid}
 pub use mathlib.Core.Bool.{and-false, or-false, or_assoc, true≢false}
 pub use Rattle.ffv1_hold.specs.FileEntries.{AreDigestsIn, AreEntries, AreOrigins, Follows, FollowsDigest, HasText, HasTextAfter, IsDigest, IsFileEntryOf, file_entry_cmp, last_of}
-pub use Rattle.ffv1_hold.specs.FileFaults.{BeginsMagic, BodyShows, EntriesShow, EntryShows, FileIsWhole, FileShows, IsEntryInPlace, IsFaultOf, IsFileReel, IsHoldingText, IsMagic, IsMisnamed, IsOutside, IsPartAfter, IsPartOfBody, IsPartOfEntries, IsPartOfEntry, IsPartOfFile, IsPartOfMagic, IsPartOfOrigins, IsPartOfReel, IsPartOfSlice, IsTaken, IsWrong, MagicShows, OriginsShow, ReadsFile, ReelIsWhole, ReelShows, Returns, ShowsAfter, SliceIsTooLong, SliceShows, recordings_of}
+pub use Rattle.ffv1_hold.specs.FileFaults.{BeginsMagic, BodyShows, EntriesShow, EntryShows, FileIsWhole, FileShows, IsEntryInPlace, IsFaultOf, IsFileReel, IsHoldingText, IsMagic, IsMisnamed, IsOutside, IsPartAfter, IsPartOfBody, IsPartOfEntries, IsPartOfEntry, IsPartOfFile, IsPartOfMagic, IsPartOfOrigins, IsPartOfReel, IsPartOfSlice, MayRead, IsWrong, MagicShows, OriginsShow, ReadsFile, ReelIsWhole, ReelShows, Returns, ShowsAfter, SliceIsTooLong, SliceShows, recordings_of}
 pub use Rattle.ffv1_hold.specs.Headline.{IsReelOf}
-pub use Rattle.ffv1_hold.specs.HoldingText.{FileEntry, FitsInFile, HasVersion, IsStated, IsTextOf, begun_text, entry_text, file_text, holding_text, magic, origins_limit, text_after_slice, version_number}
+pub use Rattle.ffv1_hold.specs.HoldingText.{FileEntry, FitsInFile, HasFileVersion, IsStated, IsTextOf, begun_text, entry_text, file_text, holding_text, magic, origins_limit, text_after_slice, version_number}
 unfoldable pub use Rattle.ffv1_hold.specs.HoldingText.{be2, be4, body_text, entries_text, file_entries, head_text, origins_text, sized_record, slice_text}
 pub use Rattle.ffv1_hold.specs.Inner.FileEntries.{next_text}
 pub use Rattle.ffv1_hold.specs.Inner.FileFaults.{EndIsWhole, EntriesAreWhole, HeadIsWhole, HeadShows, IsPartOfHead, IsReelAfter}

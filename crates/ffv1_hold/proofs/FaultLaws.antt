@@ -1,5 +1,5 @@
 -- A text shows no fault.
-use Rattle.ffv1_hold.proofs.Common.{◌≡◌, ℕ, ◌<◌, ◌≤◌, ◌^◌, List, [], ◌∷◌, ◌++◌, length, take, get_or, Option, Some, None, refl, sym, ap, ◌∙◌, subst, inl, inr, arith, append_assoc, length-append, ◌⊎◌, take-append_seam, take-append-le, record_limit, TileRules, RecordingValue, Recordings, is_in_profile, reel_small, AllByRecursion, HoldFileFault, Version, HasVersion, Result, Ok, Bool, false, IsRising, Reel, Contents, IsHolding, FileEntry, magic, sized_record, head_text, body_text, entries_text, file_entries, file_text, IsStated, last_of, Follows, IsFileEntryOf, file_entry_cmp, AreEntries, HasText, IsFileReel, IsMagic, IsMisnamed, recordings_of, IsPartOfBody, BodyShows, IsPartOfEntry, EntryShows, IsPartOfReel, ReelShows, MagicShows, IsPartOfFile, FileShows, rising_rest, true, FirstRecordFault, IsScopedRecord, SetupFault, true≢false}
+use Rattle.ffv1_hold.proofs.Common.{◌≡◌, ℕ, ◌<◌, ◌≤◌, ◌^◌, List, [], ◌∷◌, ◌++◌, length, take, get_or, Option, Some, None, refl, sym, ap, ◌∙◌, subst, inl, inr, arith, append_assoc, length-append, ◌⊎◌, take-append_seam, take-append-le, record_limit, TileRules, RecordingValue, Recordings, is_in_profile, reel_small, AllByRecursion, HoldFileFault, Version, HasFileVersion, Result, Ok, Bool, false, IsRising, Reel, Contents, IsHolding, FileEntry, magic, sized_record, head_text, body_text, entries_text, file_entries, file_text, IsStated, last_of, Follows, IsFileEntryOf, file_entry_cmp, AreEntries, HasText, IsFileReel, IsMagic, IsMisnamed, recordings_of, IsPartOfBody, BodyShows, IsPartOfEntry, EntryShows, IsPartOfReel, ReelShows, MagicShows, IsPartOfFile, FileShows, rising_rest, true, FirstRecordFault, IsScopedRecord, SetupFault, true≢false}
 use Rattle.ffv1_range.specs.SetupForms.{all_granted, record_read}
 use Rattle.ffv1_range.specs.declared.scope.Scope.TheVariants.{Parities}
 use Rattle.ffv1_range.specs.declared.scope.Scope.TheVariants as scopes
@@ -232,7 +232,7 @@ module _ (q : Recordings) (v : Version) (h : Contents) (is : IsHolding h) (file_
   abbrev es : List FileEntry
   es = file_entries h
 
-  has : HasVersion v h.reel.rules.is_profile
+  has : HasFileVersion v h.reel.rules.is_profile
   has = version_of v h stated
 
   is_magic : IsMagic q h.reel.rules.is_profile v

@@ -1,5 +1,5 @@
 -- The parts of the size and the record.
-use Rattle.ffv1_hold.proofs.Common.{◌≡◌, ℕ, ◌<◌, ◌≤◌, List, [], ◌∷◌, ◌++◌, length, Bool, Option, Result, Ok, Err, IfOk, IfErr, arith, inl, inr, refl, sym, ap, ◌∙◌, subst, append_assoc, append-nil, length-append, ◌⊎◌, record_limit, SetupFault, FirstRecordFault, Recordings, HoldFileFault, Reel, Version, HasVersion, magic, be4, sized_record, head_text, entries_text, file_entries, IsStated, Contents, IsHolding, ReadLog, Refuses, TakesText, ReadsText, AreEntries, IsTaken, IsMagic, IsFileReel, IsReelAfter, IsHoldingText, IsPartOfReel, ReelIsWhole, FileIsWhole, ReelShows, IsPartOfEntries, EntriesShow, IsPartOfFile, FileShows, EntriesAreWhole, IsPartOfHead, HeadIsWhole, HeadShows, HeadRefuses}
+use Rattle.ffv1_hold.proofs.Common.{◌≡◌, ℕ, ◌<◌, ◌≤◌, List, [], ◌∷◌, ◌++◌, length, Bool, Option, Result, Ok, Err, IfOk, IfErr, arith, inl, inr, refl, sym, ap, ◌∙◌, subst, append_assoc, append-nil, length-append, ◌⊎◌, record_limit, SetupFault, FirstRecordFault, Recordings, HoldFileFault, Reel, Version, HasFileVersion, magic, be4, sized_record, head_text, entries_text, file_entries, IsStated, Contents, IsHolding, ReadLog, Refuses, TakesText, ReadsText, AreEntries, MayRead, IsMagic, IsFileReel, IsReelAfter, IsHoldingText, IsPartOfReel, ReelIsWhole, FileIsWhole, ReelShows, IsPartOfEntries, EntriesShow, IsPartOfFile, FileShows, EntriesAreWhole, IsPartOfHead, HeadIsWhole, HeadShows, HeadRefuses}
 use Rattle.ffv1_range.specs.declared.fault.SetupFault.TheVariants.{Memory as no_memory}
 use Rattle.ffv1_hold.specs.declared.file_fault.HoldFileFault.TheVariants as faults
 use Rattle.ffv1_hold.proofs.Bodies.{length-be4}
@@ -96,7 +96,7 @@ pub file_from_entries_fault : {q : Recordings} (v : Version) (r : Reel) → IsFi
 file_from_entries_fault v r i f s h = inr (inr (v, r, s, i, refl, h))
 
 -- a head begins a file
-pub head_is_part : {q : Recordings} (v : Version) (r : Reel) → IsFileReel q r → HasVersion v r.rules.is_profile → IsPartOfFile q (head_text v r)
+pub head_is_part : {q : Recordings} (v : Version) (r : Reel) → IsFileReel q r → HasFileVersion v r.rules.is_profile → IsPartOfFile q (head_text v r)
 unfolding entries_text
 head_is_part v r is has =
     let none : AreEntries v r.rules [] = record { version = has; each = tt; rising = λ i j d lt short. absurd (omega arith) } in
@@ -117,12 +117,12 @@ module _ (q : Recordings) (p : Bool) (v : Version) (is : IsMagic q p v) (a b c :
 -- a reel after the magic is one of a file that is read
 pub reel_of_file : (q : Recordings) (p : Bool) (v : Version) → IsMagic q p v → (r : Result Reel HoldFileFault) → IfOk r (IsReelAfter p) → IfOk r (IsFileReel q)
 reel_of_file q p v is (Err f) reel = tt
-reel_of_file q p v is (Ok r) reel = record { reel = reel.reel; taken = subst (IsTaken q) (sym reel.named) is.0; fits = reel.fits }
+reel_of_file q p v is (Ok r) reel = record { reel = reel.reel; taken = subst (MayRead q) (sym reel.named) is.0; fits = reel.fits }
 
 pub version_of_file : (q : Recordings) (p : Bool) (v : Version) → IsMagic q p v → (r : Result Reel HoldFileFault) → IfOk r (IsReelAfter p)
-    → IfOk r (λ x. HasVersion v x.rules.is_profile)
+    → IfOk r (λ x. HasFileVersion v x.rules.is_profile)
 version_of_file q p v is (Err f) reel = tt
-version_of_file q p v is (Ok r) reel = subst (HasVersion v) (sym reel.named) is.1
+version_of_file q p v is (Ok r) reel = subst (HasFileVersion v) (sym reel.named) is.1
 
 -- a refusal that isn't Memory is the first fault of the record
 pub first_fault : (recordings : Recordings) (config : List ℕ) (w h : ℕ) (f : SetupFault) → (f ≡ no_memory) ⊎ FirstRecordFault recordings config w h f → (f ≡ no_memory → ⊥)

@@ -1,5 +1,5 @@
 -- The entries of a holding, as its files give them.
-use Rattle.ffv1_hold.proofs.Common.{◌≡◌, ℕ, zero, suc, ◌<◌, ◌≤◌, Bool, true, false, ◌||◌, ◌&&◌, List, [], ◌∷◌, ◌++◌, length, map, get_or, Some, refl, sym, ap, ◌∙◌, subst, arith, drop, true≢false, or-false, AllByRecursion, list_any, is_eq, eq_by_cmp, ordering_reverse, Less, map-append, get_or-map, length-map, false_from_ne_true, Entry, with_each, bytes_cmp, entry_cmp, origin_cmp, entries_total, entries_antisymmetric, origins_total, origins_antisymmetric, IsRising, digests_in, Contents, IsHolding, IsEntryOf, digests_of, with_entry, joined, IsSameReel, Reel, rising_rest, contains_item, items-empty, items-rising, items-insert_last, or_cases, all-insert, all-union, held_union, whole_union, held_each, whole_each, Version, First, Second, FileEntry, origins_limit, file_entries, HasVersion, IsStated, last_of, Follows, IsDigest, AreOrigins, AreDigestsIn, IsFileEntryOf, AreEntries}
+use Rattle.ffv1_hold.proofs.Common.{◌≡◌, ℕ, zero, suc, ◌<◌, ◌≤◌, Bool, true, false, ◌||◌, ◌&&◌, List, [], ◌∷◌, ◌++◌, length, map, get_or, Some, refl, sym, ap, ◌∙◌, subst, arith, drop, true≢false, or-false, AllByRecursion, list_any, is_eq, eq_by_cmp, ordering_reverse, Less, map-append, get_or-map, length-map, false_from_ne_true, Entry, with_each, bytes_cmp, entry_cmp, origin_cmp, entries_total, entries_antisymmetric, origins_total, origins_antisymmetric, IsRising, digests_in, Contents, IsHolding, IsEntryOf, digests_of, with_entry, joined, IsSameReel, Reel, rising_rest, contains_item, items-empty, items-rising, items-insert_last, or_cases, all-insert, all-union, held_union, whole_union, held_each, whole_each, Version, First, Second, FileEntry, origins_limit, file_entries, HasFileVersion, IsStated, last_of, Follows, IsDigest, AreOrigins, AreDigestsIn, IsFileEntryOf, AreEntries}
 use Rattle.ffv1_holding.specs.Sets as set
 use Rattle.ffv1_hold.proofs.DigestSets.{has, entry_tie, entry_self, has-digests_in, has-with_each, digests_rise, same_digests, has_all}
 
@@ -148,7 +148,7 @@ stated_digests First h is was q held = same_digests _ [] (digests_rise h.origins
     (λ d. has-digests_in h.origins q d ∙ ap (λ s. set.contains s (q, d)) was.0 ∙ set.contains-empty origin_cmp (q, d))
 stated_digests Second h is was q held = (origins-digests_of h is q, was q held)
 
-pub version_of : (v : Version) (h : Contents) → IsStated v h → HasVersion v h.reel.rules.is_profile
+pub version_of : (v : Version) (h : Contents) → IsStated v h → HasFileVersion v h.reel.rules.is_profile
 version_of First h was = was.1
 version_of Second h was = tt
 

@@ -1,8 +1,8 @@
 -- Beginnings of magics.
-use Rattle.ffv1_hold.proofs.Common.{◌≡◌, ℕ, ◌<◌, List, [], ◌∷◌, ◌++◌, length, take, Bool, true, false, refl, sym, subst, inl, inr, arith, append-nil, true≢false, ◌⊎◌, Recordings, Profile, Any, Version, First, Second, magic, IsTaken, BeginsMagic, IsPartOfMagic, HasVersion}
+use Rattle.ffv1_hold.proofs.Common.{◌≡◌, ℕ, ◌<◌, List, [], ◌∷◌, ◌++◌, length, take, Bool, true, false, refl, sym, subst, inl, inr, arith, append-nil, true≢false, ◌⊎◌, Recordings, Profile, Any, Version, First, Second, magic, MayRead, BeginsMagic, IsPartOfMagic, HasFileVersion}
 
 -- files of recordings of the profile are always read
-pub profile_taken : (c : Recordings) → IsTaken c true
+pub profile_taken : (c : Recordings) → MayRead c true
 profile_taken Profile = refl
 profile_taken Any = tt
 
@@ -17,7 +17,7 @@ IsOneOf c s = (s ≡ take (length s) (magic true First)) ⊎ ((s ≡ take (lengt
 pub one_begun : (c : Recordings) (s : List ℕ) → BeginsMagic c s → IsOneOf c s
 one_begun c s b = go c b.of_profile b.version b.is_magic.0 b.is_magic.1 b.begins
   where
-    go : (c : Recordings) (p : Bool) (v : Version) → IsTaken c p → HasVersion v p → s ≡ take (length s) (magic p v) → IsOneOf c s
+    go : (c : Recordings) (p : Bool) (v : Version) → MayRead c p → HasFileVersion v p → s ≡ take (length s) (magic p v) → IsOneOf c s
     go c true First taken has is = inl is
     go c true Second taken has is = inr (inl is)
     go c false First taken has is = absurd (true≢false (sym has))

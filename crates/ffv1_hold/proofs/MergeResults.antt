@@ -1,5 +1,5 @@
 -- What joining two files returns for texts of one reel, and to heads of two.
-use Rattle.ffv1_hold.proofs.Common.{◌≡◌, ℕ, ◌<◌, List, [], ◌∷◌, ◌++◌, length, Option, Some, None, Result, Ok, Err, IfErr, OnOk, IsErrOf, rules, refl, sym, ap, ◌∙◌, subst, inl, inr, arith, append_assoc, length-append, ◌⊎◌, Consumes, Appends, Consumes-nil, Appends-nil, file_limit, Version, Reel, Contents, IsSameReel, joined, HoldFileFault, magic, head_text, entries_text, begun_text, file_entries, file_text, holding_text, IsStated, StopsIn, IsFileReel, IsPartOfReel, IsOutside, IsPartOfHead, HeadShows, Inputs, IsFileOf, IsFileOfSome, StreamBegins, BeginsWithHead, InputRefuses, ShowsNoFault, BothRefuse, MergeRefuses, EntriesPass, UnionPasses, ReadsPart, ReadsAll, ReadsOtherHeads, WritesUnion, ReturnsUnion, ReturnsOther, WritesNoEnd, StaysInReadLimit, Facts, both, HeadsRefuse, StopsAtWrite, Stops, MergeIsRefused, part, Recordings, IsTaken, HasVersion, HeadRefuses, sized_record, WritesAtMost}
+use Rattle.ffv1_hold.proofs.Common.{◌≡◌, ℕ, ◌<◌, List, [], ◌∷◌, ◌++◌, length, Option, Some, None, Result, Ok, Err, IfErr, OnOk, IsErrOf, rules, refl, sym, ap, ◌∙◌, subst, inl, inr, arith, append_assoc, length-append, ◌⊎◌, Consumes, Appends, Consumes-nil, Appends-nil, file_limit, Version, Reel, Contents, IsSameReel, joined, HoldFileFault, magic, head_text, entries_text, begun_text, file_entries, file_text, holding_text, IsStated, StopsIn, IsFileReel, IsPartOfReel, IsOutside, IsPartOfHead, HeadShows, Inputs, IsFileOf, IsFileOfSome, StreamBegins, BeginsWithHead, InputRefuses, ShowsNoFault, BothRefuse, MergeRefuses, EntriesPass, UnionPasses, ReadsPart, ReadsAll, ReadsOtherHeads, WritesUnion, ReturnsUnion, ReturnsOther, WritesNoEnd, StaysInReadLimit, Facts, both, HeadsRefuse, StopsAtWrite, Stops, MergeIsRefused, part, Recordings, MayRead, HasFileVersion, HeadRefuses, sized_record, WritesAtMost}
 use Rattle.ffv1_hold.specs.declared.file_fault.HoldFileFault.TheVariants as faults
 use Rattle.ffv1_hold.proofs.Bodies.{length-be4}
 use Rattle.ffv1_hold.proofs.TextLaws.{short_reel, one_reel, same_head, same_name, head_parts, after_magic, text_parts, one_file, fitting_items}
@@ -15,7 +15,7 @@ use Rattle.ffv1_hold.proofs.MergeSteps.{whole_begins, head_begins}
 
 -- ---- a head that is there is not refused
 
-module _ (c : Recordings) (v : Version) (r : Reel) (is : IsFileReel c r) (has : HasVersion v r.rules.is_profile) where
+module _ (c : Recordings) (v : Version) (r : Reel) (is : IsFileReel c r) (has : HasFileVersion v r.rules.is_profile) where
   -- no beginning of what goes on after a head shows a fault of a head
   head_none : (x seen y : List ℕ) (f : HoldFileFault) → head_text v r ++ x ≡ seen ++ y → HeadShows c f seen → ⊥
   head_none x seen y f same (inl shown) = magic_none c r.rules.is_profile v (is.taken, has) _ y seen f (sym (head_parts v r x) ∙ same) shown
@@ -37,7 +37,7 @@ part_short c s (inl part) = omega (arith, part.0)
 part_short c s (inr (k, v, p, m, split, inl short)) = omega (arith, short, ap length split, length-append (magic k v) p)
 part_short c s (inr (k, v, p, m, split, inr (w, h, n, config, parts, fits, cut))) = grind (arith, length-append, length-be4)
 
-module _ (c : Recordings) (v : Version) (r : Reel) (is : IsFileReel c r) (has : HasVersion v r.rules.is_profile) (x : List ℕ) where
+module _ (c : Recordings) (v : Version) (r : Reel) (is : IsFileReel c r) (has : HasFileVersion v r.rules.is_profile) (x : List ℕ) where
   head_shown : (f : HoldFileFault) (new : Option (List ℕ)) → StopsIn (HeadShows c f) (Some (head_text v r ++ x)) new 0 → ⊥
   head_shown f new s = let front = taken_front (head_text v r ++ x) s.seen new s.taken in head_none c v r is has x s.seen front.0 f front.1 s.is
 
@@ -79,13 +79,13 @@ module _ (i : Inputs) (w v : Option (List ℕ)) (g h : Reel) (left : BeginsWithH
   other_refused f (inr s) =
       absurd (other (sym (one_head _ s.left_version s.reel g s.is s.left_head left) ∙ one_head _ s.right_version s.reel h s.is s.right_head right))
 
-  file_reel : (old new : Option (List ℕ)) (x : Contents) → IsTaken i.recordings x.reel.rules.is_profile → ReadsAll old new x → IsFileReel i.recordings x.reel
+  file_reel : (old new : Option (List ℕ)) (x : Contents) → MayRead i.recordings x.reel.rules.is_profile → ReadsAll old new x → IsFileReel i.recordings x.reel
   file_reel old new x taken a = record { reel = a.well_formed.reel; taken = taken; fits = a.file.fits.record' }
 
   other_written : WritesUnion i w v → ⊥
   other_written u =
       let one = one_head _ _ u.left.reel g (file_reel _ _ u.left u.taken u.read.left_read) (head_begins _ _ _ u.left (0 ∷ []) u.read.left_read.file.taken) left in
-      let two = one_head _ _ u.right.reel h (file_reel _ _ u.right (subst (λ (k : Reel). IsTaken i.recordings k.rules.is_profile) u.read.same u.taken) u.read.right_read) (head_begins _ _ _ u.right (0 ∷ []) u.read.right_read.file.taken) right in
+      let two = one_head _ _ u.right.reel h (file_reel _ _ u.right (subst (λ (k : Reel). MayRead i.recordings k.rules.is_profile) u.read.same u.taken) u.read.right_read) (head_begins _ _ _ u.right (0 ∷ []) u.read.right_read.file.taken) right in
       other (sym one ∙ u.read.same ∙ two)
 
   pub returns_other : (r : Result (Unit {0}) HoldFileFault) → OnOk r (WritesUnion i w v) → IfErr r (MergeIsRefused i w v) → ReturnsOther r
@@ -118,15 +118,15 @@ part_of_text old new v h q file p =
 whole_is : (old new : Option (List ℕ)) (v : Version) (h q : Contents) → IsFileOf old v h → ReadsAll old new q → q ≡ h
 whole_is old new v h q file a = grind (arith, taken_all, one_file)
 
-file_refused : (c : Recordings) (old new : Option (List ℕ)) (v : Version) (h : Contents) (f : HoldFileFault) → IsTaken c h.reel.rules.is_profile
+file_refused : (c : Recordings) (old new : Option (List ℕ)) (v : Version) (h : Contents) (f : HoldFileFault) → MayRead c h.reel.rules.is_profile
     → IsFileOf old v h → InputRefuses c old new f → IsOutside f
 file_refused c old new v h f taken file refused =
     refused_outside c v h file.well_formed taken file.fits f new (subst (λ (o : Option (List ℕ)). InputRefuses c o new f) file.text refused)
 
 module _ (i : Inputs) (a b : Option (List ℕ)) (v w : Version) (g h : Contents) (same : IsSameReel g h)
-    (taken : IsTaken i.recordings g.reel.rules.is_profile) (left : IsFileOf i.left_old v g) (right : IsFileOf i.right_old w h) where
-  right_taken : IsTaken i.recordings h.reel.rules.is_profile
-  right_taken = subst (λ (k : Reel). IsTaken i.recordings k.rules.is_profile) same taken
+    (taken : MayRead i.recordings g.reel.rules.is_profile) (left : IsFileOf i.left_old v g) (right : IsFileOf i.right_old w h) where
+  right_taken : MayRead i.recordings h.reel.rules.is_profile
+  right_taken = subst (λ (k : Reel). MayRead i.recordings k.rules.is_profile) same taken
 
   -- the entries so far are no more than those of both
   entries_within : EntriesPass i → file_limit < length (holding_text (joined g h))
@@ -150,7 +150,7 @@ module _ (i : Inputs) (a b : Option (List ℕ)) (v w : Version) (g h : Contents)
 
   heads_same : ReadsOtherHeads i → ⊥
   heads_same o =
-      let head : (old : Option (List ℕ)) (u : Version) (x : Contents) → IsTaken i.recordings x.reel.rules.is_profile → IsFileOf old u x
+      let head : (old : Option (List ℕ)) (u : Version) (x : Contents) → MayRead i.recordings x.reel.rules.is_profile → IsFileOf old u x
       → BeginsWithHead i.recordings old x.reel = λ old u x own file. record {
         is = record { reel = file.well_formed.reel; taken = own; fits = file.fits.record' };
         version = u;

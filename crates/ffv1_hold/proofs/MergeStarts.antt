@@ -1,5 +1,5 @@
 -- Where joining two files stands before the first entries, and after the last ones.
-use Rattle.ffv1_hold.proofs.Common.{◌≡◌, ℕ, ◌+◌, ◌≤◌, List, [], ◌∷◌, ◌++◌, length, Option, Some, None, IfSome, IfNone, refl, sym, ap, ◌∙◌, subst, inl, inr, arith, append-nil, length-append, Consumes, Appends, IsAtEnd, AllByRecursion, Appends-trans, file_limit, TileRules, WritesFront, front-append, front-after, entries_total, entries_antisymmetric, origins_total, origins_antisymmetric, Reel, Contents, IsHolding, HoldFileFault, Version, Second, FileEntry, head_text, begun_text, file_text, holding_text, IsStated, Takes, Refuses, last_of, Follows, IsFileEntryOf, next_text, IsFileReel, IsPartOfEntry, EntryShows, EndIsWhole, LiesWhole, AreAllDigests, StreamBegins, InputRefuses, OneRefuses, ShowsNoFault, ReadsAll, ReadsPart, ReadsSoFar, UnionPasses, WritesUnion, WritesAtMost, Start, inputs_from, Facts, part, no_facts, both, FollowsAll, IsPassed, IsReadUpTo, ReadsToNext, IsOpened, Stands, Stops, Ends, Recordings, HasVersion}
+use Rattle.ffv1_hold.proofs.Common.{◌≡◌, ℕ, ◌+◌, ◌≤◌, List, [], ◌∷◌, ◌++◌, length, Option, Some, None, IfSome, IfNone, refl, sym, ap, ◌∙◌, subst, inl, inr, arith, append-nil, length-append, Consumes, Appends, IsAtEnd, AllByRecursion, Appends-trans, file_limit, TileRules, WritesFront, front-append, front-after, entries_total, entries_antisymmetric, origins_total, origins_antisymmetric, Reel, Contents, IsHolding, HoldFileFault, Version, Second, FileEntry, head_text, begun_text, file_text, holding_text, IsStated, Takes, Refuses, last_of, Follows, IsFileEntryOf, next_text, IsFileReel, IsPartOfEntry, EntryShows, EndIsWhole, LiesWhole, AreAllDigests, StreamBegins, InputRefuses, OneRefuses, ShowsNoFault, ReadsAll, ReadsPart, ReadsSoFar, UnionPasses, WritesUnion, WritesAtMost, Start, inputs_from, Facts, part, no_facts, both, FollowsAll, IsPassed, IsReadUpTo, ReadsToNext, IsOpened, Stands, Stops, Ends, Recordings, HasFileVersion}
 use Rattle.ffv1_holding.specs.Sets as set
 use Rattle.ffv1_hold.specs.declared.file_fault.HoldFileFault.TheVariants as faults
 use Rattle.ffv1_hold.proofs.Slots.{entries_text-none, length-head_text}
@@ -20,7 +20,7 @@ begun-both_none : (r : Reel) → begun_text Second (part r (both no_facts no_fac
 begun-both_none r = ap (λ x. begun_text Second (part r x)) both-none ∙ begun-none Second r
 
 -- the head was read, and no entry
-pub first_passed : {c : Recordings} (old new : Option (List ℕ)) (v : Version) (r : Reel) (place : ℕ) → IsFileReel c r → HasVersion v r.rules.is_profile → Takes old new 0 place (head_text v r)
+pub first_passed : {c : Recordings} (old new : Option (List ℕ)) (v : Version) (r : Reel) (place : ℕ) → IsFileReel c r → HasFileVersion v r.rules.is_profile → Takes old new 0 place (head_text v r)
     → IsPassed old new v r no_facts place None
 first_passed old new v r place is has t = record {
   well_formed = holding_none r is.reel;
@@ -31,7 +31,7 @@ first_passed old new v r place is has t = record {
 
 -- the head was read, and the first entry or the end after it
 pub head_held : {c : Recordings} (old now new : Option (List ℕ)) (v w : Version) (r : Reel) (from to : ℕ) (last next : Option FileEntry) (rules : TileRules)
-    → IsFileReel c r → HasVersion v r.rules.is_profile → last ≡ None → w ≡ v → rules ≡ r.rules → Takes old now 0 from (head_text v r) → Takes now new from to (next_text w next)
+    → IsFileReel c r → HasFileVersion v r.rules.is_profile → last ≡ None → w ≡ v → rules ≡ r.rules → Takes old now 0 from (head_text v r) → Takes now new from to (next_text w next)
     → IfSome next (IsFileEntryOf w rules) → IfSome next (λ e. Follows last e.0) → IfNone next (IsAtEnd new) → IsReadUpTo old new v r no_facts to next
 head_held old now new v w r from to last next rules is has none version same head text entry follows end =
     let p = subst (λ (l : Option FileEntry). IsPassed old now v r no_facts from l) (sym none) (first_passed old now v r from is has head) in
@@ -39,7 +39,7 @@ head_held old now new v w r from to last next rules is has none version same hea
 
 -- the first entry is refused
 pub first_refuses : {c : Recordings} (old now new : Option (List ℕ)) (v w : Version) (r : Reel) (from : ℕ) (last : Option FileEntry) (rules : TileRules) (f : HoldFileFault)
-    → last ≡ None → w ≡ v → rules ≡ r.rules → IsFileReel c r → HasVersion v r.rules.is_profile → Takes old now 0 from (head_text v r)
+    → last ≡ None → w ≡ v → rules ≡ r.rules → IsFileReel c r → HasFileVersion v r.rules.is_profile → Takes old now 0 from (head_text v r)
     → Refuses (IsPartOfEntry w rules last) EndIsWhole (EntryShows w rules last) now new from f → InputRefuses c old new f
 first_refuses old now new v w r from last rules f none version same is has head refused =
     input_refuses old now new v w r no_facts from last rules f version same is
@@ -67,7 +67,7 @@ first_stands s l r w lp rp room ln rn is left right written room_left =
     }
 
 -- an input whose head alone was read
-head_after : {c : Recordings} (old new beside : Option (List ℕ)) (v : Version) (r : Reel) (done : List ℕ) → IsFileReel c r → HasVersion v r.rules.is_profile → Consumes old new (head_text v r)
+head_after : {c : Recordings} (old new beside : Option (List ℕ)) (v : Version) (r : Reel) (done : List ℕ) → IsFileReel c r → HasFileVersion v r.rules.is_profile → Consumes old new (head_text v r)
     → ReadsToNext v r old new beside done
 head_after old new beside v r done is has taken = record {
   facts = no_facts;

@@ -1,5 +1,5 @@
 -- No two faults are shown by beginnings of one input.
-use Rattle.ffv1_hold.proofs.Common.{◌≡◌, ℕ, ◌<◌, ◌≤◌, ◌^◌, List, [], ◌∷◌, ◌++◌, length, Option, Some, None, refl, sym, ap, ◌∙◌, subst, inl, inr, arith, append_assoc, ◌⊎◌, record_limit, SetupFault, TileRules, FirstRecordFault, Recordings, Bool, HasVersion, IsFileReel, IsMagic, IsMisnamed, recordings_of, HoldFileFault, Version, Reel, FileEntry, be4, magic, sized_record, head_text, body_text, entries_text, last_of, AreEntries, EntryShows, ReelShows, MagicShows, FileShows}
+use Rattle.ffv1_hold.proofs.Common.{◌≡◌, ℕ, ◌<◌, ◌≤◌, ◌^◌, List, [], ◌∷◌, ◌++◌, length, Option, Some, None, refl, sym, ap, ◌∙◌, subst, inl, inr, arith, append_assoc, ◌⊎◌, record_limit, SetupFault, TileRules, FirstRecordFault, Recordings, Bool, HasFileVersion, IsFileReel, IsMagic, IsMisnamed, recordings_of, HoldFileFault, Version, Reel, FileEntry, be4, magic, sized_record, head_text, body_text, entries_text, last_of, AreEntries, EntryShows, ReelShows, MagicShows, FileShows}
 use Rattle.ffv1_hold.specs.declared.file_fault.HoldFileFault.TheVariants as faults
 use Rattle.ffv1_hold.proofs.NumberTexts.{no_tag, rest_same, number_same, after_number}
 use Rattle.ffv1_hold.proofs.BodyTexts.{same_body, body_one}
@@ -112,7 +112,7 @@ after_a_magic : (q : Recordings) (p : Bool) (v : Version) → IsMagic q p v → 
     → MagicShows q f s → ⊥
 after_a_magic q p v m f s u y z same a = magic_none q p v m (u ++ z) y s f (sym (append_assoc (magic p v) u z) ∙ sym same) a
 
-after_a_head : (q : Recordings) (v : Version) (r : Reel) → IsFileReel q r → HasVersion v r.rules.is_profile → (f : HoldFileFault) (s u y z : List ℕ)
+after_a_head : (q : Recordings) (v : Version) (r : Reel) → IsFileReel q r → HasFileVersion v r.rules.is_profile → (f : HoldFileFault) (s u y z : List ℕ)
     → s ++ y ≡ (head_text v r ++ u) ++ z → MagicShows q f s → ⊥
 after_a_head q v r is has f s u y z same a =
     magic_none q r.rules.is_profile v (is.taken, has) (sized_record r.config r.setup.width r.setup.height ++ (u ++ z)) y s f (sym (head_on v r u z) ∙ sym same) a

@@ -1,5 +1,5 @@
 -- How reading the entries of a file goes on after those that were read.
-use Rattle.ffv1_hold.proofs.Common.{◌≡◌, ℕ, ◌≤◌, List, ◌++◌, Option, Some, None, IfSome, refl, sym, ap, ◌∙◌, subst, append-nil, arith, true≢false, file_limit, TileRules, HoldFileFault, Version, First, Second, Reel, IsReel, entry_cmp, origin_cmp, Contents, IsHolding, no_slices, with_entry, FileEntry, HasVersion, entries_text, file_entries, IsStated, ReadLog, TakesText, StopsAt, last_of, Follows, AreOrigins, AreEntries, AreDigestsIn, IsFileEntryOf, next_text, IsPartOfEntry, EntryShows, IsPartOfEntries, EntriesShow, EndIsWhole, EntriesAreWhole}
+use Rattle.ffv1_hold.proofs.Common.{◌≡◌, ℕ, ◌≤◌, List, ◌++◌, Option, Some, None, IfSome, refl, sym, ap, ◌∙◌, subst, append-nil, arith, true≢false, file_limit, TileRules, HoldFileFault, Version, First, Second, Reel, IsReel, entry_cmp, origin_cmp, Contents, IsHolding, no_slices, with_entry, FileEntry, HasFileVersion, entries_text, file_entries, IsStated, ReadLog, TakesText, StopsAt, last_of, Follows, AreOrigins, AreEntries, AreDigestsIn, IsFileEntryOf, next_text, IsPartOfEntry, EntryShows, IsPartOfEntries, EntriesShow, EndIsWhole, EntriesAreWhole}
 use Rattle.ffv1_hold.specs.declared.file_fault.HoldFileFault.TheVariants as faults
 use Rattle.ffv1_holding.specs.Sets as set
 use Rattle.ffv1_hold.proofs.TextReads.{TakesText-nil, TakesText-trans, StopsAt-after, memory_stops}
@@ -30,13 +30,13 @@ holding_none r is = record {
   digests_whole = λ o held. absurd (true≢false (sym held ∙ set.contains-empty origin_cmp o));
 }
 
-pub stated_none : (v : Version) (r : Reel) → HasVersion v r.rules.is_profile → IsStated v (no_slices r)
+pub stated_none : (v : Version) (r : Reel) → HasFileVersion v r.rules.is_profile → IsStated v (no_slices r)
 stated_none First r has = (refl, has)
 stated_none Second r has = λ q held. absurd (true≢false (sym held ∙ set.contains-empty entry_cmp q))
 
 -- no entries yet
 pub none_read : (v : Version) (a : ReadLog) (i : ℕ) (h : Contents) (last : Option FileEntry) → i ≤ file_limit → IsReel h.reel
-    → h ≡ no_slices h.reel → HasVersion v h.reel.rules.is_profile → last ≡ None → AreRead v h.reel a a i i h last
+    → h ≡ no_slices h.reel → HasFileVersion v h.reel.rules.is_profile → last ≡ None → AreRead v h.reel a a i i h last
 none_read v a i h last within is none has at =
     let entries = ap file_entries none ∙ entries-none h.reel in
     record {

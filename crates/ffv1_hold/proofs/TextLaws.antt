@@ -1,5 +1,5 @@
 -- Texts of holdings are read in one way only.
-use Rattle.ffv1_hold.proofs.Common.{◌≡◌, ℕ, ◌<◌, ◌≤◌, ◌^◌, ◌==◌, Bool, true, false, List, [], ◌∷◌, ◌++◌, length, get_or, refl, sym, ap, ◌∙◌, subst, arith, append_assoc, AllByRecursion, record_limit, reel_small, HeadLimits, reel_limits, reel_tiles_few, slice_in_grid, Reel, IsReel, Contents, IsHolding, Version, First, Second, FileEntry, HasVersion, Recordings, be4, magic, sized_record, head_text, body_text, entry_text, entries_text, file_entries, file_text, IsStated, IsTextOf, HasText, IsFileEntryOf, IsFileReel, same_reel, ◌*◌}
+use Rattle.ffv1_hold.proofs.Common.{◌≡◌, ℕ, ◌<◌, ◌≤◌, ◌^◌, ◌==◌, Bool, true, false, List, [], ◌∷◌, ◌++◌, length, get_or, refl, sym, ap, ◌∙◌, subst, arith, append_assoc, AllByRecursion, record_limit, reel_small, HeadLimits, reel_limits, reel_tiles_few, slice_in_grid, Reel, IsReel, Contents, IsHolding, Version, First, Second, FileEntry, HasFileVersion, Recordings, be4, magic, sized_record, head_text, body_text, entry_text, entries_text, file_entries, file_text, IsStated, IsTextOf, HasText, IsFileEntryOf, IsFileReel, same_reel, ◌*◌}
 use Rattle.ffv1_hold.proofs.NumberTexts.{same_front, same_back, no_tag, rest_same, number_same, after_number}
 use Rattle.ffv1_hold.proofs.DigestTexts.{has_text_after}
 use Rattle.ffv1_hold.proofs.BodyTexts.{same_body}
@@ -73,7 +73,7 @@ same_name false true v w x y e = let letter = ap (λ z. get_or z 4 0) e in absur
 same_name false false v w x y e = refl
 
 -- .. and of one version
-pub same_version : (p : Bool) (v w : Version) → HasVersion v p → HasVersion w p → (x y : List ℕ) → magic p v ++ x ≡ magic p w ++ y → v ≡ w
+pub same_version : (p : Bool) (v w : Version) → HasFileVersion v p → HasFileVersion w p → (x y : List ℕ) → magic p v ++ x ≡ magic p w ++ y → v ≡ w
 same_version p First First v_has w_has x y e = refl
 same_version p First Second v_has w_has x y e =
     let number = ap (λ z. get_or z 7 0) (subst (λ b. magic b First ++ x ≡ magic b Second ++ y) v_has e) in absurd (omega arith)
@@ -97,14 +97,14 @@ pub one_reel : (v w : Version) (r s : Reel) (x y : List ℕ) → IsShortReel r �
 one_reel v w r s x y r_is s_is e = grind (arith, reel_small, head_parts, after_magic, same_sized, same_reel)
 
 -- and of one version, where both have theirs
-pub same_head : (v w : Version) (r s : Reel) (x y : List ℕ) → IsShortReel r → IsShortReel s → HasVersion v r.rules.is_profile
-    → HasVersion w s.rules.is_profile → head_text v r ++ x ≡ head_text w s ++ y → (v ≡ w) × (r ≡ s) × (x ≡ y)
+pub same_head : (v w : Version) (r s : Reel) (x y : List ℕ) → IsShortReel r → IsShortReel s → HasFileVersion v r.rules.is_profile
+    → HasFileVersion w s.rules.is_profile → head_text v r ++ x ≡ head_text w s ++ y → (v ≡ w) × (r ≡ s) × (x ≡ y)
 same_head v w r s x y r_is s_is v_has w_has e =
     let one = one_reel v w r s x y r_is s_is e in
     let p = r.rules.is_profile in
     let same = ap (λ (k : Reel). k.rules.is_profile) (sym one.0) in
     let magics = sym (head_parts v r x) ∙ e ∙ head_parts w s y in (
-      same_version p v w v_has (subst (HasVersion w) same w_has) (sized_record r.config r.setup.width r.setup.height ++ x)
+      same_version p v w v_has (subst (HasFileVersion w) same w_has) (sized_record r.config r.setup.width r.setup.height ++ x)
           (sized_record s.config s.setup.width s.setup.height ++ y)
           (subst (λ b. magic p v ++ (sized_record r.config r.setup.width r.setup.height ++ x)
           ≡ magic b w ++ (sized_record s.config s.setup.width s.setup.height ++ y)) same magics),

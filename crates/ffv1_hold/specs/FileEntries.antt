@@ -10,7 +10,7 @@ use Rattle.ffv1_holding.specs.Rising.{IsRising}
 use Rattle.ffv1_holding.specs.Contents.{IsEntryOf, AreDigests}
 use Rattle.ffv1_hold.specs.declared.version.Version.{Version}
 use Rattle.ffv1_hold.specs.declared.version.Version.TheVariants.{First, Second}
-use Rattle.ffv1_hold.specs.HoldingText.{FileEntry, origins_limit, HasVersion}
+use Rattle.ffv1_hold.specs.HoldingText.{FileEntry, origins_limit, HasFileVersion}
 
 -- the last item, if there is one
 abbrev pub last_of : {A : Type 0} → List A → Option A
@@ -52,7 +52,7 @@ file_entry_cmp a b = entry_cmp a.0 b.0
 
 -- slices of their tiles, in rising order of tile and bytes, in a version that the recording's files have
 pub record AreEntries (v : Version) (rules : TileRules) (es : List FileEntry) : Type 0 where
-  pub version : HasVersion v rules.is_profile
+  pub version : HasFileVersion v rules.is_profile
   pub each : AllByRecursion (IsFileEntryOf v rules) es
   pub rising : IsRising file_entry_cmp es
 

@@ -18,7 +18,7 @@ use Rattle.ffv1_holding.specs.Reels.{Reel, IsReel, IsRecordingFor, FirstRecordFa
 use Rattle.ffv1_holding.specs.declared.recordings.Recordings.{Recordings}
 use Rattle.ffv1_holding.specs.declared.recordings.Recordings.TheVariants.{Profile, Any}
 use Rattle.ffv1_holding.specs.Contents.{Contents, IsHolding, IsEntryOf}
-use Rattle.ffv1_hold.specs.HoldingText.{TakesFile, FileEntry, HasVersion, origins_limit, magic, be2, be4, sized_record, head_text, slice_text, entries_text, IsTextOf}
+use Rattle.ffv1_hold.specs.HoldingText.{TakesFile, FileEntry, HasFileVersion, origins_limit, magic, be2, be4, sized_record, head_text, slice_text, entries_text, IsTextOf}
 use Rattle.ffv1_hold.specs.Reading.{Refuses, StopsAt}
 use Rattle.ffv1_hold.specs.FileEntries.{last_of, Follows, FollowsDigest, IsDigest, AreOrigins, AreEntries}
 
@@ -100,9 +100,9 @@ EntriesShow v rules f s = (es : List FileEntry) × (seen : List ℕ) × AreEntri
 -- ---- the size and the record
 
 -- the files that are read: those of recordings of the profile, or of any
-abbrev pub IsTaken : Recordings → Bool → Type 0
-IsTaken Profile of_profile = of_profile ≡ true
-IsTaken Any of_profile = Unit {0}
+abbrev pub MayRead : Recordings → Bool → Type 0
+MayRead Profile of_profile = of_profile ≡ true
+MayRead Any of_profile = Unit {0}
 
 -- as which recordings the record after a magic is read
 abbrev pub recordings_of : Bool → Recordings
@@ -112,7 +112,7 @@ recordings_of false = Any
 -- the record is one at the reel's size, of those that are read, and within its limit
 pub record IsFileReel (recordings : Recordings) (r : Reel) : Type 0 where
   pub reel : IsReel r
-  pub taken : IsTaken recordings r.rules.is_profile
+  pub taken : MayRead recordings r.rules.is_profile
   pub fits : length r.config ≤ record_limit
 
 -- a beginning of the size and the record
@@ -145,7 +145,7 @@ ReelIsWhole of_profile _ s = ⊥
 
 -- files are read that have this magic
 abbrev pub IsMagic : Recordings → Bool → Version → Type 0
-IsMagic recordings of_profile v = IsTaken recordings of_profile × HasVersion v of_profile
+IsMagic recordings of_profile v = MayRead recordings of_profile × HasFileVersion v of_profile
 
 -- The bytes begin the magic of files that are read.
 pub record BeginsMagic (recordings : Recordings) (s : List ℕ) : Type 0 where
@@ -209,7 +209,7 @@ Returns h (Err f) = IsOutside f
 -- A source was read to its end, and was the file of a holding.
 pub record ReadsHolding (recordings : Recordings) (old new : ReadLog) (h : Contents) : Type 0 where
   pub well_formed : IsHolding h
-  pub taken : IsTaken recordings h.reel.rules.is_profile
+  pub taken : MayRead recordings h.reel.rules.is_profile
   pub file : TakesFile old.remaining new.remaining h
   pub at_end : IsAtEnd new.remaining
   pub tries' : GoesOn old.tries new.tries

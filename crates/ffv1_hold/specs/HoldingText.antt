@@ -38,9 +38,9 @@ magic of_profile v = 70 ∷ 70 ∷ 86 ∷ 49 ∷ (if of_profile then 72 else 65)
     ∷ (if of_profile then version_number v else 1) ∷ []
 
 -- version 1 is of recordings of the profile alone
-abbrev pub HasVersion : Version → Bool → Type 0
-HasVersion First of_profile = of_profile ≡ true
-HasVersion Second of_profile = Unit {0}
+abbrev pub HasFileVersion : Version → Bool → Type 0
+HasFileVersion First of_profile = of_profile ≡ true
+HasFileVersion Second of_profile = Unit {0}
 
 -- a width, a height and a record
 unfoldable pub sized_record : List ℕ → ℕ → ℕ → List ℕ
@@ -91,7 +91,7 @@ holding_text h = file_text Second h
 
 -- what the version can give: in version 1 no origins, of recordings of the profile; in version 2 at most 2^26 of each slice
 abbrev pub IsStated : Version → Contents → Type 0
-IsStated First h = (h.origins ≡ set.empty) × HasVersion First h.reel.rules.is_profile
+IsStated First h = (h.origins ≡ set.empty) × HasFileVersion First h.reel.rules.is_profile
 IsStated Second h = (e : Entry) → set.contains h.slices e ≡ true → length (digests_of h e) ≤ origins_limit
 
 -- a text of a holding: that of version 2, or, where it is of the profile and has no origins, that of version 1

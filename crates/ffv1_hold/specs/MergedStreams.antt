@@ -11,9 +11,9 @@ use Rattle.ffv1_hold.specs.declared.file_fault.HoldFileFault.{HoldFileFault}
 use Rattle.ffv1_hold.specs.declared.file_fault.HoldFileFault.TheVariants as faults
 use Rattle.ffv1_hold.specs.declared.version.Version.{Version}
 use Rattle.ffv1_hold.specs.declared.version.Version.TheVariants.{Second}
-use Rattle.ffv1_hold.specs.HoldingText.{HasVersion, head_text, begun_text, file_text, holding_text, IsStated, FitsInFile, TakesFile}
+use Rattle.ffv1_hold.specs.HoldingText.{HasFileVersion, head_text, begun_text, file_text, holding_text, IsStated, FitsInFile, TakesFile}
 use Rattle.ffv1_hold.specs.Reading.{Refuses}
-use Rattle.ffv1_hold.specs.FileFaults.{IsTaken, IsFileReel, IsPartOfFile, IsHoldingText, FileIsWhole, FileShows, IsOutside}
+use Rattle.ffv1_hold.specs.FileFaults.{MayRead, IsFileReel, IsPartOfFile, IsHoldingText, FileIsWhole, FileShows, IsOutside}
 use Rattle.ffv1_hold.specs.ReadLimits.{IsReadLimitOf}
 
 -- which files are read, and what both inputs have left, before and after
@@ -64,7 +64,7 @@ pub record WritesUnion (i : Inputs) (old new : Option (List ℕ)) : Type 0 where
   pub left : Contents
   pub right : Contents
   pub read : ReadsBoth i left right
-  pub taken : IsTaken i.recordings left.reel.rules.is_profile
+  pub taken : MayRead i.recordings left.reel.rules.is_profile
   pub fits : FitsInFile Second (joined left right)
   pub written : Appends old new (holding_text (joined left right))
 
@@ -83,8 +83,8 @@ pub record ReadsOtherHeads (i : Inputs) : Type 0 where
   pub right_is : IsFileReel i.recordings right
   pub left_version : Version
   pub right_version : Version
-  pub left_has : HasVersion left_version left.rules.is_profile
-  pub right_has : HasVersion right_version right.rules.is_profile
+  pub left_has : HasFileVersion left_version left.rules.is_profile
+  pub right_has : HasFileVersion right_version right.rules.is_profile
   pub left_taken : Consumes i.left_old i.left_new (head_text left_version left)
   pub right_taken : Consumes i.right_old i.right_new (head_text right_version right)
   pub other : ¬ (left ≡ right)
@@ -93,7 +93,7 @@ pub record ReadsOtherHeads (i : Inputs) : Type 0 where
 pub record BeginsWithHead (recordings : Recordings) (input : Option (List ℕ)) (r : Reel) : Type 0 where
   pub is : IsFileReel recordings r
   pub version : Version
-  pub has : HasVersion version r.rules.is_profile
+  pub has : HasFileVersion version r.rules.is_profile
   pub rest : List ℕ
   pub split : input ≡ Some (head_text version r ++ rest)
 

@@ -4,7 +4,7 @@ ghost use Rattle.std.specs.Io.KnownBytes.{IsAtEnd};
 ghost use Rattle.ffv1_bits.specs.Limits.{file_limit};
 ghost use Rattle.ffv1_range.specs.TileHeaders.{rules_of};
 ghost use Rattle.ffv1_hold.specs.Inner.Reading.{ReadsText};
-ghost use Rattle.ffv1_hold.specs.HoldingText.{HasVersion, head_text};
+ghost use Rattle.ffv1_hold.specs.HoldingText.{HasFileVersion, head_text};
 ghost use Rattle.ffv1_hold.specs.FileEntries.{Follows, IsFileEntryOf};
 ghost use Rattle.ffv1_hold.specs.Inner.FileEntries.{next_text};
 ghost use Rattle.ffv1_hold.specs.FileFaults.{IsFileReel, IsPartOfEntry, EntryShows};
@@ -52,7 +52,7 @@ impl HoldReader {
         ensures read { ReadsText (head_text self.new.version) (IsPartOfHead recordings) (HeadIsWhole recordings) (HeadShows recordings)
             (S.log source.old) (S.log source.new) 0 self.new.place result }
         ensures reel { IfOk result (IsFileReel recordings) }
-        ensures has { IfOk result (λ r. HasVersion self.new.version r.rules.is_profile) }
+        ensures has { IfOk result (λ r. HasFileVersion self.new.version r.rules.is_profile) }
         ensures held { self.new.held ≡ self.old.held }
     {
         let magic = read_magic(recordings, source, &mut self.place)?;

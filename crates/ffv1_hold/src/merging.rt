@@ -5,7 +5,7 @@ ghost use Rattle.ffv1_bits.specs.Limits.{record_limit, file_limit};
 ghost use Rattle.ffv1_devices.specs.Logs.{WriteLog};
 ghost use Rattle.ffv1_range.specs.TileHeaders.{rules_of};
 ghost use Rattle.ffv1_holding.specs.declared.recordings.Recordings.TheVariants.{Profile};
-ghost use Rattle.ffv1_hold.specs.HoldingText.{HasVersion, head_text, entry_text};
+ghost use Rattle.ffv1_hold.specs.HoldingText.{HasFileVersion, head_text, entry_text};
 ghost use Rattle.ffv1_hold.specs.FileEntries.{IsFileEntryOf};
 ghost use Rattle.ffv1_hold.specs.Inner.Reading.{Takes};
 ghost use Rattle.ffv1_hold.specs.FileFaults.{IsFileReel};
@@ -132,8 +132,8 @@ impl Merge {
         ensures left { IfOk result (λ r. Takes (R.log left.old).remaining (R.log left.new).remaining 0 self.new.lefts.place (head_text self.new.lefts.version r)) }
         ensures right { IfOk result (λ r. Takes (Q.log right.old).remaining (Q.log right.new).remaining 0 self.new.rights.place (head_text self.new.rights.version r)) }
         ensures reel { IfOk result (IsFileReel recordings) }
-        ensures left_has { IfOk result (λ r. HasVersion self.new.lefts.version r.rules.is_profile) }
-        ensures right_has { IfOk result (λ r. HasVersion self.new.rights.version r.rules.is_profile) }
+        ensures left_has { IfOk result (λ r. HasFileVersion self.new.lefts.version r.rules.is_profile) }
+        ensures right_has { IfOk result (λ r. HasFileVersion self.new.rights.version r.rules.is_profile) }
         ensures left_held { self.new.lefts.held ≡ self.old.lefts.held }
         ensures right_held { self.new.rights.held ≡ self.old.rights.held }
         ensures room { self.new.room ≡ self.old.room }

@@ -5,8 +5,8 @@ ghost use Rattle.ffv1_bits.specs.Limits.{file_limit};
 ghost use Rattle.ffv1_hold.specs.Inner.Reading.{ReadsText};
 ghost use Rattle.ffv1_holding.specs.Contents.{Contents, IsEntryOf, IsHolding, AreDigests, no_slices, with_entry};
 ghost use Rattle.ffv1_hold.specs.declared.version.Version.{Version};
-ghost use Rattle.ffv1_hold.specs.HoldingText.{HasVersion, entries_text, file_entries, file_text, IsStated, FitsInFile};
-ghost use Rattle.ffv1_hold.specs.FileFaults.{ReadsFile, IsTaken, IsPartOfEntries, EntriesShow, Returns};
+ghost use Rattle.ffv1_hold.specs.HoldingText.{HasFileVersion, entries_text, file_entries, file_text, IsStated, FitsInFile};
+ghost use Rattle.ffv1_hold.specs.FileFaults.{ReadsFile, MayRead, IsPartOfEntries, EntriesShow, Returns};
 ghost use Rattle.ffv1_holding.specs.declared.recordings.Recordings.TheVariants.{Profile};
 ghost use Rattle.ffv1_hold.specs.Inner.FileFaults.{EntriesAreWhole};
 
@@ -56,7 +56,7 @@ pub fn read_holding<R: Source>(
     ensures read { ReadsFile recordings result (R.log source.old) (R.log source.new) }
 
     // For an input that is such a text of a holding the result is that holding, `Read` or `Memory`.
-    ensures only { (v : Version) (h : Contents) → IsHolding h → IsTaken recordings h.reel.rules.is_profile → FitsInFile v h
+    ensures only { (v : Version) (h : Contents) → IsHolding h → MayRead recordings h.reel.rules.is_profile → FitsInFile v h
         → (R.log source.old).remaining ≡ Some (file_text v h) → Returns h result }
 {
     let mut reader = HoldReader::new();
@@ -87,7 +87,7 @@ fn read_entries<R: Source>(
     reader: &mut HoldReader,
     holding: &mut Holding<Recording>,
 ) -> Result<(), HoldFileFault>
-    requires version { HasVersion reader.old.version holding.old.reel.rules.is_profile }
+    requires version { HasFileVersion reader.old.version holding.old.reel.rules.is_profile }
     requires place { reader.old.place ≤ file_limit }
     requires first { reader.old.held ≡ None }
     requires empty { holding.old ≡ no_slices holding.old.reel }

@@ -17,7 +17,7 @@ use Rattle.ffv1_samples.proofs.OnePicture.{one_slice_picture}
 use Rattle.ffv1_samples.proofs.Refusals.{refused_has_no_picture}
 use Rattle.ffv1_player.specs.Patches.{patched_plane}
 use Rattle.ffv1_player.specs.Frames.{frame_in, patch_in, frame_planes, slice_end_of, IsFrameOfSlices}
-use Rattle.ffv1_player.specs.Shown.{MayBeByTile, IsShownSlice, IsShownTile, IsPictureOfSlice, IsPictureOfTile, ArePicturesOf, present, ShowsTiles, ShowsHolding}
+use Rattle.ffv1_player.specs.Shown.{MayBeByTile, IsShownSlice, IsShownTile, IsShownPicture, IsTilePicture, AreShownPictures, present, ShowsEachTile, ShowsHolding}
 use Rattle.ffv1_player.specs.declared.samples.Samples.{Samples}
 use Rattle.ffv1_player.specs.declared.shown.Shown.{Shown}
 use Rattle.ffv1_player.specs.declared.shown.ShownTile.{ShownTile}
@@ -37,7 +37,7 @@ both_none r a b one other = subst (λ o. IsSameOption r o b) (sym one) (subst (I
 
 module _ (r : RecordingValue) (version : IsInVersion3 r) (tile : ℕ) where
   shown_slice : (key : Bool) (slice : List ℕ) (outcome : ShownTile) (picture : Option SlicePictureValue) → IsShownSlice r key tile slice outcome picture
-      → IsPictureOfTile r key tile (settled slice) picture
+      → IsTilePicture r key tile (settled slice) picture
   shown_slice true slice (Decoded end) (Some picture) shown = shown.0
   shown_slice true slice (Fault cause) None shown =
       λ picture is. refused_has_no_picture r (content_of slice) (tile == 0) None cause picture version (λ header start is. tt) shown is
@@ -45,20 +45,20 @@ module _ (r : RecordingValue) (version : IsInVersion3 r) (tile : ℕ) where
   shown_slice key slice outcome picture shown = absurd shown
 
   shown_picture : (key : Bool) (state : StateOfTile) (outcome : ShownTile) (picture : Option SlicePictureValue) → IsShownTile r key tile state outcome picture
-      → IsPictureOfTile r key tile state picture
+      → IsTilePicture r key tile state picture
   shown_picture key missing Missing None shown = refl
   shown_picture key (settled slice) outcome picture shown = shown_slice key slice outcome picture shown
   shown_picture key (disputed n) (Disputed slices) None shown = refl
   shown_picture key state outcome picture shown = absurd shown
 
-  same_of_slice : (slice : List ℕ) (a b : Option SlicePictureValue) → IsPictureOfSlice r tile slice a → IsPictureOfSlice r tile slice b → IsSameOption r a b
+  same_of_slice : (slice : List ℕ) (a b : Option SlicePictureValue) → IsShownPicture r tile slice a → IsShownPicture r tile slice b → IsSameOption r a b
   same_of_slice slice (Some a) (Some b) one other =
       one_slice_picture r (content_of slice) (tile == 0) None a b version (λ header start is. tt) one other
   same_of_slice slice (Some a) None one none = absurd (none a one)
   same_of_slice slice None (Some b) none other = absurd (none b other)
   same_of_slice slice None None none other = tt
 
-  one_picture : (key : Bool) (state : StateOfTile) (a b : Option SlicePictureValue) → IsPictureOfTile r key tile state a → IsPictureOfTile r key tile state b
+  one_picture : (key : Bool) (state : StateOfTile) (a b : Option SlicePictureValue) → IsTilePicture r key tile state a → IsTilePicture r key tile state b
       → IsSameOption r a b
   one_picture key missing a b one other = both_none r a b one other
   one_picture true (settled slice) a b one other = same_of_slice slice a b one other
@@ -117,8 +117,8 @@ module _ (r : RecordingValue) where
 
 -- ---- a holding
 
-module _ (h : Contents) (r : RecordingValue) (key : Bool) (pictures : List (Option SlicePictureValue)) (are : ArePicturesOf h r key pictures) where
-  of_tiles : (outcomes : List ShownTile) (frame : Samples) → ShowsTiles h r key (reel_tiles h.reel) outcomes frame → IsFrameOfSlices r key (present pictures) frame
+module _ (h : Contents) (r : RecordingValue) (key : Bool) (pictures : List (Option SlicePictureValue)) (are : AreShownPictures h r key pictures) where
+  of_tiles : (outcomes : List ShownTile) (frame : Samples) → ShowsEachTile h r key (reel_tiles h.reel) outcomes frame → IsFrameOfSlices r key (present pictures) frame
   of_tiles outcomes frame shows =
       let version = record_in_version_3 h.reel.config Parities h.reel.setup.width h.reel.setup.height r are.says in
       frame_same r key shows.pictures pictures (shows.count ∙ sym are.count)
@@ -135,9 +135,9 @@ module _ (h : Contents) (r : RecordingValue) (key : Bool) (pictures : List (Opti
       let same : shows.recording ≡ r =
       record_is_one h.reel.config Parities h.reel.setup.width h.reel.setup.height shows.recording r shows.says are.says in
       let may_be = subst (λ z. MayBeByTile z (tile_state h 0) shows.key) same shows.may_be in
-      let tiles = subst (λ z. ShowsTiles h z shows.key (reel_tiles h.reel) shown.tiles.items shown.samples) same shows.shows in
+      let tiles = subst (λ z. ShowsEachTile h z shows.key (reel_tiles h.reel) shown.tiles.items shown.samples) same shows.shows in
       of_tiles shown.tiles.items shown.samples
-      (subst (λ k. ShowsTiles h r k (reel_tiles h.reel) shown.tiles.items shown.samples) (one_key r (tile_state h 0) shows.key key may_be are.may_be) tiles)
+      (subst (λ k. ShowsEachTile h r k (reel_tiles h.reel) shown.tiles.items shown.samples) (one_key r (tile_state h 0) shows.key key may_be are.may_be) tiles)
 
   pub result_is_whole : (result : Result Shown AllocError) → IfOk result (ShowsHolding h) → IfOk result (λ shown. IsFrameOfSlices r key (present pictures) shown.samples)
   result_is_whole (Ok shown) shows = whole_frame shown shows

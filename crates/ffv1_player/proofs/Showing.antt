@@ -27,16 +27,16 @@ use Rattle.ffv1_holding.specs.declared.standing.TileState.TheVariants as states
 use Rattle.ffv1_samples.specs.Slices.{SlicePictureValue}
 use Rattle.ffv1_samples.proofs.OnePicture.{one_header, no_header}
 use Rattle.ffv1_player.specs.Frames.{planes_of_samples, IsFrameOfSlices}
-use Rattle.ffv1_player.specs.Shown.{IsRecordOf, MayBeByTile, IsShownTile, present, ShowsTiles}
+use Rattle.ffv1_player.specs.Shown.{SaysRecording, MayBeByTile, IsShownTile, present, ShowsEachTile}
 use Rattle.ffv1_player.specs.Inner.Drawing.{AreFramePlanes}
-use Rattle.ffv1_player.specs.Inner.Showing.{IsRecordingOfReel, HeadSaysNoKeyframe, AddsAny, ShowsSlice, ShowsTile}
+use Rattle.ffv1_player.specs.Inner.Showing.{IsRecordingOfReel, HeadSaysNoKeyframe, AddsAny, ShowsSlice, ShowsOneTile}
 use Rattle.ffv1_player.specs.declared.samples.Samples.{Samples}
 use Rattle.ffv1_player.specs.declared.shown.ShownTile.{ShownTile}
 use Rattle.ffv1_player.specs.declared.shown.ShownTile.TheVariants.{Missing, NoKeyframe}
 use Rattle.ffv1_player.proofs.Sizes.{are_frame_planes}
 
 -- what the record of a reel says has the reel's setup
-pub reel_recording : (reel : Reel) → IsReel reel → (r : RecordingValue) → IsRecordOf reel r → IsRecordingOfReel reel r
+pub reel_recording : (reel : Reel) → IsReel reel → (r : RecordingValue) → SaysRecording reel r → IsRecordingOfReel reel r
 reel_recording reel is r says = record {
   says = says;
   setup =
@@ -45,7 +45,7 @@ reel_recording reel is r says = record {
 }
 
 pub record_at : (reel : Reel) (config : List ℕ) (width height : ℕ) (r : RecordingValue) → config ≡ reel.config → width ≡ reel.setup.width
-    → height ≡ reel.setup.height → IsScopedRecord config Parities width height r → IsRecordOf reel r
+    → height ≡ reel.setup.height → IsScopedRecord config Parities width height r → SaysRecording reel r
 record_at reel config width height r same wide high is =
     subst (λ c. IsScopedRecord c Parities reel.setup.width reel.setup.height r) same
     (subst (λ w. IsScopedRecord config Parities w reel.setup.height r) wide (subst (λ z. IsScopedRecord config Parities width z r) high is))
@@ -95,7 +95,7 @@ may_be_other r (states.Disputed n) state same other = subst (λ z. MayBeByTile r
 
 module _ (h : Contents) (r : RecordingValue) (tile : ℕ) (slice : List ℕ) (old : Samples) (is : settled slice ≡ tile_state h tile) where
   pub tile_of_slice : (new : Samples) (result : Result ShownTile AllocError) → old.key ≡ true
-      → IfOk result (λ outcome. ShowsSlice r true tile slice outcome old new) → IfOk result (λ outcome. ShowsTile h r tile outcome old new)
+      → IfOk result (λ outcome. ShowsSlice r true tile slice outcome old new) → IfOk result (λ outcome. ShowsOneTile h r tile outcome old new)
   tile_of_slice new (Ok outcome) key shows = record {
     picture = shows.picture;
     shown =
@@ -105,7 +105,7 @@ module _ (h : Contents) (r : RecordingValue) (tile : ℕ) (slice : List ℕ) (ol
   }
   tile_of_slice new (Err error) key shows = tt
 
-  pub tile_of_no_keyframe : old.key ≡ false → ShowsTile h r tile NoKeyframe old old
+  pub tile_of_no_keyframe : old.key ≡ false → ShowsOneTile h r tile NoKeyframe old old
   tile_of_no_keyframe key = record {
     picture = None;
     shown =
@@ -125,10 +125,10 @@ present_push : (pictures : List (Option SlicePictureValue)) (picture : Option Sl
 present_push pictures picture = filter_map-append (λ picture. picture) pictures (picture ∷ [])
 
 module _ (h : Contents) (r : RecordingValue) (key : Bool) where
-  pub shown_planes : (n : ℕ) (outcomes : List ShownTile) (frame : Samples) → ShowsTiles h r key n outcomes frame → AreFramePlanes r (planes_of_samples frame)
+  pub shown_planes : (n : ℕ) (outcomes : List ShownTile) (frame : Samples) → ShowsEachTile h r key n outcomes frame → AreFramePlanes r (planes_of_samples frame)
   shown_planes n outcomes frame shown = are_frame_planes r (present shown.pictures) (planes_of_samples frame) shown.is_frame.planes
 
-  pub none_shown : (outcomes : List ShownTile) (frame : Samples) → outcomes ≡ [] → IsFrameOfSlices r key [] frame → ShowsTiles h r key 0 outcomes frame
+  pub none_shown : (outcomes : List ShownTile) (frame : Samples) → outcomes ≡ [] → IsFrameOfSlices r key [] frame → ShowsEachTile h r key 0 outcomes frame
   none_shown outcomes frame is blank =
       record { pictures = []; count = refl; stated = ap length is; each = λ tile less. absurd (omega (arith, less)); is_frame = blank }
 
@@ -140,8 +140,8 @@ module _ (h : Contents) (r : RecordingValue) (key : Bool) where
   with_any pictures (Some picture) old new is adds =
       subst (λ shown. IsFrameOfSlices r key shown new) (sym (present_push pictures (Some picture))) (adds key (present pictures) is)
 
-  shown_more : (n : ℕ) (outcomes : List ShownTile) (outcome : ShownTile) (old new : Samples) → ShowsTiles h r key n outcomes old
-      → ShowsTile h r n outcome old new → ShowsTiles h r key (n + 1) (outcomes ++ outcome ∷ []) new
+  shown_more : (n : ℕ) (outcomes : List ShownTile) (outcome : ShownTile) (old new : Samples) → ShowsEachTile h r key n outcomes old
+      → ShowsOneTile h r n outcome old new → ShowsEachTile h r key (n + 1) (outcomes ++ outcome ∷ []) new
   shown_more n outcomes outcome old new before more = record {
     pictures = before.pictures ++ more.picture ∷ [];
     count = omega (arith, length-append before.pictures (more.picture ∷ []), before.count);
@@ -165,6 +165,6 @@ module _ (h : Contents) (r : RecordingValue) (key : Bool) where
   }
 
   pub shown_push : (n : ℕ) (outcomes all : List ShownTile) (outcome : ShownTile) (old new : Samples) → all ≡ outcomes ++ outcome ∷ []
-      → ShowsTiles h r key n outcomes old → ShowsTile h r n outcome old new → ShowsTiles h r key (n + 1) all new
+      → ShowsEachTile h r key n outcomes old → ShowsOneTile h r n outcome old new → ShowsEachTile h r key (n + 1) all new
   shown_push n outcomes all outcome old new is before more =
-      subst (λ os. ShowsTiles h r key (n + 1) os new) (sym is) (shown_more n outcomes outcome old new before more)
+      subst (λ os. ShowsEachTile h r key (n + 1) os new) (sym is) (shown_more n outcomes outcome old new before more)

@@ -19,8 +19,8 @@ use Rattle.ffv1_player.specs.declared.shown.ShownTile.{ShownTile}
 use Rattle.ffv1_player.specs.declared.shown.ShownTile.TheVariants.{Decoded, Missing, Disputed, NoKeyframe, Fault}
 
 -- what the record of a holding says, which is one with parities
-abbrev pub IsRecordOf : Reel → RecordingValue → Type 0
-IsRecordOf reel r = IsScopedRecord reel.config Parities reel.setup.width reel.setup.height r
+abbrev pub SaysRecording : Reel → RecordingValue → Type 0
+SaysRecording reel r = IsScopedRecord reel.config Parities reel.setup.width reel.setup.height r
 
 -- ---- the keyframe bit
 
@@ -58,22 +58,22 @@ IsShownTile r key tile state outcome picture = ⊥
 -- ---- pictures
 
 -- The picture of a slice of a keyframe, if it has one.
-abbrev pub IsPictureOfSlice : RecordingValue → ℕ → List ℕ → Option SlicePictureValue → Type 0
-IsPictureOfSlice r tile slice (Some picture) = IsSlicePicture r (content_of slice) (tile == 0) None picture
-IsPictureOfSlice r tile slice None = (picture : SlicePictureValue) → ¬ IsSlicePicture r (content_of slice) (tile == 0) None picture
+abbrev pub IsShownPicture : RecordingValue → ℕ → List ℕ → Option SlicePictureValue → Type 0
+IsShownPicture r tile slice (Some picture) = IsSlicePicture r (content_of slice) (tile == 0) None picture
+IsShownPicture r tile slice None = (picture : SlicePictureValue) → ¬ IsSlicePicture r (content_of slice) (tile == 0) None picture
 
 -- The picture of a tile that stands so: that of its settled slice, in a frame that may be a keyframe.
-abbrev pub IsPictureOfTile : RecordingValue → Bool → ℕ → StateOfTile → Option SlicePictureValue → Type 0
-IsPictureOfTile r key tile missing picture = picture ≡ None
-IsPictureOfTile r key tile (settled slice) picture = MatchBool key (IsPictureOfSlice r tile slice picture) (picture ≡ None)
-IsPictureOfTile r key tile (disputed n) picture = picture ≡ None
+abbrev pub IsTilePicture : RecordingValue → Bool → ℕ → StateOfTile → Option SlicePictureValue → Type 0
+IsTilePicture r key tile missing picture = picture ≡ None
+IsTilePicture r key tile (settled slice) picture = MatchBool key (IsShownPicture r tile slice picture) (picture ≡ None)
+IsTilePicture r key tile (disputed n) picture = picture ≡ None
 
 -- These are the pictures of the tiles of a holding, by what its record says, and by whether the frame may be a keyframe.
-pub record ArePicturesOf (h : Contents) (r : RecordingValue) (key : Bool) (pictures : List (Option SlicePictureValue)) : Type 0 where
-  pub says : IsRecordOf h.reel r
+pub record AreShownPictures (h : Contents) (r : RecordingValue) (key : Bool) (pictures : List (Option SlicePictureValue)) : Type 0 where
+  pub says : SaysRecording h.reel r
   pub may_be : MayBeKeyframe r h key
   pub count : length pictures ≡ reel_tiles h.reel
-  pub each : (tile : ℕ) → tile < reel_tiles h.reel → IsPictureOfTile r key tile (tile_state h tile) (slice_index_or pictures tile None)
+  pub each : (tile : ℕ) → tile < reel_tiles h.reel → IsTilePicture r key tile (tile_state h tile) (slice_index_or pictures tile None)
 
 -- the pictures that there are, in the order of their tiles
 abbrev pub present : List (Option SlicePictureValue) → List SlicePictureValue
@@ -82,7 +82,7 @@ present pictures = filter_map (λ picture. picture) pictures
 -- ---- what is shown
 
 -- The outcomes are those of the tiles below a number, and the frame has their pictures.
-pub record ShowsTiles (h : Contents) (r : RecordingValue) (key : Bool) (tiles : ℕ) (outcomes : List ShownTile) (frame : Samples) : Type 0 where
+pub record ShowsEachTile (h : Contents) (r : RecordingValue) (key : Bool) (tiles : ℕ) (outcomes : List ShownTile) (frame : Samples) : Type 0 where
   pub pictures : List (Option SlicePictureValue)
   pub count : length pictures ≡ tiles
   pub stated : length outcomes ≡ tiles
@@ -92,7 +92,7 @@ pub record ShowsTiles (h : Contents) (r : RecordingValue) (key : Bool) (tiles : 
 -- A holding is shown so, with the outcome of each of its tiles.
 pub record ShowsHolding (h : Contents) (shown : Shown) : Type 0 where
   pub recording : RecordingValue
-  pub says : IsRecordOf h.reel recording
+  pub says : SaysRecording h.reel recording
   pub key : Bool
   pub may_be : MayBeKeyframe recording h key
-  pub shows : ShowsTiles h recording key (reel_tiles h.reel) shown.tiles.items shown.samples
+  pub shows : ShowsEachTile h recording key (reel_tiles h.reel) shown.tiles.items shown.samples

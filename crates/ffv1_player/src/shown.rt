@@ -5,9 +5,9 @@ ghost use Rattle.ffv1_range.specs.Setup.{RecordingValue};
 ghost use Rattle.ffv1_holding.specs.Reels.{reel_tiles};
 ghost use Rattle.ffv1_samples.specs.Slices.{SlicePictureValue, slice_picture_value};
 ghost use Rattle.ffv1_player.specs.Frames.{planes_of_samples, slice_end_of, IsFrameOfSlices};
-ghost use Rattle.ffv1_player.specs.Shown.{ShowsHolding, ArePicturesOf, MayBeKeyframe, present};
+ghost use Rattle.ffv1_player.specs.Shown.{ShowsHolding, AreShownPictures, MayBeKeyframe, present};
 ghost use Rattle.ffv1_player.specs.Inner.Drawing.{AreFramePlanes, AreSlicePlanes, IsInGrid};
-ghost use Rattle.ffv1_player.specs.Inner.Showing.{HeadSaysNoKeyframe, IsRecordingOfReel, Adds, ShowsSlice, ShowsTile};
+ghost use Rattle.ffv1_player.specs.Inner.Showing.{HeadSaysNoKeyframe, IsRecordingOfReel, Adds, ShowsSlice, ShowsOneTile};
 
 use crate::samples::{Samples, SliceEnd, blank_planes, draw_picture};
 use ffv1_holding::{Holding, TileState};
@@ -50,7 +50,7 @@ pub fn show_holding<S: Recorded>(alloc: Global, holding: &Holding<S>) -> Result<
     ensures shown { IfOk result (ShowsHolding holding.now) }
 
     // The samples are those of the pictures that the settled slices have, and of no others.
-    ensures whole { (r : RecordingValue) (key : Bool) (pictures : List (Option SlicePictureValue)) → ArePicturesOf holding.now r key pictures
+    ensures whole { (r : RecordingValue) (key : Bool) (pictures : List (Option SlicePictureValue)) → AreShownPictures holding.now r key pictures
         → IfOk result (λ shown. IsFrameOfSlices r key (present pictures) shown.samples) }
 {
     let recording = recording_of(alloc, holding)?;
@@ -146,7 +146,7 @@ fn show_tile<S: Recorded>(
 ) -> Result<ShownTile, AllocError>
     requires tile { tile < reel_tiles holding.now.reel }
     requires planes { AreFramePlanes recording.now (planes_of_samples samples.old) }
-    ensures { IfOk result (λ outcome. ShowsTile holding.now recording.now tile outcome samples.old samples.new) }
+    ensures { IfOk result (λ outcome. ShowsOneTile holding.now recording.now tile outcome samples.old samples.new) }
 {
     // Each slice that is held has its footer.
     let _reel = holding.reel();

@@ -15,7 +15,7 @@ use Rattle.ffv1_hold.specs.declared.file_fault.HoldFileFault.{HoldFileFault}
 use Rattle.ffv1_hold.specs.declared.file_fault.HoldFileFault.TheVariants as faults
 use Rattle.ffv1_hold.specs.declared.version.Version.{Version}
 use Rattle.ffv1_hold.specs.declared.version.Version.TheVariants.{Second}
-use Rattle.ffv1_hold.specs.HoldingText.{FileEntry, HasVersion, origins_limit, head_text, entry_text, begun_text, file_entries, IsStated}
+use Rattle.ffv1_hold.specs.HoldingText.{FileEntry, HasFileVersion, origins_limit, head_text, entry_text, begun_text, file_entries, IsStated}
 use Rattle.ffv1_hold.specs.Inner.Reading.{Takes}
 use Rattle.ffv1_hold.specs.Reading.{Refuses}
 use Rattle.ffv1_hold.specs.FileEntries.{last_of, Follows, AreOrigins, IsFileEntryOf}
@@ -103,8 +103,8 @@ pub record AreVersions (s : Start) (left right : Version) : Type 0 where
 -- Both heads of the reel were read, and nothing was written.
 pub record IsOpened (s : Start) (r : Reel) (left right sink : Option (List ℕ)) (left_place right_place : ℕ) : Type 0 where
   pub reel : IsFileReel s.recordings s.reel
-  pub left_has : HasVersion s.left_version s.reel.rules.is_profile
-  pub right_has : HasVersion s.right_version s.reel.rules.is_profile
+  pub left_has : HasFileVersion s.left_version s.reel.rules.is_profile
+  pub right_has : HasFileVersion s.right_version s.reel.rules.is_profile
   pub same : r ≡ s.reel
   pub left_head : Takes s.left left 0 left_place (head_text s.left_version s.reel)
   pub right_head : Takes s.right right 0 right_place (head_text s.right_version s.reel)
@@ -140,7 +140,7 @@ HeadRefuses recordings old new f = Refuses (IsPartOfHead recordings) (HeadIsWhol
 -- A head was refused, of the left input or after the left one of the right, or both are of two reels.
 abbrev pub HeadsRefuse : Inputs → HoldFileFault → Type 0
 HeadsRefuse i f = (HeadRefuses i.recordings i.left_old i.left_new f × (i.right_new ≡ i.right_old))
-    ⊎ (((v : Version) × (r : Reel) × IsFileReel i.recordings r × HasVersion v r.rules.is_profile × Consumes i.left_old i.left_new (head_text v r))
+    ⊎ (((v : Version) × (r : Reel) × IsFileReel i.recordings r × HasFileVersion v r.rules.is_profile × Consumes i.left_old i.left_new (head_text v r))
     × HeadRefuses i.recordings i.right_old i.right_new f)
     ⊎ ((f ≡ faults.OtherReel) × ReadsOtherHeads i)
 

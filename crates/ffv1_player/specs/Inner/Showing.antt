@@ -6,13 +6,13 @@ use Rattle.ffv1_holding.specs.Contents.{Contents}
 use Rattle.ffv1_holding.specs.TileState.{tile_state}
 use Rattle.ffv1_samples.specs.Slices.{SlicePictureValue}
 use Rattle.ffv1_player.specs.Frames.{IsFrameOfSlices}
-use Rattle.ffv1_player.specs.Shown.{IsRecordOf, SaysNoKeyframe, IsShownSlice, IsShownTile}
+use Rattle.ffv1_player.specs.Shown.{SaysRecording, SaysNoKeyframe, IsShownSlice, IsShownTile}
 use Rattle.ffv1_player.specs.declared.samples.Samples.{Samples}
 use Rattle.ffv1_player.specs.declared.shown.ShownTile.{ShownTile}
 
 -- The record of a reel says this, and the reel has its setup.
 pub record IsRecordingOfReel (reel : Reel) (r : RecordingValue) : Type 0 where
-  pub says : IsRecordOf reel r
+  pub says : SaysRecording reel r
   pub setup : r.setup ≡ reel.setup
 
 -- whether a slice says that the frame is no keyframe
@@ -35,7 +35,7 @@ pub record ShowsSlice (r : RecordingValue) (key : Bool) (tile : ℕ) (slice : Li
   pub drawn : AddsAny r picture old new
 
 -- So does a tile.
-pub record ShowsTile (h : Contents) (r : RecordingValue) (tile : ℕ) (outcome : ShownTile) (old new : Samples) : Type 0 where
+pub record ShowsOneTile (h : Contents) (r : RecordingValue) (tile : ℕ) (outcome : ShownTile) (old new : Samples) : Type 0 where
   pub picture : Option SlicePictureValue
   pub shown : IsShownTile r old.key tile (tile_state h tile) outcome picture
   pub drawn : AddsAny r picture old new

@@ -1,7 +1,7 @@
 use Rattle.std.proofs.Common.{◌≡◌, ◌∙◌, ap, subst, arith}
 use Rattle.ffv1_range.specs.Tiles.{grid_of, tile_count}
 use Rattle.ffv1_holding.specs.Reels.{reel_tiles}
-use Rattle.ffv1_player.specs.Shown.{ShowsTiles}
+use Rattle.ffv1_player.specs.Shown.{ShowsEachTile}
 use Rattle.ffv1_player.proofs.Showing.{shown_planes, none_shown, shown_push}
 use Rattle.ffv1_player.proofs.shown.show_tiles.Goals as goal
 
@@ -32,5 +32,5 @@ returns g c =
       says = c.requires.says;
       key = key;
       may_be = c.may_be_keyframe-key.ensures;
-      shows = subst (λ n. ShowsTiles h r key n c.loop-tile.tiles.items c.loop-tile.samples) all c.loop-tile.invariant;
+      shows = subst (λ n. ShowsEachTile h r key n c.loop-tile.tiles.items c.loop-tile.samples) all c.loop-tile.invariant;
     }
