@@ -87,8 +87,10 @@ def union_difference(held, copies):
 
 def frame_difference(held, recording, frame, slices):
     """Whether halves of a frame give it back, and pictures of them and of it are right: those of a keyframe are its samples, and of a frame between
-    keyframes nothing is decoded."""
+    keyframes nothing is decoded. In the profile a frame between keyframes has no slices that are held."""
     whole = held.take(*halves(frame))[0]
+    if any_holdings.is_in_profile(recording) and not slices[0].header.key:
+        return None if held.restore(whole) == (None, b"", 1, "missing tile 0") else "restore: a frame between keyframes in the profile"
     if held.restore(whole) != (frame, f"restored {len(frame)} bytes\n".encode(), 0, ""):
         return "restore: another frame of two halves"
     is_key, tiles = slices[0].header.key, readings.tiles_of(recording)
