@@ -4,7 +4,6 @@ use Rattle.std.specs.List.{AllZip}
 use Rattle.ffv1_devices.specs.Logs.{ReadLog, WriteLog}
 use Rattle.ffv1_holding.specs.declared.recordings.Recordings.{Recordings}
 use Rattle.ffv1_holding.specs.declared.recordings.Recordings.TheVariants.{Profile, Any}
-use Rattle.ffv1_hold.specs.FileFaults.{ReadsFile}
 use Rattle.ffv1_hold.specs.declared.file_fault.HoldFileFault.TheVariants as files
 use Rattle.ffv1_commands.specs.Devices.{GivesUpWithin, IsUnread}
 use Rattle.ffv1_commands.specs.Holdings.{HoldingStops, IsUnheld}
