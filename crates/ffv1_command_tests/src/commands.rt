@@ -140,7 +140,13 @@ fn is_numbered(alloc: Global, fault: &CliFault, number: u8) -> bool {
 fn is_reported(alloc: Global, mut file: &[u8], number: u8) -> bool {
     let mut payload: Vec<u8> = Vec::new(alloc);
     let mut printed: Vec<u8> = Vec::new(alloc);
-    match run_restore(alloc, Recordings::Profile, &mut file, &mut payload, &mut printed) {
+    match run_restore(
+        alloc,
+        Recordings::Profile,
+        &mut file,
+        &mut payload,
+        &mut printed,
+    ) {
         Ok(()) => {
             number == 0
                 && payload.as_slice() == FRAME.as_slice()

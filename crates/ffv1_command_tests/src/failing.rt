@@ -2,8 +2,8 @@
 use crate::commands::taken;
 use crate::suite::merged;
 use ffv1_commands::{
-    CliFault, CommandPath, run_any_picture, run_chain, run_decode, run_join, run_merge, run_picture,
-    run_report, run_restore, run_samples, run_setup, run_show, run_splice, run_take,
+    CliFault, CommandPath, run_any_picture, run_chain, run_decode, run_join, run_merge,
+    run_picture, run_report, run_restore, run_samples, run_setup, run_show, run_splice, run_take,
 };
 use ffv1_hold::HoldFileFault;
 use ffv1_holding::Recordings;
@@ -556,7 +556,13 @@ fn sixty_five_interruptions_in_a_row_are_reported(rt: HostRuntime) {
 fn endless_shows(alloc: Global, file: &[u8], fault: HoldFileFault) -> bool {
     let mut input = Input::endless(file);
     let (mut out, mut printed) = (Output::new(alloc), Output::new(alloc));
-    let returned = run_restore(alloc, Recordings::Profile, &mut input, &mut out, &mut printed);
+    let returned = run_restore(
+        alloc,
+        Recordings::Profile,
+        &mut input,
+        &mut out,
+        &mut printed,
+    );
     matches!(returned, Err(CliFault::HoldFile(reported)) if reported == fault)
 }
 

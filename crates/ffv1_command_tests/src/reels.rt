@@ -1,7 +1,8 @@
 //! Holdings of recordings that are not of the profile.
 use crate::holding::is_payload;
 use ffv1_hold::{
-    FromRead, FromWrite, HoldFileFault, join_streams, join_streams_of, read_hold, read_holding, write_hold,
+    FromRead, FromWrite, HoldFileFault, join_streams, join_streams_of, read_hold, read_holding,
+    write_hold,
 };
 use ffv1_holding::{Holding, Join, Recordings, Reel};
 use ffv1_range::{Recording, Scope, SetupFault, read_scoped, read_tile};

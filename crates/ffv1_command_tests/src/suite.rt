@@ -426,13 +426,7 @@ fn a_size_too_great_hides_what_lies_before(rt: HostRuntime) {
 /// The file that `merge` writes of two holding files, if it writes one.
 pub(crate) fn merged(alloc: Global, mut left: &[u8], mut right: &[u8]) -> Option<Vec<u8>> {
     let mut file = Vec::new(alloc);
-    match run_merge(
-        alloc,
-        Recordings::Profile,
-        &mut left,
-        &mut right,
-        &mut file,
-    ) {
+    match run_merge(alloc, Recordings::Profile, &mut left, &mut right, &mut file) {
         Ok(()) => Some(file),
         Err(_) => None,
     }

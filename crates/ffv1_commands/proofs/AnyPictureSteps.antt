@@ -17,7 +17,6 @@ use Rattle.ffv1_commands.proofs.HeldFiles.{held_file}
 use Rattle.ffv1_commands.proofs.OfBytes.{OfBytes, unread_bytes, unwritten_bytes}
 use Rattle.ffv1_commands.proofs.WrittenBoth.{both_says}
 
-
 module _ (out out' output output' : WriteLog) (h : Contents) (shown : Shown) (lines : List ℕ) (is : ShowsHolding h shown)
     (text : lines ≡ shown_text shown.tiles.items) where
   -- the samples and the lines were written

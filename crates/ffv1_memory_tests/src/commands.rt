@@ -4,8 +4,8 @@ use crate::attempt::{Attempt, Tried};
 use crate::buffer::Buffer;
 use crate::stock::{SIZE, Stock, TORN_LIST, damaged_copies, first_copy, second_copy};
 use ffv1_commands::{
-    CliFault, run_any_picture, run_chain, run_decode, run_join, run_mend, run_merge, run_picture, run_report,
-    run_restore, run_samples, run_scan, run_setup, run_show, run_splice, run_take,
+    CliFault, run_any_picture, run_chain, run_decode, run_join, run_mend, run_merge, run_picture,
+    run_report, run_restore, run_samples, run_scan, run_setup, run_show, run_splice, run_take,
 };
 use ffv1_holding::Recordings;
 use ffv1_test_frames::{RECORDED, RECORDED_RECORD};

@@ -4,8 +4,8 @@ ghost use Rattle.ffv1_words.specs.WordPaths.{IsPathOf};
 
 use crate::fakes::{FakeOutput, Fakes, Order};
 use ffv1_commands::{CliFault, run_take};
-use ffv1_program::{out_word, run};
 use ffv1_holding::Recordings;
+use ffv1_program::{out_word, run};
 use ffv1_test_frames::{FRAME, TWO_TILES};
 use ffv1_words::{Words, read_words, recordings_of_words};
 use std::alloc::Global;
@@ -156,7 +156,9 @@ fn reported<'a>(
     others: &'a [u8],
 ) -> Result<String, Fail> {
     let recordings = recordings_of_words(given);
-    let words = read_words(alloc, given.as_slice()).ok().ok_or("words of a command")?;
+    let words = read_words(alloc, given.as_slice())
+        .ok()
+        .ok_or("words of a command")?;
     let files = Fakes {
         order,
         first,
