@@ -54,12 +54,17 @@ fn all_printed(printed: Result<(), WriteFailed>) -> Result<bool, CliFault>
     }
 }
 
-/// Runs a command on the files that its words name, and takes holdings of these recordings; `made` is the one that it makes. Returns `false` where `picture` wrote its file and
-/// some tile has no samples, or, of any recording, a slice that does not end as an encoder ends it, or `splice` its own and not all of the frame is given back, or `mend` its own and a stretch is missing,
-/// disputed, open or alone, or `samples` its own and a slice does not end as an encoder ends it, or `scan` found a range that is not whole
-/// with all its links passing; else `true`.
+/// Runs a command on the files that its words name; `made` is the one that it makes. A command of holdings takes those of `recordings`.
 ///
-/// It stops where the command does. A command that makes no file leaves `made` untouched.
+/// Returns `false` where the command did its work, and not all is there or as it was recorded:
+///
+/// - `picture`: some tile has no samples; or, of any recording, a slice does not end as an encoder ends it;
+/// - `splice`: not all of the frame is given back;
+/// - `mend`: a stretch is missing, disputed, open or alone;
+/// - `samples`: a slice does not end as an encoder ends it;
+/// - `scan`: a range is not whole with all its links passing.
+///
+/// Else it returns `true`. It stops where the command does. A command that makes no file leaves `made` untouched.
 pub fn run<'a, F: FileSystem<'a>, O: MakeFile, W: Write>(
     alloc: Global,
     recordings: Recordings,
