@@ -1,6 +1,7 @@
 //! The suite of made frames, through the commands: each comes back byte for byte, and sample by sample.
 use crate::commands::{joined, taken};
 use ffv1_commands::{run_decode, run_merge, run_restore};
+use ffv1_holding::Recordings;
 use ffv1_range::{Setup, TileRect};
 use ffv1_slice::{Chain, ChainEnd, Link};
 use ffv1_vectors::{

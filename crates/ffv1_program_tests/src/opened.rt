@@ -150,15 +150,13 @@ fn line_of(alloc: Global, fault: &CliFault, words: &Words<'_>) -> Result<String,
 /// Runs the command of these words, of which the first is the program's name, and gives what it returns, or the line of its fault.
 fn reported<'a>(
     alloc: Global,
-    given: &'a mut Vec<String>,
+    recordings: Recordings,
+    given: &'a [String],
     order: &'a Order,
     first: &'a [u8],
     others: &'a [u8],
 ) -> Result<String, Fail> {
-    let recordings = recordings_of_words(given);
-    let words = read_words(alloc, given.as_slice())
-        .ok()
-        .ok_or("words of a command")?;
+    let words = read_words(alloc, given).ok().ok_or("words of a command")?;
     let files = Fakes {
         order,
         first,
@@ -191,8 +189,9 @@ fn opened(
     others: &[u8],
 ) -> Result<(u32, String), Fail> {
     let mut given = given_of(alloc, words)?;
+    let recordings = recordings_of_words(&mut given);
     let order = Order::new();
-    let reported = reported(alloc, &mut given, &order, first, others)?;
+    let reported = reported(alloc, recordings, given.as_slice(), &order, first, others)?;
     Ok((order.number(), reported))
 }
 
