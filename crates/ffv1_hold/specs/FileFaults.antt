@@ -1,6 +1,7 @@
--- Which bytes begin a holding file, and which show a fault in it. Judged are, in byte order: the magic, which gives the version, and whether
--- the recording is of the profile; the record's length; the setup, after the record, and then whether the magic is right; each tag; each slice's length; after a slice's bytes whether they are a slice of its
--- tile, and then whether it stands in order; and in version 2 the count of its digests, and each digest, whether it stands in order.
+-- Which bytes begin a holding file, and which show a fault in it. Judged are, in byte order: the magic, which gives the version, and
+-- whether the recording is of the profile; the record's length; the setup, after the record, and then whether the magic is right; each tag;
+-- each slice's length; after a slice's bytes whether they are a slice of its tile, and then whether it stands in order; and in version 2
+-- the count of its digests, and each digest, whether it stands in order.
 use Rattle.std.specs.Prelude.{ℕ, Bool, true, false, ◌≡◌, ◌==◌, ◌+◌, ◌^◌, ◌<◌, ◌≤◌, ◌⊎◌, List, [], ◌∷◌, ◌++◌, length, take, Option, Some, Result, Ok, Err}
 use Rattle.std.specs.List.{flat_map}
 use Rattle.std.specs.Io.KnownBytes.{IsAtEnd}

@@ -1,4 +1,5 @@
--- What can be shown of a holding of any recording (own): the pictures of its settled tiles, each decoded as a slice of a keyframe (RFC 9043, sections 4.4 to 4.9).
+-- What can be shown of a holding of any recording (own): the pictures of its settled tiles, each decoded as a slice of a keyframe
+-- (RFC 9043, sections 4.4 to 4.9).
 use Rattle.std.specs.Prelude.{◌≡◌, ◌==◌, ℕ, ◌<◌, Bool, true, false, List, length, Option, Some, None, MatchBool, slice_index_or}
 use Rattle.std.specs.List.{filter_map}
 use Rattle.ffv1_range.specs.Setup.{RecordingValue, IsScopedRecord}
