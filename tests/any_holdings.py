@@ -6,6 +6,8 @@ from readings import Fault
 
 MAGIC, VERSION = b"FFV1ANY", 1
 PARITY_MODE = 16
+# How many contexts may have initial states, where a record is read here.
+MOST_CONTEXTS = 10000
 
 
 # FORMAT: The configuration record
@@ -18,9 +20,8 @@ def is_in_profile(recording):
 # FORMAT: The configuration record
 def recording_of(record, size, is_any):
     """The recording of a record; Fault where holdings are of no such recording."""
-    if not is_any:
-        return readings.recording_of(record, size, readings.PROFILE)
-    return readings.recording_of(record, size, readings.ANY._replace(modes=(1,)))
+    scope = readings.ANY._replace(modes=(1,)) if is_any else readings.PROFILE
+    return readings.recording_of(record, size, scope, MOST_CONTEXTS)
 
 
 # FORMAT: Slice headers

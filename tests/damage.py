@@ -1,5 +1,10 @@
 """Damage to the bytes of frames, records and holding files: changed, cut off, left out, put in, repeated, exchanged."""
+import any_holdings
 import readings
+
+
+# The eight bytes that begin a holding file: of both versions in the profile, and of any other recording.
+HEADS = [readings.MAGIC + b"\x01", readings.MAGIC + b"\x02", any_holdings.MAGIC + bytes([any_holdings.VERSION])]
 
 
 def place_in(numbers, content, room=1):
@@ -118,12 +123,12 @@ def damaged_origins(numbers, tile, piece, origins):
 
 
 def damaged_holding(numbers, recording, text):
-    """A holding file with other bytes, record, slices or origins."""
+    """A holding file with other bytes, record, slices or origins, or with the head of another kind."""
     kind = numbers.random()
     if kind < 0.4:
         return damaged(numbers, text, recording.record)
-    version = text[7]
-    held = [(*each, sorted(origins)) for each, origins in readings.read_holding(text)[3].items()]
+    head, version = text[:8], 1 if text.startswith(HEADS[0]) else 2
+    held = [(*each, sorted(origins)) for each, origins in any_holdings.read_holding(text, True)[2].items()]
     record = recording.record
     if kind < 0.5:
         record = damaged_record(numbers, recording, record)
@@ -133,9 +138,11 @@ def damaged_holding(numbers, recording, text):
         changed = (tile if numbers.random() < 0.9 else numbers.randrange(65536), damaged_slice(numbers, piece, record), origins)
         held[place : place + numbers.randrange(2)] = [changed]
         held.sort()
-    elif held and kind < 0.9:
+    elif held and kind < 0.85:
         damaged_origins(numbers, *numbers.choice(held))
+    elif kind < 0.9:
+        head = numbers.choice(HEADS)
     elif held:
         held.insert(0, numbers.choice(held))
-    text = readings.file_text(record, recording.size, (readings.entry_text(*each, version) for each in held), version)
+    text = head + readings.file_text(record, recording.size, (readings.entry_text(*each, version) for each in held), version)[8:]
     return text if numbers.random() < 0.8 else damaged(numbers, text, record)

@@ -10,15 +10,18 @@ from list_damage import make_mended, odd_size, stretches_in
 from stored import OFTEN_BELOW, TESTS, other_recordings
 from wanted import WANTED, Wanted
 
+# Those that take the word --any.
+OF_HOLDINGS = ["take", "join", "merge", "report", "restore", "picture"]
 COMMANDS = ["chain", "show", "setup", "take", "join", "merge", "report", "restore", "picture", "decode", "splice", "scan", "mend", "samples"]
 OTHERS = other_recordings()
+HELD = [recording for recording in OTHERS if recording.holdings]
 
 
 class Input:
-    """A command of a recording with the files that its words name, and what is wanted."""
+    """A command of a recording with the files that its words name, whether with --any, and what is wanted."""
 
-    def __init__(self, command, recording, payloads, texts):
-        self.command, self.recording, self.payloads, self.texts = command, recording, payloads, texts
+    def __init__(self, command, recording, payloads, texts, is_any=False):
+        self.command, self.recording, self.payloads, self.texts, self.is_any = command, recording, payloads, texts, is_any
         self.record, self.size = recording.record, recording.size
         self.refused, self.scarce, self.order = False, None, range(len(payloads))
         self.list, self.reel = b"", b""
@@ -45,7 +48,7 @@ class Input:
         }[self.command]
         if self.refused:
             words = words[1:] if self.command not in ("take", "join", "splice", "mend", "samples") else []
-        return [self.command, *words]
+        return [self.command, *["--any"] * self.is_any, *words]
 
     def wanted(self):
         """What is wanted of the run."""
@@ -98,15 +101,19 @@ def make_played(numbers, one):
 def input_of(seed, number, known, others, files):
     """The input with this number."""
     numbers = random.Random(f"{seed} {number}")
+    command = numbers.choice(COMMANDS)
     small = [recording for recording in known if recording.width < OFTEN_BELOW]
     recording = numbers.choice(small if numbers.random() < 0.97 else known)
+    is_any = command in OF_HOLDINGS and numbers.random() < 0.5
+    if command in OF_HOLDINGS and numbers.random() < (0.7 if is_any else 0.1):
+        recording = numbers.choice(HELD)
     payloads, texts = [], []
     for _ in range(numbers.randint(1, 3)):
         payload, text = numbers.choice(list(recording.frames.values())), numbers.choice(recording.holdings)
         whole = numbers.random() < 0.1
         payloads.append(payload if whole else damaged_frame(numbers, recording, payload))
         texts.append(text if whole else damaged_holding(numbers, recording, text))
-    one = Input(numbers.choice(COMMANDS), recording, payloads, texts)
+    one = Input(command, recording, payloads, texts, is_any)
     if one.command == "splice":
         frames = [frame for name, frame in recording.frames.items() if name[:5] == "frame"]
         one.payloads = damaged_copies(numbers, numbers.choice(frames if numbers.random() < 0.7 else others))
@@ -132,11 +139,11 @@ def input_of(seed, number, known, others, files):
     return one
 
 
-def cut_and_zeroed(content):
-    """Every front of some bytes, and the bytes with every eight of them zeroed."""
-    for end in range(len(content)):
+def cut_and_zeroed(content, step=1):
+    """Every front of some bytes, and the bytes with every eight of them zeroed; or of so many places one."""
+    for end in range(0, len(content), step):
         yield content[:end]
-    for start in range(len(content) - 7):
+    for start in range(0, len(content) - 7, step):
         yield content[:start] + bytes(8) + content[start + 8 :]
 
 
@@ -203,24 +210,38 @@ def played_inputs(recording):
             yield Input("samples", recording, [*before, makings.written(last, place, zeroed)], [])
 
 
+def held_inputs(recording, payload, text):
+    """A frame, a holding file and the record of a recording, cut and zeroed everywhere, through each command of holdings; of a recording that is
+    not in the profile at each fourth place, with the word --any."""
+    is_any, step = recording in OTHERS, 4 if recording in OTHERS else 1
+    for damaged_payload in cut_and_zeroed(payload, step):
+        yield Input("take", recording, [damaged_payload], [], is_any)
+    for damaged_text in cut_and_zeroed(text, step):
+        for command in ("report", "restore", "picture", "join"):
+            yield Input(command, recording, [], [damaged_text], is_any)
+        yield Input("merge", recording, [], [damaged_text, text], is_any)
+    for record in cut_and_zeroed(recording.record):
+        one = Input("take", recording, [payload], [], is_any)
+        one.record = record
+        yield one
+
+
 def every_input(recording):
-    """The first frame of a recording, its record and its last holding file, cut and zeroed everywhere, through each command."""
+    """The first frame of a recording, its record and its first holding file, cut and zeroed everywhere, through each command."""
+    payload = next(iter(recording.frames.values()))
+    if recording.holdings:
+        yield from held_inputs(recording, payload, recording.holdings[0])
     if recording in OTHERS:
         yield from played_inputs(recording)
         return
-    payload, text = next(iter(recording.frames.values())), recording.holdings[0]
     for damaged_payload in cut_and_zeroed(payload):
-        for command in ("chain", "take", "decode", "samples"):
+        for command in ("chain", "decode", "samples"):
             yield Input(command, recording, [damaged_payload], [])
         yield scanned_input(recording, [payload, damaged_payload, payload])
     yield from spliced_inputs(recording, payload)
     yield from mended_inputs(recording, payload)
-    for damaged_text in cut_and_zeroed(text):
-        for command in ("report", "restore", "picture", "join"):
-            yield Input(command, recording, [], [damaged_text])
-        yield Input("merge", recording, [], [damaged_text, text])
     for record in cut_and_zeroed(recording.record):
-        for command in ("show", "setup", "take", "decode", "samples"):
+        for command in ("show", "setup", "decode", "samples"):
             one = Input(command, recording, [payload], [])
             one.record = record
             yield one

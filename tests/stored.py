@@ -1,6 +1,7 @@
 """The recordings of tests/real and tests/made that damage is made of, with their frames and holding files."""
 import pathlib
 
+import any_holdings
 import casebook
 import lists
 import readings
@@ -43,13 +44,17 @@ def other_frames():
 
 
 class OtherRecording:
-    """A folder of a recording that is not in the profile: its record, its size, and its frames in their order."""
+    """A folder of a recording that is not in the profile: its record, its size, its frames in their order, and where its slices have parities
+    the holding file of each frame."""
 
     def __init__(self, folder):
         self.name = folder.name
         self.record = (folder / "record").read_bytes()
         self.size = tuple(int(side) for side in folder.name.split("-")[1].split("x"))
         self.frames = {path.name: path.read_bytes() for path in sorted(folder.glob("frame-*"))}
+        self.holdings = []
+        if readings.recording_of(self.record, self.size).ec == 1:
+            self.holdings = [any_holdings.took(self.record, self.size, [frame])[0] for frame in self.frames.values()]
 
 
 def other_recordings():

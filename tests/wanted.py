@@ -1,6 +1,7 @@
-"""What each command has to report, print and make of its files, by tests/readings.py."""
+"""What each command has to report, print and make of its files, by tests/readings.py and the readings of any recording beside it."""
 import math
 
+import any_holdings
 import readings
 import sample_reading
 
@@ -73,13 +74,12 @@ def wanted_samples(one, recording):
     return Wanted(status, printed, made, reported)
 
 
-def wanted_take(one, setup):
-    held, lines = {}, ""
-    for number, payload in enumerate(one.payloads, 1):
-        found = readings.found_slices(setup, payload)
-        lines += f"copy {number} links {len(readings.links(payload)[0])} slices {len(found)} new {len(set(found) - set(held))}\n"
-        held = readings.united(held, readings.taken(setup, payload))
-    return Wanted(0, lines.encode(), readings.holding_text(one.record, one.size, held))
+def wanted_take(one):
+    try:
+        made, printed = any_holdings.took(one.record, one.size, one.payloads, one.is_any)
+    except readings.Fault as fault:
+        return fault_wanted(fault, "setup")
+    return Wanted(0, printed, made)
 
 
 def wanted_decode(one, setup):
@@ -98,17 +98,14 @@ def wanted_decode(one, setup):
 
 
 def wanted_join(one):
-    held, lines, first = {}, "", None
-    for number, text in enumerate(one.texts, 1):
-        read = readings.read_holding(text)
-        if read is None:
-            return Wanted()
-        first = first or read[:2]
-        if read[:2] != first:
+    reels = []
+    for text in one.texts:
+        record, recording, _ = any_holdings.read_holding(text, one.is_any)
+        reels.append((record, recording.size))
+        if reels[0] != reels[-1]:
             return Wanted(1, b"", reported="hold fault 1")
-        lines += f"file {number} new {len(set(read[3]) - set(held))}\n"
-        held = readings.united(held, read[3])
-    return Wanted(0, lines.encode(), readings.holding_text(*first, held))
+    made, printed = any_holdings.joined(one.texts, one.is_any)
+    return Wanted(0, printed, made)
 
 
 def heads(one):
@@ -118,46 +115,37 @@ def heads(one):
 
 def wanted_merge(one):
     """Either file's fault may come first, and another reel of two heads before a fault after them."""
-    read, faults = [], []
-    for text in (one.texts[0], one.texts[-1]):
+    texts, faults = [one.texts[0], one.texts[-1]], []
+    for text in texts:
         try:
-            read.append(readings.read_holding(text))
+            any_holdings.read_holding(text, one.is_any)
         except readings.Fault as fault:
             faults.append(f"holding file fault {fault.args[0]}")
-    if None in read:
-        return Wanted()
     left, right = heads(one)
     if left != right:
         faults.append("holding file fault 12")
     if faults:
         return Wanted(1, b"", reported=tuple(faults))
-    return Wanted(0, b"", readings.holding_text(*read[0][:2], readings.united(read[0][3], read[1][3])))
+    return Wanted(0, b"", any_holdings.joined(texts, one.is_any)[0])
 
 
-def wanted_report(_, record, size, setup, held):
-    return Wanted(0, readings.report_text(size, held, readings.tiles_of(setup)))
+def wanted_report(one):
+    return Wanted(0, any_holdings.reported(one.texts[0], one.is_any))
 
 
-def wanted_restore(_, record, size, setup, held):
-    stand = readings.standing(held, readings.tiles_of(setup))
-    for tile, pieces in enumerate(stand):
-        if len(pieces) != 1:
-            return Wanted(1, b"", reported=f"{'disputed' if pieces else 'missing'} tile {tile}")
-    payload = b"".join(pieces[0] for pieces in stand)
+def wanted_restore(one):
+    payload, reported = any_holdings.restored(one.texts[0], one.is_any)
+    if reported:
+        return Wanted(1, b"", reported=reported)
     return Wanted(0, f"restored {len(payload)} bytes\n".encode(), payload)
 
 
-def wanted_picture(_, record, size, setup, held):
-    stand = readings.standing(held, readings.tiles_of(setup))
-    open_tiles = {tile: "disputed {}".format(len(pieces)) if pieces else "missing" for tile, pieces in enumerate(stand) if len(pieces) != 1}
-
-    def fits(printed, made):
-        lines = [line.split(" ", 2) for line in printed.decode().splitlines()]
-        reported = {int(tile): how for _, tile, how in lines}
-        readable = {tile: how for tile, how in reported.items() if not how.startswith("fault plane ")}
-        return readable == open_tiles and list(reported) == sorted(reported) and len(made) == readings.samples_of(setup, size)
-
-    return Wanted(3 if open_tiles else None, fits=fits)
+def wanted_picture(one):
+    _, recording, held = any_holdings.read_holding(one.texts[0], one.is_any)
+    if math.prod(recording.size) > MOST_SAMPLES:
+        return Wanted()
+    made, printed, status = any_holdings.shown(recording, held, one.is_any)
+    return Wanted(status, printed, made)
 
 
 def wanted_splice(one):
@@ -179,16 +167,6 @@ def wanted_mend(one):
     return Wanted(status, printed, made, reported)
 
 
-def with_holding(wanted):
-    """What is wanted of a command on one holding file."""
-
-    def judged(one):
-        read = readings.read_holding(one.texts[0])
-        return Wanted() if read is None else wanted(one, *read)
-
-    return judged
-
-
 def with_files(wanted):
     """What is wanted of a command that stops at the first fault of a holding file."""
 
@@ -201,17 +179,29 @@ def with_files(wanted):
     return judged
 
 
+def where_read(wanted):
+    """What is wanted of a command where the initial states of its record are read here, which they are where they are few."""
+
+    def judged(one):
+        try:
+            return wanted(one)
+        except readings.TooManyStates:
+            return Wanted()
+
+    return judged
+
+
 WANTED = {
     "chain": wanted_chain,
     "show": with_setup(wanted_show),
     "setup": with_recording(wanted_setup),
     "samples": with_recording(wanted_samples),
-    "take": with_setup(wanted_take),
-    "join": with_files(wanted_join),
-    "merge": wanted_merge,
-    "report": with_files(with_holding(wanted_report)),
-    "restore": with_files(with_holding(wanted_restore)),
-    "picture": with_files(with_holding(wanted_picture)),
+    "take": where_read(wanted_take),
+    "join": where_read(with_files(wanted_join)),
+    "merge": where_read(wanted_merge),
+    "report": where_read(with_files(wanted_report)),
+    "restore": where_read(with_files(wanted_restore)),
+    "picture": where_read(with_files(wanted_picture)),
     "decode": with_setup(wanted_decode),
     "splice": wanted_splice,
     "scan": wanted_scan,
