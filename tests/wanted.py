@@ -140,12 +140,25 @@ def wanted_restore(one):
     return Wanted(0, f"restored {len(payload)} bytes\n".encode(), payload)
 
 
+def wanted_large_picture(recording, held):
+    """What is known of the picture of a frame in the profile whose samples are not read here."""
+    stand = readings.standing(held, readings.tiles_of(recording))
+    open_tiles = {tile: f"disputed {len(pieces)}" if pieces else "missing" for tile, pieces in enumerate(stand) if len(pieces) != 1}
+
+    def fits(printed, made):
+        reported = {int(tile): how for _, tile, how in (line.split(" ", 2) for line in printed.decode().splitlines())}
+        readable = {tile: how for tile, how in reported.items() if not how.startswith(("fault ", "unclean "))}
+        return readable == open_tiles and list(reported) == sorted(reported) and len(made) == readings.samples_of(recording, recording.size)
+
+    return Wanted(3 if open_tiles else None, fits=fits)
+
+
 def wanted_picture(one):
     _, recording, held = any_holdings.read_holding(one.texts[0], one.is_any)
-    if math.prod(recording.size) > MOST_SAMPLES:
-        return Wanted()
-    made, printed, status = any_holdings.shown(recording, held, one.is_any)
-    return Wanted(status, printed, made)
+    if math.prod(recording.size) <= MOST_SAMPLES:
+        made, printed, status = any_holdings.shown(recording, held, one.is_any)
+        return Wanted(status, printed, made)
+    return wanted_large_picture(recording, held) if any_holdings.is_in_profile(recording) else Wanted()
 
 
 def wanted_splice(one):
