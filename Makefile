@@ -3,7 +3,7 @@ PROGRAM := crates/ffv1restore/out/ffv1restore
 CALLS := crates/ffv1_memory_tests/out/ffv1_memory_tests
 PREFIX ?= $(HOME)/.local
 
-.PHONY: all run test units cases rot fuzz ffmpeg reel bench install dist
+.PHONY: all run test units cases rules rot fuzz ffmpeg reel bench install dist
 
 all: $(PROGRAM)
 
@@ -30,6 +30,8 @@ test:
 	tests/larger $(PROGRAM)
 	tests/devices $(PROGRAM)
 	tests/memory $(CALLS) $(PROGRAM)
+	tests/guide $(PROGRAM)
+	tests/rules $(PROGRAM) --short
 	$(MAKE) rot
 
 # The unit tests in Python: of mend-reel, and of the scripts of tests/.
@@ -40,13 +42,19 @@ units:
 cases:
 	tests/run $(PROGRAM)
 
-# Small recordings, cut and zeroed at every place, and Matroska files at every sixteenth.
+# The rules by which mend-reel judges files and puts OUT together: all checks, WORKERS at a time.
+rules: $(PROGRAM)
+	tests/rules $(PROGRAM) --workers $(WORKERS)
+
+# Small recordings, cut and zeroed at every place, and Matroska files at every sixteenth; then files of other containers, which mend-reel
+# judges, that lack a piece at every 512th.
 SMALL := gray-48x32-4-slices gray-64x64-1x1-tiles-one-run-flat gray-64x7-3x2-tiles-six-runs-alternating \
 	gray-7x2-3x2-tiles-two-runs-rising yuv410p-64x64-2x2-tiles-one-run-alternating yuv420p-64x64-1x1-tiles-two-runs-flat \
 	yuv420p-7x64-3x2-tiles-one-run-alternating yuv420p-7x7-1x1-tiles-six-runs-rising yuv422p-64x7-1x1-tiles-one-run-alternating \
 	yuv422p-32x24-4-slices bgra-32x24-6-slices
 rot:
 	tests/fuzz $(PROGRAM) 0 --bursts 200 --every $(SMALL) --files matroska-flac matroska-pcm
+	tests/gaps $(PROGRAM)
 
 # Damaged files for so many SECONDS, by so many WORKERS at a time, and then damage within 32 bits: other ones for each SEED.
 SECONDS ?= 60

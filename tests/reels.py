@@ -13,6 +13,8 @@ FORMATS = ("gray gray10le gray16le ya8 yuv410p yuv420p yuv422p yuv422p9le yuv422
 IN_PROFILE = ["gray", "yuv422p", "yuv444p"]
 ENDINGS = ["mkv", "avi", "nut", "mov"]
 SOUND = {"mkv": ["flac", "pcm_s16le"], "avi": ["pcm_s16le"], "nut": ["flac", "pcm_s16le"], "mov": ["pcm_s16le"]}
+# What is to be heard: a tone, silence, and a tone that begins and ends in silence.
+TONES = ["sine=r=8000", "sine=r=8000", "anullsrc=r=8000:cl=mono", "aevalsrc=if(between(t\\,0.05\\,0.12)\\,sin(2000*t)\\,0):s=8000"]
 
 
 def run(*words, **more):
@@ -27,13 +29,14 @@ def ffmpeg(*words):
 
 @dataclasses.dataclass
 class Reel:
-    """A recording: its file, and the place and bytes of each of its FFV1 frames."""
+    """A recording: its file, the place and bytes of each of its FFV1 frames, and of each packet of its sound."""
 
     path: pathlib.Path
     content: bytes
     frames: list
     has_checksums: bool
     about: str
+    sound: list = dataclasses.field(default_factory=list)
 
     @property
     def suffix(self):
@@ -43,7 +46,7 @@ class Reel:
 @dataclasses.dataclass
 class Damaged:
     """A copy, whether its bytes stand where those of the recording do, what it was before it was damaged, whether it has all tracks, and the
-    map that ddrescue wrote of it."""
+    map that is given of it."""
 
     path: pathlib.Path
     content: bytes
@@ -52,6 +55,10 @@ class Damaged:
     recorded: bytes
     has_all: bool = True
     map: pathlib.Path = None
+
+    @property
+    def is_undamaged(self):
+        return self.content == self.recorded
 
     def words(self):
         """What names it and its map in a call."""
@@ -106,7 +113,7 @@ def made_by_ffmpeg(numbers, folder, ending):
     words, maps, frames = ["-f", "lavfi", "-i", source], ["-map", "0"], numbers.randint(3, 8)
     sound = numbers.choice(SOUND[ending]) if numbers.random() < 0.8 else None
     if sound:
-        words, maps = [*words, "-f", "lavfi", "-i", "sine=r=8000"], [*maps, "-map", str(1)]
+        words, maps = [*words, "-f", "lavfi", "-i", numbers.choice(TONES)], [*maps, "-map", str(1)]
     second = ending == "mkv" and numbers.random() < 0.2
     if second:
         words, maps = [*words, "-f", "lavfi", "-i", f"testsrc=s=64x48:r={rate}"], [*maps, "-map", str(1 + bool(sound))]
@@ -120,7 +127,7 @@ def made_by_ffmpeg(numbers, folder, ending):
            numbers.randrange(2), "-g", group, "-slices", numbers.choice([4, 6, 9, 12]), "-slicecrc", 1, "-c:a", sound or "copy", *more, path)
     found = packets(path) + (packets(path, "0:v:1") if second else [])
     about = f"{ending} {pixels} coder {coder} sound {sound} crc {checked} second {second} extras {extras}"
-    return Reel(path, path.read_bytes(), sorted(found), checked, about)
+    return Reel(path, path.read_bytes(), sorted(found), checked, about, packets(path, "0:a:0"))
 
 
 def extra_inputs(numbers, folder):
@@ -143,7 +150,7 @@ def made_by_mkvmerge(folder, reel):
     mkvmerge(reel.path, path)
     path.unlink()
     found = packets(reel.path) + (packets(reel.path, "0:v:1") if has_second else [])
-    return Reel(reel.path, reel.path.read_bytes(), sorted(found), False, f"mkvmerge {reel.about}")
+    return Reel(reel.path, reel.path.read_bytes(), sorted(found), False, f"mkvmerge {reel.about}", packets(reel.path, "0:a:0"))
 
 
 def mkvmerge(path, source):
@@ -166,7 +173,7 @@ def made_by_gstreamer(numbers, folder):
     done = run("gst-launch-1.0", "-q", *words)
     if done.returncode:
         raise RuntimeError(f"gst-launch-1.0: {done.stderr.decode(errors='replace')}")
-    return Reel(path, path.read_bytes(), sorted(packets(path)), False, f"gstreamer {pixels} sound {sound}")
+    return Reel(path, path.read_bytes(), sorted(packets(path)), False, f"gstreamer {pixels} sound {sound}", packets(path, "0:a:0"))
 
 
 def rot_frames(numbers, content, frames):
@@ -206,7 +213,19 @@ def spill(numbers, content, frames):
     content[place : place + 256] = numbers.randbytes(len(content[place : place + 256]))
 
 
-HARMS = [rot_frames, rot_frames, break_head, turn_bits, lose_sector, lose_sector, lose_first_sector, spill]
+def fill(numbers, content, frames):
+    """Many bytes anywhere have one value."""
+    place, size = numbers.randrange(len(content)), numbers.choice([700, 2048, 10000, len(content) // 4])
+    content[place : place + size] = numbers.choice([b"\0", b"\xff", b" "]) * len(content[place : place + size])
+
+
+def invert_bit_of_frame(numbers, content, frames):
+    """One bit of one frame is inverted."""
+    place, payload = numbers.choice(frames)
+    content[place + numbers.randrange(len(payload))] ^= 1 << numbers.randrange(8)
+
+
+HARMS = [rot_frames, rot_frames, break_head, turn_bits, lose_sector, lose_sector, lose_first_sector, spill, fill, invert_bit_of_frame]
 
 
 def rot(numbers, content, frames):
@@ -244,6 +263,98 @@ def write_again(numbers, path, source, silent):
         mkvmerge(path, source)
     else:
         ffmpeg("-i", source, "-map", "0:v:0" if silent else "0", "-map", "-0:t?", "-c", "copy", "-fflags", "+bitexact", path)
+
+
+# ---- kinds of copies of a recording's own file, each as its bytes, whether they stand where the recording's do, and what it was before
+
+
+def lose_sector_of_sound(numbers, folder, reel):
+    """A sector within sound is zero."""
+    place, payload = numbers.choice(reel.sound)
+    start = max(place, (place + numbers.randrange(len(payload))) // 512 * 512)
+    size = min(512, place + len(payload) - start)
+    return reel.content[:start] + bytes(size) + reel.content[start + size :], True, reel.content
+
+
+def shift_sound(numbers, folder, reel):
+    """Bytes are lost from sound, or put into it."""
+    place, payload = numbers.choice(reel.sound)
+    at, size = place + numbers.randrange(len(payload)), numbers.choice([1, 2, 64, 512])
+    if numbers.random() < 0.5:
+        return reel.content[:at] + reel.content[at + size :], False, reel.content
+    return reel.content[:at] + numbers.choice([bytes(size), numbers.randbytes(size)]) + reel.content[at:], False, reel.content
+
+
+def join_files(numbers, folder, reel):
+    """Another file stands after it: itself, or the same written again."""
+    other = folder / f"other{reel.suffix}"
+    write_again(numbers, other, reel.path, True)
+    more = numbers.choice([reel.content, other.read_bytes()])
+    other.unlink()
+    return reel.content + more, True, reel.content
+
+
+def repeat_cluster(numbers, folder, reel):
+    """What lies from a frame to the next one is there twice; in Matroska a cluster is."""
+    starts = [place for place, _ in reel.frames]
+    if reel.suffix == ".mkv":
+        starts = [place for place in range(len(reel.content)) if reel.content[place : place + 4] == b"\x1fC\xb6u"]
+    number = numbers.randrange(max(len(starts) - 1, 1))
+    start, end = starts[number], (starts + [len(reel.content)])[number + 1]
+    return reel.content[:end] + reel.content[start:end] + reel.content[end:], False, reel.content
+
+
+def change_title(numbers, folder, reel):
+    """Another edition of the file, in which mkvpropedit or FFmpeg wrote a title: undamaged, or with one wrong bit in a frame."""
+    path = folder / f"edition{reel.suffix}"
+    if reel.suffix == ".mkv" and shutil.which("mkvpropedit"):
+        path.write_bytes(reel.content)
+        done = run("mkvpropedit", path, "--edit", "info", "--set", f"title=reel {numbers.randrange(100)}")
+        if done.returncode:
+            raise RuntimeError(f"mkvpropedit: {done.stdout.decode(errors='replace')}")
+    else:
+        title = f"title=reel {numbers.randrange(100)}"
+        ffmpeg("-i", reel.path, "-map", "0", "-map", "-0:t?", "-c", "copy", "-fflags", "+bitexact", "-metadata", title, path)
+    recorded, frames = path.read_bytes(), packets(path)
+    path.unlink()
+    content = bytearray(recorded)
+    if frames and numbers.random() < 0.4:
+        invert_bit_of_frame(numbers, content, frames)
+    return bytes(content), False, recorded
+
+
+KINDS = [lose_sector_of_sound, lose_sector_of_sound, shift_sound, shift_sound, join_files, repeat_cluster, change_title, change_title]
+
+
+def of_kind(numbers, folder, reel, name):
+    """A copy of one of these kinds."""
+    kind = numbers.choice([kind for kind in KINDS if reel.sound or "sound" not in kind.__name__])
+    content, is_same, recorded = kind(numbers, folder, reel)
+    path = folder / f"{name}{reel.suffix}"
+    path.write_bytes(content)
+    return Damaged(path, content, is_same, f"{path.name} {kind.__name__}", recorded)
+
+
+def in_turn(numbers, folder, reel):
+    """Two or three copies that lack pieces in turn: each byte is intact in one of them."""
+    count, size, first = numbers.randint(2, 3), numbers.choice([512, 2048, 4096, 16384]), numbers.choice([0, 0, 1000])
+    made = [bytearray(reel.content) for _ in range(count)]
+    for number, place in enumerate(range(first, len(reel.content), size)):
+        for copy in (copy for at, copy in enumerate(made) if at != number % count):
+            copy[place : place + size] = bytes(len(copy[place : place + size]))
+    paths = [folder / f"{name}{reel.suffix}" for name, _ in zip("abc", made)]
+    for path, content in zip(paths, made):
+        path.write_bytes(content)
+    about = f"pieces of {size} from {first} on in turn"
+    return [Damaged(path, bytes(content), True, f"{path.name} {about}", reel.content) for path, content in zip(paths, made)]
+
+
+def map_of_another(numbers, folder, path):
+    """The map of another file: sectors that it calls unread are there."""
+    size, written = path.stat().st_size, folder / f"{path.name}.map"
+    bad = sorted({numbers.randrange(-(-size // 512)) for _ in range(numbers.randint(1, 3))})
+    written.write_text("0x0 + 1\n" + "".join(f"{start} {end - start} {status}\n" for start, end, status in blocks(bad, size)))
+    return written
 
 
 def pad(numbers, content):
@@ -286,6 +397,8 @@ def copy_of(numbers, folder, reel, name, is_first):
     kind = numbers.random()
     if kind < 0.2 and not is_first:
         return other_file(numbers, folder, reel, name)
+    if 0.6 <= kind < 0.76:
+        return of_kind(numbers, folder, reel, name)
     path, content, about, is_same = folder / f"{name}{reel.suffix}", bytearray(reel.content), "undamaged", True
     if kind < 0.88:
         about = rot(numbers, content, reel.frames)
@@ -302,11 +415,15 @@ def copy_of(numbers, folder, reel, name, is_first):
     path.write_bytes(content)
     written = with_map(numbers, folder, path) if 0.48 <= kind < 0.6 and shutil.which("ddrescue") else None
     about += " with a map" if written else ""
+    if 0.85 <= kind < 0.9:
+        written, about = map_of_another(numbers, folder, path), f"{about} with a map of another file"
     return Damaged(path, path.read_bytes(), is_same, f"{path.name} {about}", reel.content, True, written)
 
 
 def damaged(numbers, folder, reel):
     """Two to four copies of a recording."""
+    if numbers.random() < 0.08:
+        return in_turn(numbers, folder, reel)
     copies = [copy_of(numbers, folder, reel, name, name == "a") for name in "abcd"[: numbers.randint(2, 4)]]
     numbers.shuffle(copies)
     return copies

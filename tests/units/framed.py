@@ -4,7 +4,7 @@ from __future__ import annotations
 import typing
 
 from mend_reel.containers import own_checks
-from mend_reel.judging import frame_checks
+from mend_reel.engine import frame_checks
 from mend_reel.model import Claims, Content, Frame, Kind, Layout, Stretch, Track, What
 from . import made
 
@@ -33,15 +33,26 @@ def frame(seed: int, *sizes: int) -> bytes:
     return b"".join(slice_of(made.noise(100 * seed + at, size)) for at, size in enumerate(sizes or (90, 60, 75)))
 
 
-def judge(copy: typing.Any, ranges: typing.Sequence[frame_checks.Range]) -> typing.List[frame_checks.Judged]:
-    """Judges frames as `ffv1restore scan` does."""
-    answers = []
-    for place, size in ranges:
-        content = copy.read(place, size) if place + size <= copy.size else b""
-        links = list(own_checks.slices(content))
-        answers.append(frame_checks.Judged(len(links), sum(own_checks.passes(content[start:end]) for start, end in links),
-                                      bool(links) and links[-1][0] == 0))
-    return answers
+class Judge:
+    """Judges frames as `ffv1restore scan` does, and frames of FLAC by whether they are among `wrong`."""
+
+    def __init__(self, *wrong: int) -> None:
+        self.wrong = set(wrong)
+
+    def __call__(self, copy: typing.Any, ranges: typing.Sequence[frame_checks.Range]) -> typing.List[frame_checks.Judged]:
+        answers = []
+        for place, size in ranges:
+            content = copy.read(place, size) if place + size <= copy.size else b""
+            links = list(own_checks.slices(content))
+            answers.append(frame_checks.Judged(len(links), sum(own_checks.passes(content[start:end]) for start, end in links),
+                                               bool(links) and links[-1][0] == 0))
+        return answers
+
+    def failing_flac(self, copy: typing.Any, ranges: typing.Sequence[frame_checks.Range]) -> typing.Set[int]:
+        return self.wrong.intersection(place for place, _ in ranges)
+
+
+judge = Judge()
 
 
 def matroska(frames: typing.Sequence[typing.Tuple[float, bytes]], crc: bool = True, seed: int = 0) -> bytes:

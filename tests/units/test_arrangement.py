@@ -1,10 +1,14 @@
 """Which copies are of one file, which are other files, and which belong to another recording."""
 import os
+import pathlib
 import tempfile
 import unittest
 
-from mend_reel.containers.ffprobe import Container
+from mend_reel.containers.ffprobe import Probed
+from mend_reel.containers.known import OTHER as NO_CONTAINER
+from mend_reel.containers.known import by_start
 from mend_reel.copies.arrangement import Leaving, arrange, claimed_size, group
+from mend_reel.judging.judgment import judge_file
 from mend_reel.model import Fault, open_copy
 from . import made
 from .framed import frame, judge, matroska
@@ -88,27 +92,39 @@ class GroupTest(unittest.TestCase):
                          [(1, Leaving.REPEATED, "it is the same file as copy 1"), (2, Leaving.EMPTY, "it is empty")])
 
 
+def arranged(copies, scan=judge):
+    """How copies serve, whose containers are known by their starts."""
+    for copy in copies:
+        copy.form = (by_start(copy) or NO_CONTAINER).name
+    with tempfile.TemporaryDirectory() as work:
+        return arrange(copies, scan, lambda number: judge_file(copies[number], scan), pathlib.Path(work))
+
+
 class ArrangeTest(unittest.TestCase):
     def arrange(self, *contents):
         with made.opened(*contents) as copies:
-            return arrange(copies, judge)
+            return arranged(copies)
 
     def test_copies_of_one_file_are_not_judged(self):
         def never(*_):
             raise AssertionError("judged")
 
         with made.opened(REEL, spoilt(REEL, 2)) as copies:
-            arrangement = arrange(copies, never)
+            arrangement = arranged(copies, never)
         self.assertEqual((arrangement.basis, arrangement.matched, len(arrangement.layout.frames)), ([0, 1], [], 10))
 
-    def test_the_file_with_most_verified_bytes_is_the_basis_though_it_is_damaged(self):
-        for contents in ([spoilt(REEL, 2), REWRAPPED], [REWRAPPED, spoilt(REEL, 2)]):
+    def test_of_damaged_files_that_with_most_verified_bytes_is_the_basis(self):
+        other = made.damaged(REWRAPPED, *(REWRAPPED.index(FRAMES[number][1]) + 30 for number in (7, 8, 9)))
+        for contents in ([spoilt(REEL, 2), other], [other, spoilt(REEL, 2)]):
             arrangement = self.arrange(*contents)
             self.assertEqual(arrangement.basis, [contents.index(spoilt(REEL, 2))])
             self.assertEqual(len(arrangement.matched[0].places), 10)
-        self.assertEqual(self.arrange(spoilt(REEL, 2), spoilt(REEL, 5), REWRAPPED).basis, [0, 1])
+        self.assertEqual(self.arrange(spoilt(REEL, 2), spoilt(REEL, 5), other).basis, [0, 1])
 
-    def test_an_undamaged_copy_is_the_basis_where_as_much_is_verified(self):
+    def test_an_undamaged_copy_is_the_basis(self):
+        for contents in ([spoilt(REEL, 2), REWRAPPED], [REWRAPPED, spoilt(REEL, 2)]):
+            arrangement = self.arrange(*contents)
+            self.assertEqual((arrangement.basis, arrangement.good), ([contents.index(REWRAPPED)], contents.index(REWRAPPED)))
         spoilt_ = made.damaged(MOVED, MOVED.index(FRAMES[2][1]) + 30)
         self.assertEqual((self.arrange(spoilt_, REWRAPPED).basis, self.arrange(REWRAPPED, spoilt_).basis), ([1], [0]))
 
@@ -116,18 +132,17 @@ class ArrangeTest(unittest.TestCase):
         damaged_before = matroska([*FRAMES[:2], (0.08, made.damaged(FRAMES[2][1], 20)), *FRAMES[3:]], seed=90)
         for contents in ([damaged_before, MOVED], [MOVED, damaged_before]):
             self.assertEqual(self.arrange(*contents).basis, [contents.index(MOVED)])
-        self.assertEqual(self.arrange(damaged_before, made.damaged(MOVED, MOVED.index(FRAMES[2][1]) + 30)).damaged_before, {2})
 
     def test_attachments_count_where_as_much_is_verified(self):
-        more = made.ebml_header() + made.element(made.SEGMENT, CONTENT, made.element(0x1941A469, made.element(0x61A7, b"file")))
+        more = made.ebml_header() + made.element(made.SEGMENT, CONTENT, made.element(0x1941A469, made.element(0x61A7, made.element(0x466E, b"name"))))
         for contents in ([more, MOVED], [MOVED, more]):
             arrangement = self.arrange(*contents)
             self.assertEqual(arrangement.basis, [contents.index(more)])
             with made.opened(*contents) as copies:
-                self.assertRegex(arrangement.notes(copies)[0], "^OUT is the file of copy [12]; what serves of copy [12] is brought into it$")
+                self.assertRegex(arrangement.notes(copies)[-1], f"^OUT is copy {contents.index(more) + 1} as it is: no damage was found in it$")
 
-    def test_the_most_verified_bytes_decide_among_undamaged_copies(self):
-        self.assertEqual(self.arrange(REWRAPPED, REEL).basis, [1])
+    def test_the_first_of_undamaged_copies(self):
+        self.assertEqual((self.arrange(REWRAPPED, REEL).basis, self.arrange(REEL, REWRAPPED).basis), ([0], [0]))
 
     def test_the_first_of_equals(self):
         self.assertEqual((self.arrange(REWRAPPED, MOVED).basis, self.arrange(MOVED, REWRAPPED).basis), ([0], [0]))
@@ -137,8 +152,13 @@ class ArrangeTest(unittest.TestCase):
         arrangement = self.arrange(ruined, matroska(FRAMES[:1], False))
         self.assertEqual((arrangement.basis, [(each.number, each.why) for each in arrangement.left]), ([1], [(0, Leaving.RUINED)]))
 
-    def test_a_cut_file_is_not_the_basis_where_the_rest_can_be_mended(self):
+    def test_an_undamaged_file_is_the_basis_though_another_has_more_frames(self):
         front = matroska(FRAMES[:9])
+        arrangement = self.arrange(front, spoilt(REEL, 4))
+        self.assertEqual((arrangement.basis, len(arrangement.matched[0].unplaced)), ([0], 1))
+
+    def test_a_cut_file_is_not_the_basis_where_the_rest_can_be_mended(self):
+        front = made.damaged(matroska(FRAMES[:9]), matroska(FRAMES[:9]).index(FRAMES[6][1]) + 30)
         arrangement = self.arrange(front, spoilt(REEL, 4))
         self.assertEqual(arrangement.basis, [1])
         self.assertEqual(sorted(arrangement.matched[0].places), list(range(9)))
@@ -192,9 +212,9 @@ class ArrangeTest(unittest.TestCase):
         """As where what describes the video to a decoder is damaged."""
         with made.opened(MOV, b"no container " * 99) as copies:
             for copy in copies:
-                copy.container = Container()
+                copy.probed = Probed()
             with self.assertRaisesRegex(Fault, r"^no FFV1 video was found in .*; FFmpeg can't read \S*copy.0, though its parts hang together[^;]*$"):
-                arrange(copies, judge)
+                arranged(copies)
 
     def test_no_video_at_all(self):
         with self.assertRaisesRegex(Fault, "no FFV1 video was found in .*copy.0; .*copy.1 is empty"):

@@ -2,6 +2,7 @@
 from __future__ import annotations
 
 import ast
+import hashlib
 import json
 import os
 import pathlib
@@ -119,12 +120,24 @@ class OutTest(InFolder):
 class ReportsTest(InFolder):
     def test_a_file_that_is_there_is_overwritten_by_force_alone(self) -> None:
         for option in ("--report", "--json"):
-            self.write("b.mkv", REEL)
-            self.write("c.mkv", OTHER)
-            self.assert_refused("c.mkv is there (--force overwrites it)", option, "c.mkv", "-o", "out.mkv", "b.mkv")
-            self.assert_refused("c.mkv is there (--force overwrites it)", option, "c.mkv", "--check", "b.mkv")
-            self.assertEqual(self.call("--force", option, "c.mkv", "--check", "b.mkv").returncode, 0)
-            self.assertNotEqual(self.read("c.mkv"), OTHER)
+            self.write("notes", b"mine")
+            self.assert_refused("notes is there (--force overwrites it)", option, "notes", "-o", "out.mkv", "b.mkv")
+            self.assert_refused("notes is there (--force overwrites it)", option, "notes", "--check", "b.mkv")
+            self.assertEqual(self.call("--force", option, "notes", "--check", "b.mkv").returncode, 0)
+            self.assertNotEqual(self.read("notes"), b"mine")
+
+    def test_a_recording_is_overwritten_by_no_report(self) -> None:
+        self.write("c", OTHER)
+        os.symlink("c", self.folder / "soft")
+        self.write("d.mkv", bytes(512) + REEL[512:])
+        for option, name in (("--report", "c"), ("--json", "c"), ("--json", "soft"), ("--json", "d.mkv")):
+            for force in ([], ["--force"]):
+                for words in (["--check", "b.mkv"], ["-o", "out.mkv", "a.mkv", "b.mkv"]):
+                    self.assert_refused(f"{name} is a recording: only -o overwrites one", *force, option, name, *words)
+        with open(self.folder / "c", "ab") as end:
+            done = self.call("--json", "-", "--check", "b.mkv", stdout=end)
+        self.assertEqual((done.returncode, done.stderr, self.read("c")), (1, b"mend-reel: - is a recording: only -o overwrites one\n", OTHER))
+        self.assertEqual((self.call("--force", "-o", "c", "a.mkv", "b.mkv").returncode, self.read("c")), (0, REEL))
 
     def test_what_is_read_is_never_overwritten(self) -> None:
         self.write("sums", b"0" * 32 + b"  out.mkv\n")
@@ -143,9 +156,53 @@ class ReportsTest(InFolder):
     def test_files_that_are_checked_are_one_document_and_one_page(self) -> None:
         done = self.call("--check", "--json", "made.json", "--report", "made.html", "a.mkv", "b.mkv")
         made = json.loads(self.read("made.json"))
-        self.assertEqual((done.returncode, schema.faults(made)), (3, ""))
+        self.assertEqual((done.returncode, schema.faults(made), done.stderr), (3, "", b""))
         self.assertEqual([each["verdict"]["status"] for each in made["files"]], [3, 0])
-        self.assertEqual(self.read("made.html").count(b"<h1>"), 2)
+        self.assertEqual(self.read("made.html").count(b"<section "), 2)
+        self.assertEqual(done.stdout.decode().splitlines()[-1], "2 files: 1 undamaged, 1 damaged, 0 unreadable")
+        self.assertNotIn(b"files: ", self.call("--check", "b.mkv").stdout)
+
+    def test_a_file_that_can_not_be_judged_costs_the_others_nothing(self) -> None:
+        self.write("notes", b"of no recording")
+        (self.folder / "folder").mkdir()
+        lines = {"none.mkv": "cannot read none.mkv: No such file or directory", "folder": "cannot read folder: it is no file",
+                 "notes": "no FFV1 video was found in notes"}
+        done = self.call("--check", "--json", "made.json", "--report", "made.html", "none.mkv", "b.mkv", "folder", "a.mkv", "notes")
+        made, printed = json.loads(self.read("made.json")), done.stdout.decode().splitlines()
+        self.assertEqual((done.returncode, schema.faults(made)), (1, ""))
+        self.assertEqual([each.get("fault") for each in made["files"]], [lines["none.mkv"], None, lines["folder"], None, lines["notes"]])
+        self.assertEqual([each["verdict"]["status"] for each in made["files"] if "verdict" in each], [0, 3])
+        self.assertEqual([line for line in printed if "judged" in line], [f"{name} could not be judged: {why}" for name, why in lines.items()])
+        self.assertEqual(printed[-1], "5 files: 1 undamaged, 1 damaged, 3 unreadable")
+        self.assertEqual(done.stderr.decode().splitlines(), [f"mend-reel: {why}" for why in lines.values()])
+        self.assertEqual(self.read("made.html").count(b"could not be judged"), 6)
+
+    def test_a_document_is_written_where_no_file_can_be_judged(self) -> None:
+        done = self.call("--check", "--json", "made.json", "none.mkv")
+        made = json.loads(self.read("made.json"))
+        self.assertEqual((done.returncode, schema.faults(made), len(made["files"])), (1, "", 1))
+        self.assertEqual(done.stderr.decode(), "mend-reel: cannot read none.mkv: No such file or directory\n")
+
+    def test_each_file_is_checked_by_its_line_in_a_manifest(self) -> None:
+        (self.folder / "bag/data").mkdir(parents=True)
+        self.write("bag/data/a.mkv", damaged(1500))
+        self.write("bag/data/b.mkv", REEL)
+        self.write("bag/manifest-sha256.txt", "".join(f"{hashlib.sha256(REEL).hexdigest()} data/{name}\n" for name in ("b.mkv", "a.mkv")).encode())
+        words = ["bag/data/a.mkv", "bag/data/b.mkv", "a.mkv", "c.mkv", "bag/data/../data/b.mkv"]
+        done = self.call("--check", "--digest", "bag/manifest-sha256.txt", *words)
+        printed = done.stdout.decode().splitlines()
+        self.assertEqual(done.returncode, 1)
+        self.assertTrue(printed[0].startswith("bag/data/a.mkv is not the original: its SHA256 is"))
+        self.assertIn("bag/data/b.mkv is the original: its SHA256 is that of bag/manifest-sha256.txt", printed)
+        self.assertIn("c.mkv could not be judged: bag/manifest-sha256.txt does not name c.mkv", printed)
+        self.assertEqual(printed[-1], "5 files: 2 undamaged, 2 damaged, 1 unreadable")
+        done = self.call("--check", "--digest", "bag/manifest-sha256.txt", "bag/data/b.mkv", "bag/data/../data/b.mkv")
+        self.assertEqual((done.returncode, done.stderr), (0, b""))
+
+    def test_digests_of_frames_are_of_one_file(self) -> None:
+        self.write("sums", FRAMES.encode())
+        self.assert_refused("sums has the digests of one file's frames, and several files are given", "--check", "--digest", "sums", "a.mkv", "b.mkv")
+        self.assert_refused("cannot read none: No such file or directory", "--check", "--digest", "none", "a.mkv", "b.mkv")
 
     def test_devices_are_written_to(self) -> None:
         before = os.stat("/dev/null")
@@ -288,33 +345,66 @@ class InterruptedTest(InFolder):
                 (self.folder / name).unlink(missing_ok=True)
 
 
-class KilledTest(InFolder):
-    def killed(self) -> list[str]:
-        """Has a run killed while it mends. Returns what it left in the folder for working files."""
+class SlowTest(InFolder):
+    """Calls beside one that mends for a minute, and after it was killed."""
+
+    def setUp(self) -> None:
+        super().setUp()
         slow = self.work.parent / "slow"
         slow.mkdir()
         program, self.program = self.program, stand_in.make(slow, "if words[0] == 'mend':\n    import time\n    time.sleep(60)")
-        child = subprocess.Popen([sys.executable, str(TOOL), "-o", "out.mkv", "a.mkv", "b.mkv"], cwd=self.folder, env=self.environment(),
-                                 stdout=subprocess.DEVNULL, stderr=subprocess.DEVNULL, start_new_session=True)
+        self.child = subprocess.Popen([sys.executable, str(TOOL), "--json", "made.json", "-o", "out.mkv", "a.mkv", "b.mkv"], cwd=self.folder,
+                                      env=self.environment(), stdout=subprocess.DEVNULL, stderr=subprocess.DEVNULL, start_new_session=True)
+        self.addCleanup(self.kill)
         self.program = program
-        try:
-            deadline = time.monotonic() + 30
-            while not list(self.work.glob("mend-reel.*/out")) and time.monotonic() < deadline:
-                time.sleep(0.01)
-            self.assertEqual(self.call("--check", "b.mkv").stdout.count(b"killed"), 0)
-        finally:
-            os.killpg(child.pid, signal.SIGKILL)
-            child.wait()
-        return [path.name for path in self.work.iterdir()]
+        deadline = time.monotonic() + 30
+        while not list(self.work.glob("mend-reel.*/out")) and time.monotonic() < deadline:
+            time.sleep(0.01)
+
+    def kill(self) -> None:
+        if self.child.returncode is None:
+            os.killpg(self.child.pid, signal.SIGKILL)
+            self.child.wait()
+
+    def test_the_second_run_at_one_out_is_refused(self) -> None:
+        before, folders = self.names(), list(self.work.iterdir())
+        part, document = (next(self.folder.glob(f"{name}.*.part")).name for name in ("out.mkv", "made.json"))
+        os.symlink("out.mkv", self.folder / "soft")
+        for words in (["-o", "out.mkv"], ["out.mkv"], ["--force", "-o", "out.mkv"]):
+            done = self.call(*words, "a.mkv", "b.mkv")
+            self.assertEqual((done.returncode, done.stdout), (1, b""))
+            self.assertEqual(done.stderr.decode(), f"mend-reel: another run makes out.mkv now: it holds {part}\n")
+        self.assertIn(b"another run makes soft now", self.call("--force", "-o", "soft", "a.mkv", "b.mkv").stderr)
+        done = self.call("--json", "made.json", "--check", "b.mkv")
+        self.assertEqual((done.returncode, done.stderr.decode()), (1, f"mend-reel: another run makes made.json now: it holds {document}\n"))
+        self.assertEqual((self.names(), list(self.work.iterdir())), (sorted([*before, "soft"]), folders))
+        done = self.call("-o", "other.mkv", "a.mkv", "b.mkv")
+        self.assertEqual((done.returncode, done.stdout.count(b"killed")), (0, 0))
+        self.assertEqual(self.call("--check", "b.mkv").stdout.count(b"killed"), 0)
 
     def test_the_next_run_names_what_a_killed_one_left(self) -> None:
-        left, = self.killed()
-        part, = self.folder.glob("out.mkv.*.part")
-        done = self.call("-o", "out.mkv", "a.mkv", "b.mkv")
-        self.assertEqual((done.returncode, self.read("out.mkv")), (0, REEL))
-        self.assertIn(f"a run that was killed left {part.name}; remove it if no other run makes out.mkv now\n", done.stdout.decode())
-        self.assertIn(f"a run that was killed left {self.work / left}; remove it\n", done.stdout.decode())
-        self.assertTrue(part.exists() and (self.work / left).is_dir())
+        self.kill()
+        left, = self.work.iterdir()
+        parts = sorted(path.name for path in self.folder.glob("*.part"))
+        done = self.call("--json", "made.json", "-o", "out.mkv", "a.mkv", "b.mkv")
+        self.assertEqual((done.returncode, self.read("out.mkv"), len(parts)), (0, REEL, 2))
+        for name in (*parts, left):
+            self.assertIn(f"a run that was killed left {name}; remove it\n", done.stdout.decode())
+        self.assertTrue(left.is_dir() and all((self.folder / part).exists() for part in parts))
+
+
+class TogetherTest(InFolder):
+    def test_of_two_runs_at_once_one_makes_out(self) -> None:
+        for _ in range(3):
+            words = [sys.executable, str(TOOL), "-o", "out.mkv", "a.mkv", "b.mkv"]
+            children = [subprocess.Popen(words, cwd=self.folder, env=self.environment(), stdout=subprocess.DEVNULL, stderr=subprocess.PIPE)
+                        for _ in range(2)]
+            said = [child.communicate()[1].decode() for child in children]
+            self.assertEqual((sorted(child.returncode for child in children), self.read("out.mkv")), ([0, 1], REEL))
+            refused = r"another run makes out.mkv now: it holds out.mkv.\w{8}.part|out.mkv is there \(--force overwrites it\)"
+            self.assertRegex("".join(said), rf"^mend-reel: ({refused})\n$")
+            self.assertEqual(self.names(), ["a.mkv", "b.mkv", "out.mkv"])
+            (self.folder / "out.mkv").unlink()
 
 
 class KeepTest(InFolder):
@@ -325,6 +415,13 @@ class KeepTest(InFolder):
         self.assert_refused("kept/list is there (--force overwrites it)", "--keep", "kept", "-o", "out.mkv", "a.mkv", "b.mkv")
         self.assertEqual(self.call("--force", "--keep", "kept", "-o", "out.mkv", "a.mkv", "b.mkv").returncode, 0)
         self.assertEqual((self.read("kept/list")[:5], self.read("kept/notes")), (b"plain", b"mine"))
+
+    def test_a_recording_with_such_a_name_is_refused_at_once(self) -> None:
+        for option, name in (("--keep", "frame-3.hold"), ("--keep", "list"), ("--pictures", "frame-3.png")):
+            (self.folder / "kept").mkdir(exist_ok=True)
+            self.write(f"kept/{name}", OTHER)
+            self.assert_refused(f"kept/{name} is a recording: only -o overwrites one", "--force", option, "kept", "-o", "out.mkv", "a.mkv", "b.mkv")
+            (self.folder / "kept" / name).unlink()
 
     def test_names_of_copies_end_with_nul(self) -> None:
         name = "a\nb.mkv"

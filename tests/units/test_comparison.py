@@ -1,7 +1,7 @@
 """What is found where copies are compared."""
 import unittest
 
-from mend_reel.containers.ffprobe import Container, Packet
+from mend_reel.containers.ffprobe import Packet, Probed
 from mend_reel.containers.structure import Structure
 from mend_reel.copies.comparison import Comparison, can_be_read
 from mend_reel.copies.inputs import Inputs
@@ -42,9 +42,9 @@ class CanBeReadTest(unittest.TestCase):
     def test_a_file_to_whose_tables_no_part_leads(self):
         """FFmpeg reads it by them in another file alone: it does not play."""
         track = Track(0, Content.VIDEO, "ffv1", True)
-        container = Container("mov", [track], packets=[Packet(0, 0.0, 10, 20, True, None, 10)])
+        container = Probed("mov", [track], packets=[Packet(0, 0.0, 10, 20, True, None, 10)])
         for table, reads in ((None, True), ((50, 60, 40), False)):
-            copy = Copy("a", 0, 100, "mov", container=container, structure=Structure(table=table))
+            copy = Copy("a", 0, 100, "mov", probed=container, structure=Structure(table=table))
             self.assertEqual(can_be_read(copy, Layout(100, [], [], []), 0), reads)
 
     def test_a_container_that_nobody_knows(self):

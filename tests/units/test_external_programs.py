@@ -5,7 +5,7 @@ import threading
 import unittest
 
 from mend_reel.model import Fault
-from mend_reel.program.external_programs import of_each
+from mend_reel.engine.external_programs import of_each
 from . import made  # noqa: F401, it finds the package
 
 

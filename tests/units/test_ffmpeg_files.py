@@ -4,7 +4,7 @@ import unittest
 from unittest import mock
 
 from mend_reel.containers import ffmpeg_files, own_checks, stretch_builder
-from mend_reel.containers.ffprobe import Container, Packet
+from mend_reel.containers.ffprobe import Packet, Probed
 from mend_reel.model import Claims, Content, Frame, Kind, Track
 from . import made
 from .framed import SOUND, VIDEO, frame, judge
@@ -34,8 +34,8 @@ class FlacTest(unittest.TestCase):
         """What the packets of a track of FLAC are, whose first bytes each copy has so."""
         copies = [made.damaged(made.noise(1, 200), (50, head)) for head in heads]
         tracks = [TRACK, dataclasses.replace(SOUND, is_flac=True)]
-        container = Container(form, tracks, Claims(), [packet(0, 10, 30), packet(0, 50, 40, 2), packet(0, 90, 40, 2)])
-        with made.opened(*copies) as opened, mock.patch.object(ffmpeg_files, "contain", lambda copy: container):
+        container = Probed(form, tracks, Claims(), [packet(0, 10, 30), packet(0, 50, 40, 2), packet(0, 90, 40, 2)])
+        with made.opened(*copies) as opened, mock.patch.object(ffmpeg_files, "probe", lambda copy: container):
             return [(each.kind, each.start, each.size) for each in ffmpeg_files.layout(opened).stretches if each.what.content is Content.SOUND]
 
     def test_packets_that_begin_with_a_head_in_some_copy(self):
@@ -63,7 +63,7 @@ class ProbeTest(unittest.TestCase):
     def layout(self, contents, containers, judged=None):
         with made.opened(*contents) as copies:
             known = {copy.path: container for copy, container in zip(copies, containers)}
-            with mock.patch.object(ffmpeg_files, "contain", lambda copy: known[copy.path]):
+            with mock.patch.object(ffmpeg_files, "probe", lambda copy: known[copy.path]):
                 layout = ffmpeg_files.layout(copies, judged)
         self.assertEqual(sum(stretch.size for stretch in layout.stretches), layout.size)
         end = 0
@@ -76,7 +76,7 @@ class ProbeTest(unittest.TestCase):
         return layout
 
     def container(self, *packets, form="nut", claims=Claims()):
-        return Container(form, [TRACK, SOUND], claims, list(packets))
+        return Probed(form, [TRACK, SOUND], claims, list(packets))
 
     def test_frames_sound_and_what_lies_between(self):
         container = self.container(packet(0, 50, 30), packet(0, 80, 20, 2), packet(0.02, 100, 20, 2), packet(0.04, 130, 30))
@@ -119,7 +119,7 @@ class ProbeTest(unittest.TestCase):
         self.assertEqual(max(each.size for each in layout.stretches), stretch_builder.MOST_PLAIN)
 
     def test_frames_of_all_streams(self):
-        both = Container("nut", [TRACK, dataclasses.replace(TRACK, number=1)], Claims(), [packet(0, 50, 30), packet(0, 90, 30, 1)])
+        both = Probed("nut", [TRACK, dataclasses.replace(TRACK, number=1)], Claims(), [packet(0, 50, 30), packet(0, 90, 30, 1)])
         self.assertEqual([each.track for each in self.layout([made.noise(1, 200)], [both]).frames], [0, 1])
 
     def test_frames_of_an_avi_file_are_counted_anew_where_one_was_hidden(self):
@@ -137,5 +137,5 @@ class ProbeTest(unittest.TestCase):
         self.assertEqual(self.layout([made.noise(1, 200)] * 3, containers).claims.duration, 2.0)
 
     def test_a_file_without_frames(self):
-        layout = self.layout([made.noise(1, 200)], [Container()])
+        layout = self.layout([made.noise(1, 200)], [Probed()])
         self.assertEqual((layout.frames, layout.tracks, len(layout.stretches)), ([], [], 1))

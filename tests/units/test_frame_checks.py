@@ -6,7 +6,7 @@ import tempfile
 import unittest
 
 from mend_reel.containers.own_checks import has_only_sizes, passes, share_slice, slices
-from mend_reel.judging.frame_checks import Judged, Scan, part_overlaps, read_line
+from mend_reel.engine.frame_checks import Judged, Scan, part_overlaps, read_line
 from mend_reel.model import Fault
 from . import made  # noqa: F401
 from .framed import frame, judge, parity, slice_of

@@ -89,6 +89,55 @@ class DigestTest(unittest.TestCase):
             with self.assertRaises(Fault):
                 self.compare(lines, copies=copies)
 
+    def line_of(self, lines, path, name="sums"):
+        """The digest of the line of a file in a manifest that lies in a folder `bag`."""
+        (self.folder / "bag").mkdir(exist_ok=True)
+        manifest = str(self.folder / "bag" / name)
+        pathlib.Path(manifest).write_text(lines)
+        return kept_digests.line_of(kept_digests.entries(manifest), path, manifest).digest
+
+    def test_the_line_of_a_file_in_a_manifest(self):
+        one, two, three = (hashlib.sha256(bytes([number])).hexdigest() for number in range(3))
+        lines = f"{one}  data/a.mkv\n{two}  data/more/a.mkv\n{three}  ./b.mkv\n"
+        bag = str(self.folder / "bag")
+        for path, digest in ((f"{bag}/data/a.mkv", one), (f"{bag}/data/more/a.mkv", two), (f"{bag}/b.mkv", three), (f"{bag}/data/../b.mkv", three),
+                             ("data/a.mkv", one), ("./b.mkv", three), ("/far/more/a.mkv", two), ("/far/data/more/a.mkv", two), ("/far/b.mkv", three)):
+            self.assertEqual(self.line_of(lines, path), digest, path)
+
+    def test_the_line_from_the_manifests_folder_comes_first(self):
+        one, two = (hashlib.sha256(bytes([number])).hexdigest() for number in range(2))
+        self.assertEqual(self.line_of(f"{one}  a.mkv\n{two}  {self.folder}/bag/data/a.mkv\n", f"{self.folder}/bag/a.mkv"), one)
+        os.symlink(self.folder / "bag", self.folder / "link")
+        self.assertEqual(self.line_of(f"{one}  a.mkv\n{two}  data/a.mkv\n", f"{self.folder}/link/data/a.mkv"), two)
+
+    def test_what_a_manifest_does_not_say_of_a_file(self):
+        lines = f"{OTHER}  one/a.mkv\n{SHA256}  two/a.mkv\n{SHA256}  b.mkv\n{OTHER}  b.mkv\n"
+        for path, fault in (("c.mkv", "sums does not name c.mkv"), ("/x/aa.mkv", "does not name"), ("b.mkv", "sums has two digests of b.mkv"),
+                            ("/x/a.mkv", "sums has several lines that may be of /x/a.mkv: those of one/a.mkv and of two/a.mkv")):
+            with self.assertRaisesRegex(Fault, fault):
+                self.line_of(lines, path)
+
+    def test_the_manifest_of_a_bag(self):
+        sha512 = hashlib.sha512(CONTENT).hexdigest()
+        for name, line, path in (("manifest-sha256.txt", f"{SHA256} data/a.mkv", "data/a.mkv"), ("manifest-md5.txt", f"{MD5}\t *data/a b.mkv", "data/a b.mkv"),
+                                 ("manifest-sha1.txt", f"{SHA1.upper()}   data/100%25.mkv", "data/100%.mkv"), ("tagmanifest-sha512.txt", f"{sha512}  a", "a"),
+                                 ("manifest-sha256.txt", f"{SHA256}  data/a%0Ab%20c", "data/a\nb%20c")):
+            digest = self.line_of(line + "\n", f"{self.folder}/bag/{path}", name)
+            self.assertEqual(digest, hashlib.new(kept_digests.ALGORITHMS[len(digest)], CONTENT).hexdigest())
+        for name, line in (("manifest-sha512.txt", f"{SHA256}  a.mkv"), ("manifest-sha256.txt", "a.mkv"), ("manifest-crc32.txt", f"{'0' * 8}  a.mkv")):
+            with self.assertRaisesRegex(Fault, "does not name"):
+                self.line_of(line + "\n", "a.mkv", name)
+
+    def test_a_file_that_is_checked_is_judged_by_its_line(self):
+        kept, part = self.folder / "kept", str(self.folder / "part")
+        kept.write_text(f"{OTHER}  one/part\n{SHA256}  part\n")
+        self.assertTrue(kept_digests.compare(str(kept), part, part, [part]).is_original)
+        kept.write_text(f"{OTHER}  a.mkv\n{SHA256}  b.mkv\n")
+        with self.assertRaisesRegex(Fault, "kept does not name .*part"):
+            kept_digests.compare(str(kept), part, part, [part])
+        kept.write_text(f"{SHA256}  another.mkv\n")
+        self.assertTrue(kept_digests.compare(str(kept), part, part, [part]).is_original)
+
     def test_a_long_line_is_refused(self):
         with self.assertRaisesRegex(Fault, "too long"):
             self.compare(b"x" * (1 << 17))

@@ -2,7 +2,8 @@
 import contextlib
 import unittest
 
-from mend_reel.copies.known_wrong import drop_broken, spans_in, without_unread
+from mend_reel.copies.known_wrong import drop_broken
+from mend_reel.judging.unread import spans_in, without_unread
 from mend_reel.model import Content, Copy, Kind, Stretch, What
 from . import made
 
@@ -18,7 +19,7 @@ def cut(kind, places, *copies, start=100, size=60, own=None):
 
 class UnreadTest(unittest.TestCase):
     def test_spans_between_two_places(self):
-        one = copy((10, 20), (30, 40), (50, 60))
+        one = copy((10, 20), (30, 40), (50, 60)).unread
         self.assertEqual(spans_in(one, 20, 30), [])
         self.assertEqual(spans_in(one, 19, 31), [(19, 20), (30, 31)])
         self.assertEqual(spans_in(one, 0, 99), [(10, 20), (30, 40), (50, 60)])
@@ -53,9 +54,15 @@ class UnreadTest(unittest.TestCase):
             (100, 110, (None, 100), True, False), (110, 120, (110, None), False, True), (120, 160, (120, None), True, False)])
         self.assertEqual(cut(Kind.PLAIN, (100,), copy((90, 300))), [(100, 160, (100,), False, True)])
 
+    def test_long_filling_counts_as_unread(self):
+        one = Copy("", 0, 1000, filling=((90, 160),))
+        self.assertEqual(cut(Kind.PLAIN, (100, 100), one, copy()), [(100, 160, (None, 100), True, False)])
+        self.assertEqual(cut(Kind.PLAIN, (100, 100), one, one), [(100, 160, (100, 100), False, False)])
+        self.assertEqual(cut(Kind.PLAIN, (100, 100), one, copy((0, 999))), [(100, 160, (100, None), True, False)])
+
     def test_a_frame_is_not_cut(self):
         self.assertEqual(cut(Kind.FRAME, (100, 100), copy((110, 120)), copy()), [(100, 160, (100, 100), False, False)])
-        self.assertEqual(cut(Kind.FRAME, (100, 100), copy((90, 160)), copy()), [(100, 160, (None, 100), True, False)])
+        self.assertEqual(cut(Kind.FRAME, (100, 100), copy((90, 160)), copy()), [(100, 160, (100, 100), False, False)])
         self.assertEqual(cut(Kind.ELEMENT, (100, 100), copy((90, 160)), copy((0, 999))), [(100, 160, (100, 100), False, False)])
 
 

@@ -7,8 +7,10 @@ import unittest
 from unittest import mock
 
 from mend_reel.containers import elements, matroska
+from mend_reel.containers.files import form_of
 from mend_reel.model import Content, Kind, Layout, Stretch
 from . import framed, made
+from .test_structure import NUT, avi
 
 REEL, PLAIN_REEL = made.reel(), made.reel(crc=False)
 
@@ -94,8 +96,9 @@ class Undamaged(Case):
 
     def test_size(self) -> None:
         after = REEL + b"after the end"
-        self.covered(layout(after), len(after))
-        self.assertEqual(layout(after).gaps, [])
+        self.covered(layout(after), len(REEL))
+        self.assertEqual((layout(after).gaps, layout(after).end), ([], len(REEL)))
+        self.covered(layout(REEL + REEL), len(REEL))
         self.covered(layout(REEL, after), len(REEL))
         short = layout(REEL[:-100], REEL[:-200])
         self.covered(short, len(REEL) - 100)
@@ -354,17 +357,20 @@ class AllCopiesDamaged(Case):
 class Kinds(unittest.TestCase):
     def is_matroska(self, *contents: bytes) -> bool:
         with made.opened(*contents) as copies:
-            return matroska.is_matroska(copies)
+            return {form_of(copy) for copy in copies} == {"matroska"}
 
     def test_kinds(self) -> None:
         self.assertTrue(self.is_matroska(REEL))
         self.assertTrue(self.is_matroska(made.ebml_header(b"webm") + REEL[len(made.ebml_header()):]))
         self.assertTrue(self.is_matroska(made.damaged(REEL, REEL.index(b"matroska"))))
-        self.assertFalse(self.is_matroska(made.ebml_header(b"other") + made.noise(1, 4000)))
         self.assertTrue(self.is_matroska(made.damaged(REEL, (0, bytes(512)))))
         self.assertTrue(self.is_matroska(made.damaged(REEL, (0, bytes(512))), REEL))
         for other in (b"", b"RIFF" + made.noise(1, 4000), bytes(4000), made.noise(2, 4000)):
             self.assertFalse(self.is_matroska(other))
+
+    def test_a_piece_of_matroska_within_another_container_is_content(self) -> None:
+        self.assertFalse(self.is_matroska(avi(more=REEL)))
+        self.assertFalse(self.is_matroska(NUT + REEL))
 
 
 

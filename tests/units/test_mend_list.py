@@ -7,8 +7,8 @@ import tempfile
 import typing
 import unittest
 
-from mend_reel.model import Content, Frame, Kind, Stretch, What
-from mend_reel.program import mend_run as mend_list
+from mend_reel.engine import mend_run as mend_list
+from mend_reel.model import Content, Fault, Frame, Kind, Stretch, What
 
 Places = typing.Tuple[typing.Optional[int], ...]
 
@@ -48,7 +48,7 @@ class Lines(unittest.TestCase):
         self.assertEqual([each.source for each in listed], [0, 1, 0, 1])
 
     def test_a_stretch_that_no_copy_has_is_a_mistake(self) -> None:
-        with self.assertRaises(AssertionError):
+        with self.assertRaisesRegex(Fault, "^no copy has the bytes from 10 on"):
             write(stretch(Kind.PLAIN, 10, 10, (None, None)))
 
     def test_source_that_lacks_it(self) -> None:

@@ -6,7 +6,7 @@ import tempfile
 import unittest
 
 from mend_reel.model import Content, Fault, Kind, Outcome, SliceReport, State, Stretch, What, open_copy
-from mend_reel.program.mend_run import ReportReader, mend
+from mend_reel.engine.mend_run import ReportReader, mend
 
 LINES = b"""stretch 1 crc32 whole 11-
 stretch 2 crc32 woven 2 00-

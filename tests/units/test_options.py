@@ -37,6 +37,7 @@ class OptionsTest(unittest.TestCase):
     def test_check_has_no_out(self):
         options = read(["--check", "a", "--report", "page"])
         self.assertEqual((options.out, options.copies, options.made()), (None, ("a",), ["page"]))
+        self.assertEqual(read(["--check", "--digest", "sums", "a", "b"]).read(), ["sums"])
 
     def test_all_that_is_made(self):
         self.assertEqual(read(["out", "a", "--json", "j", "--report", "r"]).made(), ["out", "r", "j"])
@@ -58,7 +59,6 @@ class OptionsTest(unittest.TestCase):
             (["-o", "out", "a", ""], "a name is empty"),
             (["--check", "-o", "x", "a"], "argument -o: not allowed with argument --check"),
             (["--check", "--map", "b=x", "a"], "argument --map: b=x is not the name of a copy, =, and its map"),
-            (["--check", "--digest", "x", "a", "b"], "argument --digest: with --check there must be one copy"),
             (["-o", "out", "a", "--map", "b=x"], "argument --map: b=x is not the name of a copy, =, and its map"),
             (["-o", "out", "a", "--map", "a="], "argument --map: a= is not the name of a copy, =, and its map"),
             (["-o", "out", "a", "--map", "a=x", "--map", "a=y"], "argument --map: a has two maps"),

@@ -1,12 +1,15 @@
 """Files that are made as parts, and what names stand for."""
+import fcntl
 import os
 import pathlib
 import tempfile
 import unittest
+from unittest import mock
 
 from mend_reel.model import Fault
 from mend_reel.program import output_files
-from mend_reel.program.output_files import Files, check_room, descriptor_of, front_of, holds_data, is_same, is_written_to, leftovers
+from mend_reel.program.output_files import (Files, check_room, descriptor_of, front_of, holds_data, is_held, is_recording, is_same,
+                                            is_written_to, parts_of)
 
 
 class InFolder(unittest.TestCase):
@@ -64,12 +67,72 @@ class FilesTest(InFolder):
         finally:
             os.umask(umask)
 
-    def test_leftovers_are_those_of_the_same_name(self):
+    def test_parts_are_those_of_the_same_name(self):
         files, others = Files(), Files()
         part = self.make(files, self.path, b"abc").part
         self.make(others, str(self.folder / "out 1.mkv"), b"abc")
         (self.folder / "out [1].mkv.notes.part").write_bytes(b"")
-        self.assertEqual(leftovers(self.path), [part])
+        self.assertEqual(parts_of(self.path), [part])
+
+    def test_a_part_is_held_until_it_has_its_place(self):
+        files = Files()
+        output = self.make(files, self.path, b"abc")
+        self.assertIs(is_held(output.part), True)
+        files.settle(output)
+        self.assertIs(is_held(self.path), False)
+        self.assertIsNone(is_held(output.part))
+        files.remove()
+
+    def test_the_second_of_two_at_one_place_is_refused_and_leaves_nothing(self):
+        first, second, others = Files(), Files(), Files()
+        output = self.make(first, self.path, b"abc")
+        with self.assertRaisesRegex(Fault, r"another run makes .*out \[1\].mkv now: it holds .*out \[1\].mkv.\w{8}.part"):
+            second.make(self.path, str(self.work))
+        second.remove()
+        self.assertEqual((self.names(), first.left, second.left), ([os.path.basename(output.part)], [], []))
+        others.make(str(self.folder / "out"), str(self.work))
+        first.remove()
+        second.make(self.path, str(self.work))
+        self.assertEqual(second.left, [])
+        others.remove()
+        second.remove()
+
+    def test_a_part_that_nobody_holds_was_left(self):
+        part = self.folder / "out [1].mkv.abcdefgh.part"
+        part.write_bytes(b"ab")
+        files = Files()
+        self.make(files, self.path, b"abc")
+        self.assertEqual(files.left, [str(part)])
+        files.remove()
+        self.assertEqual(self.names(), [part.name])
+
+    def test_what_can_not_be_known_is_neither_held_nor_left(self):
+        os.symlink("none", self.folder / "out [1].mkv.abcdefgh.part")
+        files = Files()
+        self.make(files, self.path, b"abc")
+        self.assertEqual(files.left, [])
+        files.remove()
+
+    def test_where_a_lock_keeps_others_from_writing_nothing_is_held(self):
+        part = self.folder / "out [1].mkv.abcdefgh.part"
+        part.write_bytes(b"ab")
+        files, opened = Files(), open
+        with mock.patch("builtins.open", lambda path, *more, **named: opened("/dev/full" if path.endswith(".part") else path, *more, **named)):
+            output = files.make(self.path, str(self.work))
+        self.assertEqual((is_held(output.part), files.left), (False, []))
+        files.remove()
+        self.assertEqual(self.names(), [part.name])
+
+    def test_a_folder_that_something_else_holds_costs_a_moment(self):
+        other = os.open(self.folder, os.O_RDONLY)
+        fcntl.flock(other, fcntl.LOCK_EX)
+        files = Files()
+        try:
+            with mock.patch.object(output_files, "PAUSE", 0):
+                files.settle(self.make(files, self.path, b"abc"))
+        finally:
+            os.close(other)
+        self.assertEqual(self.names(), ["out [1].mkv"])
 
     def test_longest_name_can_be_made(self):
         files = Files()
@@ -77,6 +140,8 @@ class FilesTest(InFolder):
         files.settle(self.make(files, path, b"abc"))
         self.assertEqual(self.names(), ["ü" * 127])
         self.assertLess(len(os.fsencode(front_of(path))), 210)
+        self.assertNotEqual(front_of("a" * 240 + "1.mkv"), front_of("a" * 240 + "2.mkv"))
+        self.assertEqual(front_of("a" * 200), "a" * 200 + ".")
 
     def test_folders_that_were_made_are_removed(self):
         files = Files()
@@ -130,6 +195,31 @@ class LinksTest(InFolder):
         os.symlink("hard", str(self.folder / "soft"))
         self.assertEqual([is_same(one, str(self.folder / name)) for name in ("one", "hard", "soft", "other", "none")],
                          [True, True, True, False, False])
+
+
+class RecordingTest(InFolder):
+    def test_recordings_begin_as_containers_do(self):
+        heads = [b"\x1aE\xdf\xa3\x93", b"RIFF\x10\0\0\0AVI ", b"nut/multimedia container\0", b"\x06\x0e\x2b\x34\x02\x05\x01\x01",
+                 *(b"\0\0\0\x14" + name for name in (b"ftypqt  ", b"moov", b"mdat", b"wide"))]
+        others = [b"", b"{\n \"format\"", b"<!DOCTYPE html>", b"plain 20 1 0", b"\x89PNG\r\n\x1a\n\0\0\0\rIHDR", b"ftypqt  ", b"\0" * 600]
+        for content, is_one in [*((head, True) for head in heads), *((head, False) for head in others)]:
+            (self.folder / "file").write_bytes(content)
+            self.assertIs(is_recording(str(self.folder / "file")), is_one, content)
+
+    def test_one_that_lost_its_start_is_known_by_its_name(self):
+        for name, content, is_one in (("a.MKV", b"\0", True), ("a.avi", b"\0", True), ("a.mov", b"", False), ("a.html", b"\0", False)):
+            (self.folder / name).write_bytes(content)
+            self.assertIs(is_recording(str(self.folder / name)), is_one, name)
+
+    def test_it_is_known_by_any_name(self):
+        (self.folder / "a").write_bytes(b"\x1aE\xdf\xa3")
+        (self.folder / "b.mkv").mkdir()
+        os.symlink("a", self.folder / "soft")
+        os.symlink("none", self.folder / "c.mkv")
+        self.assertEqual([is_recording(str(self.folder / name)) for name in ("soft", "b.mkv", "c.mkv", "d.mkv")], [True, False, False, False])
+        with open(self.folder / "a", "ab") as file:
+            self.assertTrue(is_recording(f"/dev/fd/{file.fileno()}"))
+        self.assertFalse(is_recording("/dev/null"))
 
 
 class WrittenToTest(InFolder):

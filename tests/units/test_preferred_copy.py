@@ -139,16 +139,23 @@ class Rules(Case):
 
 
 class Lost(unittest.TestCase):
-    def places(self, *contents: bytes) -> typing.Sequence[typing.Optional[int]]:
+    def seems_lost(self, stretch: Stretch, *contents: bytes) -> typing.List[bool]:
+        """Of each copy whether it seems to have lost a sector there."""
         with made.opened(*contents) as copies:
-            return known_wrong.without_lost(plain(1024, 1536, len(contents)), copies).places
+            numbers = range(len(copies))
+            return [known_wrong.has_lost_sector(stretch, copies, number, numbers) for number in numbers]
 
-    def test_where_two_others_agree_a_lost_sector_is_no_version(self) -> None:
-        zero, other = made.damaged(NOISE, (1024, bytes(512))), made.damaged(NOISE, 1100)
-        self.assertEqual(self.places(NOISE, zero, NOISE), (1024, None, 1024))
-        self.assertEqual(self.places(zero, NOISE, made.damaged(NOISE, (1024, b"\xff" * 512)), NOISE), (None, 1024, None, 1024))
-        for contents in ([zero, NOISE], [zero, NOISE, other], [zero, zero, NOISE], [NOISE, NOISE, other]):
-            self.assertEqual(self.places(*contents), (1024,) * len(contents))
+    def test_a_sector_of_one_value_where_another_copy_has_more(self) -> None:
+        zero = made.damaged(NOISE, (1024, bytes(512)))
+        self.assertEqual(self.seems_lost(plain(1024, 1536, 3), NOISE, zero, NOISE), [False, True, False])
+        self.assertEqual(self.seems_lost(plain(1024, 1536, 2), zero, made.damaged(NOISE, (1024, b"\xff" * 512))), [False, False])
+
+    def test_a_run_that_goes_on_in_all_copies_is_content(self) -> None:
+        silent = made.damaged(NOISE, (512, bytes(2048)))
+        stretch = dataclasses.replace(plain(1024, 1100, 2), part_of=(512, 2560))
+        self.assertEqual(self.seems_lost(stretch, silent, made.damaged(silent, *range(1024, 1100))), [False, False])
+        # It begins with the part and goes to its end in all copies.
+        self.assertEqual(self.seems_lost(dataclasses.replace(stretch, part_of=(1024, 1100)), silent, made.damaged(silent, *range(1024, 1100))), [True, False])
 
 
 class Sectors(unittest.TestCase):

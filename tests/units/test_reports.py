@@ -15,11 +15,11 @@ from mend_reel.copies.arrangement import Matched
 from mend_reel.judging.kept_digests import Compared
 from mend_reel.judging.reasons import Why
 from mend_reel.judging.results import FrameState, NearEnd
-from mend_reel.judging.verdict import Evidence, judge
+from mend_reel.mending.verdict import Evidence, judge
 from mend_reel.model import Because, Content, Kind, Outcome, SliceReport, State
 from mend_reel.reports import json_document, page, timeline
 from mend_reel.reports.pictures import Drawn, Tiles
-from mend_reel.reports.summary import CopySummary, Role, Summary
+from mend_reel.reports.summary import CopySummary, Role, Summary, Unreadable
 from mend_reel.reports.timeline import COLUMNS, Shade, Timeline
 from .test_verdict import element, missing, plain, recording, repaired, settled, undivided, voted
 
@@ -33,6 +33,10 @@ def summary(layout, *outcomes, out=True, copies=2, compared=None, **more):
     of_copies = [CopySummary(f"/films/copy-{number}.mkv", layout.size, "matroska", verified=layout.size // 2) for number in range(copies)]
     return Summary("2026-11-26T12:00:00Z", {"mend-reel": "0.2.0"}, ["mend-reel", "out.mkv", "a<b>.mkv"], of_copies,
                    CopySummary("/films/out.mkv", layout.size, "matroska", sha256="ab" * 32) if out else None, layout, judged, **more)
+
+
+def unreadable(path="/films/lost.mkv"):
+    return Unreadable("2026-11-26T12:00:00Z", {"mend-reel": "0.2.0"}, ["mend-reel"], path, f"cannot read {path}: Input/output error")
 
 
 class Strict(html.parser.HTMLParser):
@@ -121,7 +125,7 @@ class MachineTest(unittest.TestCase):
 class SchemaTest(unittest.TestCase):
     def document(self):
         file = io.StringIO()
-        json_document.write(file, [summary(recording(), *DAMAGED, notes=["a note"]), summary(recording(), out=False)])
+        json_document.write(file, [summary(recording(), *DAMAGED, notes=["a note"]), summary(recording(), out=False), unreadable()])
         return json.loads(file.getvalue())
 
     def test_the_schema_names_the_words_of_the_program_and_no_others(self):
@@ -141,7 +145,19 @@ class SchemaTest(unittest.TestCase):
 
     def test_several_files_are_one_document(self):
         made = self.document()
-        self.assertEqual((schema.faults(made), len(made["files"]), made["files"][1]["out"]), ("", 2, None))
+        self.assertEqual((schema.faults(made), len(made["files"]), made["files"][1]["out"]), ("", 3, None))
+
+    def test_a_file_that_could_not_be_judged_has_its_entry(self):
+        for entries in ([unreadable()], [unreadable(), summary(recording(), out=False)]):
+            file = io.StringIO()
+            json_document.write(file, entries)
+            made = json.loads(file.getvalue())
+            self.assertEqual((schema.faults(made), made["date"], len(made["files"])), ("", "2026-11-26T12:00:00Z", len(entries)))
+            self.assertEqual(made["files"][0], {"path": "/films/lost.mkv", "path_hex": None, "status": 1,
+                                                "fault": "cannot read /films/lost.mkv: Input/output error"})
+        file = io.StringIO()
+        json_document.write(file, [unreadable(os.fsdecode(b"/\xff.mkv"))])
+        self.assertEqual((schema.faults(json.loads(file.getvalue())), json.loads(file.getvalue())["files"][0]["path_hex"]), ("", "2fff2e6d6b76"))
 
     def test_the_schema_refuses_other_documents(self):
         changes = [
@@ -150,7 +166,8 @@ class SchemaTest(unittest.TestCase):
             lambda made: made["files"][0]["stretches"][0].update(state="good"), lambda made: made["files"][0]["stretches"][0].update(range=[1]),
             lambda made: made["files"][0]["copies"][0].update(copy=0), lambda made: made["files"][0]["copies"][0].update(sha256="ab"),
             lambda made: made["files"][0]["verdict"].update(status=1), lambda made: made["files"][0]["verdict"]["reasons"][0].update(times=[1, 2, 3]),
-            lambda made: made["files"][0]["stretches"][0]["frames"][0]["slices"][0].pop("given_by"), lambda made: made.update(files=[])]
+            lambda made: made["files"][0]["stretches"][0]["frames"][0]["slices"][0].pop("given_by"), lambda made: made.update(files=[]),
+            lambda made: made["files"][2].pop("fault"), lambda made: made["files"][2].update(status=3), lambda made: made["files"][2].update(out=None)]
         for change in changes:
             made = self.document()
             change(made)
@@ -207,6 +224,13 @@ class PageTest(unittest.TestCase):
         _, words = self.page(summary(recording(), *DAMAGED))
         self.assertIn("Other damage", words)
         self.assertEqual(words.count("frames and sound"), 1)
+
+    def test_a_share_of_a_copy_is_not_rounded_to_all(self):
+        made = summary(recording(), *DAMAGED)
+        for copy, verified in zip(made.copies, (9996, 10000)):
+            copy.size, copy.verified = 10000, verified
+        text, _ = self.page(made)
+        self.assertEqual((text.count(">99.9 %<"), text.count(">100 %<"), text.count("100.0 %")), (1, 1, 0))
 
     def test_names_are_no_markup(self):
         made = summary(recording(), *DAMAGED)
@@ -274,11 +298,26 @@ class PageTest(unittest.TestCase):
 
     def test_files_that_are_checked_are_one_page(self):
         file = io.StringIO()
-        page.write(file, [summary(recording(), *DAMAGED, out=False, copies=1), summary(recording(), out=False, copies=1)])
+        good, bad = summary(recording(), out=False, copies=1), summary(recording(), *DAMAGED, out=False, copies=1)
+        good.copies[0].path, bad.copies[0].path = "/films/good<.mkv", "/films/bad.mkv"
+        page.write(file, [good, bad, unreadable()])
         seen = Strict()
         seen.feed(file.getvalue())
         seen.close()
-        self.assertEqual((seen.open, file.getvalue().count("<h1>"), file.getvalue().count("<!DOCTYPE"), file.getvalue().count("<footer>")), ([], 2, 1, 1))
+        self.assertEqual((seen.open, file.getvalue().count("<h1>"), file.getvalue().count("<!DOCTYPE"), file.getvalue().count("<footer>")), ([], 4, 1, 1))
+        # The table of all files comes first, the worst of them first, and each row leads to the file's own part.
+        self.assertEqual(seen.links, ["#file-3", "#file-2", "#file-1"])
+        self.assertEqual(re.findall(r'<section id="([^"]*)"><h1>([^<]*)</h1>', file.getvalue()),
+                         [("file-1", "/films/good&lt;.mkv"), ("file-2", "/films/bad.mkv"), ("file-3", "/films/lost.mkv")])
+        table, _ = file.getvalue().split('<section id="file-1">')
+        self.assertIn("3 files: 1 undamaged, 1 damaged, 1 unreadable", table)
+        order = [table.index(f">{state}<") for state in ("unreadable", "damaged", "undamaged")]
+        self.assertEqual(order, sorted(order))
+        self.assertIn("/films/lost.mkv could not be judged: cannot read /films/lost.mkv: Input/output error", table)
+
+    def test_one_file_has_no_table_of_files(self):
+        text, words = self.page(summary(recording(), out=False, copies=1))
+        self.assertEqual((text.count("<h1>"), text.count("<a "), "What was found" in words), (1, 0, False))
 
 
 class TimelineTest(unittest.TestCase):

@@ -96,12 +96,15 @@ class PlainTest(InToyFolder):
         whole = matroska([(0.04 * number, payload) for number, payload in enumerate(FRAMES)], crc=False)
         whole = made.ebml_header() + made.element(made.SEGMENT, whole[len(made.ebml_header()) + 6 :], made.element(made.VOID, made.noise(5, 1133)))
         status, lines, out = self.run_on(whole, whole[:-1])
+        self.assertEqual((status, out), (0, whole))
+        spoilt = made.damaged(whole, whole.index(FRAMES[3]) + 30)
+        status, lines, out = self.run_on(spoilt, whole[:-1])
         self.assertEqual((status, out), (3, whole))
         self.assertIn(f"(bytes {len(whole) - 1} to {len(whole)}): copy 1 {ALONE}, 1 byte", lines)
         self.assertEqual(lines.count(ALONE), 1)
         lost = whole[:-1133] + bytes(1133)
         status, lines, _ = self.run_on(lost, whole[:-1])
-        self.assertEqual((status, lines.count(f"copy 1 {ALONE}, 1 byte")), (3, 1))
+        self.assertEqual((status, lines.count(ALONE)), (3, 0))
         self.assertIn("the copies differ", lines)
 
     def test_frames_that_tables_of_fragments_count_and_out_does_not_show(self) -> None:
@@ -123,9 +126,9 @@ class PlainTest(InToyFolder):
         for contents in ([one, other], [other, one]):
             status, lines, _ = self.run_on(*contents)
             reasons = [line for line in lines.splitlines()[1:] if "a further copy" in line]
-            self.assertEqual((status, [line for line in reasons if ALONE not in line]), (3, []))
+            self.assertEqual((status, reasons), (0, []))
             self.assertNotIn("96000", lines)
-            self.assertNotIn(GOOD, lines)
+            self.assertIn(GOOD, lines)
 
     def test_it_is_said_where_the_parts_of_a_file_are_not_walked(self) -> None:
         walked = mov(FRAMES, atom(b"moov", trak(1, len(FRAMES)) + trak(2, 5)))

@@ -3,11 +3,12 @@ import contextlib
 import pathlib
 import unittest
 
-from mend_reel.containers import ffprobe, matroska, structure
-from mend_reel.containers.structure import Flaw, Found
+from mend_reel.containers import ffprobe, matroska, matroska_checks, mxf, nut
+from mend_reel.containers.known import KNOWN, structure_of
 from mend_reel.containers.own_checks import passes_as_record
+from mend_reel.containers.structure import Flaw, Found
 from . import made
-from .framed import frame, matroska as reel
+from .framed import frame, matroska as reel, parity
 
 REEL = reel([(0.04 * number, frame(number, 200, 150 + number)) for number in range(5)])
 
@@ -16,21 +17,33 @@ def chunk(name, content, size=None):
     return name + (len(content) if size is None else size).to_bytes(4, "little") + content + bytes(len(content) % 2)
 
 
-def avi(frames=4, length=4, entries=4, more=b""):
-    """An AVI file with one video stream."""
+def avi(frames=4, length=4, entries=None, more=b"", base=4):
+    """An AVI file with one video stream, whose index has so many entries, which count from the list's name or from a place."""
     strh = chunk(b"strh", b"vids" + bytes(28) + length.to_bytes(4, "little") + bytes(20))
-    hdrl = chunk(b"LIST", b"hdrl" + chunk(b"avih", bytes(56)) + chunk(b"LIST", b"strl" + strh))
+    avih = bytes(16) + length.to_bytes(4, "little") + bytes(4) + (1).to_bytes(4, "little") + bytes(28)
+    hdrl = chunk(b"LIST", b"hdrl" + chunk(b"avih", avih) + chunk(b"LIST", b"strl" + strh))
     movi = chunk(b"LIST", b"movi" + b"".join(chunk(b"00dc", made.noise(number, 99)) for number in range(frames)))
-    return chunk(b"RIFF", b"AVI " + hdrl + chunk(b"JUNK", bytes(40)) + movi + chunk(b"idx1", bytes(16 * entries))) + more
+    index = b"".join(b"00dc" + (16).to_bytes(4, "little") + (base + 108 * number).to_bytes(4, "little") + (99).to_bytes(4, "little")
+                     for number in range(frames if entries is None else entries))
+    return chunk(b"RIFF", b"AVI " + hdrl + chunk(b"JUNK", bytes(40)) + movi + chunk(b"idx1", index)) + more
 
 
 def atom(name, content):
     return (8 + len(content)).to_bytes(4, "big") + name + content
 
 
-def trak(number, count, name=b"stsz"):
-    stbl = atom(b"stbl", atom(name, bytes(8) + count.to_bytes(4, "big") + bytes(4 * count)))
-    return atom(b"trak", atom(b"tkhd", bytes(12) + number.to_bytes(4, "big") + bytes(68)) + atom(b"mdia", atom(b"minf", stbl)))
+def number(value):
+    return value.to_bytes(4, "big")
+
+
+def trak(track, count, place=None, size=4):
+    """A track of so many samples, which lie in one chunk at a place, if one is given."""
+    tables = atom(b"stsz", bytes(8) + number(count) + number(size) * count)
+    if place is not None:
+        tables += atom(b"stts", bytes(4) + number(1) + number(count) + number(3))
+        tables += atom(b"stsc", bytes(4) + number(1) + number(1) + number(count) + number(1)) + atom(b"stco", bytes(4) + number(1) + number(place))
+    media = atom(b"mdhd", bytes(16) + number(3 * count if place is not None else 0) + bytes(4)) + atom(b"minf", atom(b"stbl", tables))
+    return atom(b"trak", atom(b"tkhd", bytes(12) + number(track) + bytes(68)) + atom(b"mdia", media))
 
 
 def fragment(number, count):
@@ -38,14 +51,43 @@ def fragment(number, count):
     return atom(b"moof", atom(b"traf", atom(b"tfhd", bytes(4) + number.to_bytes(4, "big")) + run)) + atom(b"mdat", made.noise(number, 300))
 
 
-MOV = atom(b"ftyp", b"qt  ") + atom(b"mdat", made.noise(1, 900)) + atom(b"moov", trak(1, 4) + trak(2, 50))
-NUT = structure.NUT_ID + made.noise(3, 700) + structure.NUT_INDEX + b"\x20" + made.noise(4, 32)
+MOV = atom(b"ftyp", b"qt  ") + atom(b"mdat", made.noise(1, 900)) + atom(b"moov", trak(1, 4, 20) + trak(2, 50, 36))
+
+
+def variable(value):
+    """A number as NUT has it."""
+    parts = [value & 0x7F]
+    while value := value >> 7:
+        parts.append(0x80 | value & 0x7F)
+    return bytes(reversed(parts))
+
+
+def packet(start, *parts):
+    """A packet of a NUT file, which ends with its checksum."""
+    content = b"".join(parts)
+    return start + variable(len(content) + 4) + content + parity(content).to_bytes(4, "big")
+
+
+def nut_file(frames=4):
+    """A NUT file of a stream, with a syncpoint before each frame."""
+    flags = nut.KEY | nut.CODED_TIME | nut.OF_STREAM | nut.LARGE
+    codes = b"".join(map(variable, (flags, 6, 0, 1, 0, 0, 0, 255)))
+    made_ = nut.ID + packet(nut.MAIN, *map(variable, (3, 1, 2000, 1, 1, 25)), codes, variable(0)) + packet(nut.STREAM, made.noise(1, 30))
+    places = []
+    for at in range(frames):
+        places.append(len(made_) >> 4)
+        made_ += packet(nut.SYNCPOINT, variable(at), variable(0)) + b"\0" + variable(0) + variable(at) + variable(300) + made.noise(at, 300)
+    steps = [after - before for before, after in zip([0, *places], places)]
+    return made_ + packet(nut.INDEX, variable(frames), variable(frames), *map(variable, steps))
+
+
+NUT = nut_file()
 
 
 class StructureTest(unittest.TestCase):
     def read(self, content):
         with made.opened(content) as (copy,):
-            return structure.read(copy)
+            return structure_of(copy)
 
     def flaws(self, content):
         return [(found.flaw, found.start, found.end) for found in self.read(content).flaws]
@@ -57,7 +99,7 @@ class StructureTest(unittest.TestCase):
         self.assertEqual(self.read(b"none of these").flaws, [Found(Flaw.NOT_WALKED, 0, 13)])
 
     def test_what_an_mxf_file_is_made_of(self):
-        content = b"".join(structure.MXF_KEY + made.noise(number, 12) + size + bytes(4) for number, size in enumerate(
+        content = b"".join(mxf.KEY + made.noise(number, 12) + size + bytes(4) for number, size in enumerate(
             (b"\x04", b"\x81\x04", b"\x83\0\0\x04", b"\x88" + bytes(7) + b"\x04")))
         self.assertEqual((self.read(content).flaws, self.read(content).end), ([], len(content)))
         self.assertEqual(self.flaws(content[:-2]), [(Flaw.CUT, len(content) - 2, len(content))])
@@ -75,7 +117,7 @@ class StructureTest(unittest.TestCase):
         self.assertIn((Flaw.CUT, 500, len(avi())), self.flaws(avi()[:500]))
         self.assertIn((Flaw.CUT, len(MOV) - 9, len(MOV)), self.flaws(MOV[:-9]))
         self.assertEqual(self.flaws(MOV[:500]), [(Flaw.CUT, 500, 920), (Flaw.NO_TABLE, 0, 500)])
-        self.assertEqual(self.flaws(NUT[:600]), [(Flaw.NO_TABLE, 0, 600)])
+        self.assertEqual(self.flaws(NUT[:600])[-1], (Flaw.NO_TABLE, 0, 600))
         self.assertEqual(self.flaws(NUT[:-5]), [(Flaw.CUT, len(NUT) - 5, len(NUT))])
 
     def test_parts_that_lead_nowhere(self):
@@ -88,9 +130,9 @@ class StructureTest(unittest.TestCase):
     def test_more_parts_than_are_walked(self):
         content = MOV + atom(b"free", b"") * 40000
         with made.opened(content, MOV) as (copy, good):
-            stop = structure.read(copy).stop
+            stop = structure_of(copy).stop
             self.assertTrue(len(MOV) < stop < len(content))
-            self.assertEqual([each[:3] for each in structure.read(copy).flaws], [(Flaw.BROKEN, stop, len(content))])
+            self.assertEqual([each[:3] for each in structure_of(copy).flaws], [(Flaw.BROKEN, stop, len(content))])
             self.assertEqual(tuple(contextlib.ExitStack().enter_context(ffprobe.address(each)) for each in (copy, good)), (f"subfile,,start,0,end,{stop},,:{copy.path}", f"file:{good.path}"))
 
     def test_tables_to_which_no_part_leads(self):
@@ -98,17 +140,51 @@ class StructureTest(unittest.TestCase):
         table, place = MOV[MOV.index(b"moov") - 4 :], MOV.index(b"moov") - 4
         for content in (MOV[:200] + MOV[300:], MOV[:200] + MOV[100:], MOV[:200] + MOV[600:]):
             with made.opened(content) as (copy,), ffprobe.address(copy) as name:
-                found = structure.read(copy)
+                found = structure_of(copy)
                 self.assertEqual(found.table, (place, len(content) - len(table), len(table)))
                 self.assertTrue({each.flaw for each in found.flaws} < {Flaw.BROKEN, Flaw.CUT} and found.flaws)
                 seen = pathlib.Path(name.removeprefix("file:")).read_bytes()
                 self.assertEqual((seen[:60], seen[place:]), (MOV[:60], table))
         with made.opened(MOV, MOV[:500]) as copies:
-            self.assertEqual([structure.read(copy).table for copy in copies], [None, None])
+            self.assertEqual([structure_of(copy).table for copy in copies], [None, None])
+
+    def test_two_files_that_were_joined(self):
+        """The first one ends where it says so itself."""
+        for content in (avi(), MOV, NUT):
+            self.assertEqual(self.flaws(content + content), [(Flaw.AFTER_END, len(content), 2 * len(content))])
 
     def test_what_an_avi_file_counts(self):
         self.assertEqual(self.read(avi(entries=5)).flaws[0][0::3], (Flaw.COUNT, 4))
-        self.assertEqual(self.read(avi(frames=3, entries=3)).flaws, [Found(Flaw.COUNT, 0, len(avi(frames=3, entries=3)), 3, 4)])
+        self.assertEqual({(found.has, found.count) for found in self.read(avi(frames=3)).flaws}, {(3, 4), (0, 4)})
+
+    def test_where_the_index_of_an_avi_file_leads(self):
+        movie = avi().index(b"movi")
+        self.assertEqual(self.flaws(avi(base=movie + 4)), [])
+        for base in (5, movie, 4 + 108):
+            self.assertEqual([each[0] for each in self.flaws(avi(base=base))], [Flaw.INDEX])
+        place = avi().index(b"idx1") + 8
+        for at in (0, 9, 13, 16 * 3 + 8):
+            self.assertEqual([each[0] for each in self.flaws(made.damaged(avi(), place + at))], [Flaw.INDEX])
+
+    def test_each_byte_of_a_nut_file_but_those_of_frames(self):
+        frames = {place for at in range(4) for place in range(NUT.index(made.noise(at, 300)), NUT.index(made.noise(at, 300)) + 300)}
+        # The first byte of a frame, its stream and its time have no check of their own.
+        heads = {place for at in range(4) for place in range(NUT.index(made.noise(at, 300)) - 5, NUT.index(made.noise(at, 300)))}
+        for place in (place for place in range(len(NUT)) if place not in frames | heads):
+            self.assertTrue(self.flaws(made.damaged(NUT, place)), place)
+
+    def test_where_the_tables_of_a_mov_file_lead(self):
+        for place, count, size in ((19, 4, 4), (918, 4, 4), (24, 4, 4), (20, 4, 900)):
+            content = atom(b"ftyp", b"qt  ") + atom(b"mdat", made.noise(1, 900)) + atom(b"moov", trak(1, count, place, size) + trak(2, 50, 36))
+            self.assertEqual({each[0] for each in self.flaws(content)}, {Flaw.INDEX}, (place, size))
+        for name, at in ((b"stts", 15), (b"stsc", 19), (b"stsz", 15), (b"mdhd", 23)):
+            place = MOV.index(name) + at
+            self.assertTrue(self.flaws(made.damaged(MOV, place)), name)
+
+    def test_each_container_has_one_row(self):
+        self.assertEqual(sorted(each.name for each in KNOWN), ["avi", "matroska", "mov", "mxf", "nut"])
+        for content, name in ((avi(), "avi"), (MOV, "mov"), (NUT, "nut"), (REEL, "matroska")):
+            self.assertEqual([each.name for each in KNOWN if each.begins(content[:64])], [name])
 
     def test_what_the_tables_of_a_mov_file_count(self):
         self.assertEqual(self.read(MOV).counts, {0: 4, 1: 50})
@@ -121,7 +197,7 @@ class StructureTest(unittest.TestCase):
             with self.subTest(size=len(content)), made.opened(content) as (copy,):
                 read = []
                 copy.watch = read.append
-                self.assertTrue(structure.read(copy).flaws)
+                self.assertTrue(structure_of(copy).flaws)
                 self.assertLess(len(read), 30000)
 
     def test_lists_in_lists_without_end(self):
@@ -134,7 +210,7 @@ class StructureTest(unittest.TestCase):
 class MatroskaTest(unittest.TestCase):
     def flaws(self, content):
         with made.opened(content) as copies:
-            return [(each.flaw, each.start) for each in matroska.flaws(copies[0], matroska.layout(copies))]
+            return [(each.flaw, each.start) for each in matroska_checks.flaws(copies[0], matroska.layout(copies))]
 
     def test_an_undamaged_file(self):
         self.assertEqual(self.flaws(REEL), [])
@@ -169,6 +245,23 @@ class MatroskaTest(unittest.TestCase):
         self.assertEqual(self.flaws(made.damaged(REEL, (crc, b"\xaf"))), [(Flaw.BARE, place)])
         tracks = REEL.index(made.TRACKS.to_bytes(4, "big"))
         self.assertEqual(self.flaws(made.damaged(REEL, (REEL.index(b"\xbf\x84", tracks), b"\xec"))), [(Flaw.BARE, tracks)])
+
+
+    def test_where_tables_lead(self):
+        """The table of contents leads to elements of its IDs, and the index to blocks of its tracks and times."""
+        def file(seek=made.CLUSTER, place=0, time=40, track=1, block=0):
+            def seek_head(at):
+                return made.element(made.SEEK_HEAD, made.element(0x4DBB, made.element(0x53AB, seek.to_bytes(4, "big")), made.element(0x53AC, at.to_bytes(4, "big"))))
+            clusters = made.cluster(40, made.block(1, 0, frame(1)), made.block(2, 0, made.noise(2, 40)), crc=False)
+            front = len(seek_head(0)) + len(made.information(80, False) + made.tracks(crc=False))
+            point = made.element(0xBB, made.number(0xB3, time), made.element(0xB7, made.number(0xF7, track), made.number(0xF1, front + place),
+                                                                            made.number(0xF0, 3 + block)))
+            return made.ebml_header() + made.element(made.SEGMENT, seek_head(front), made.information(80, False), made.tracks(crc=False), clusters,
+                                                     made.element(made.CUES, point))
+
+        self.assertEqual(self.flaws(file()), [])
+        for wrong in (dict(seek=made.TAGS), dict(place=1), dict(time=41), dict(track=2), dict(block=1)):
+            self.assertEqual([each[0] for each in self.flaws(file(**wrong))], [Flaw.INDEX], wrong)
 
 
 class RecordTest(unittest.TestCase):

@@ -2,9 +2,17 @@
 import unittest
 
 from mend_reel.judging.results import Counts, Sums
-from mend_reel.reports.summary import of_bytes, of_frames
+from mend_reel.reports.summary import Unreadable, of_bytes, of_files, of_frames, share_of
 from .test_reports import DAMAGED, summary
 from .test_verdict import recording
+
+
+class FilesTest(unittest.TestCase):
+    def test_files_are_counted_by_what_was_found(self):
+        entries = [Unreadable("", {}, [], "a.mkv", "cannot read a.mkv: Permission denied", status) for status in (0, 3, 1, 0, 3, 0)]
+        self.assertEqual(of_files(entries), "6 files: 3 undamaged, 2 damaged, 1 unreadable")
+        self.assertEqual(of_files(entries[:1] * 1200), "1,200 files: 1,200 undamaged, 0 damaged, 0 unreadable")
+        self.assertEqual(entries[0].lines(), ["a.mkv could not be judged: cannot read a.mkv: Permission denied"])
 
 
 class PrintedLinesTest(unittest.TestCase):
@@ -29,6 +37,7 @@ class PrintedLinesTest(unittest.TestCase):
 
     def test_a_share_is_not_rounded_to_all(self):
         self.assertEqual(of_bytes(Sums(999999, 1)), "bytes: 999,999 verified (99.9 %), 1 agreed")
+        self.assertEqual([share_of(part, 10000) for part in (10000, 9996, 9999, 1239, 9, 0)], ["100 %", "99.9 %", "99.9 %", "12.3 %", "0.0 %", "0.0 %"])
 
 
 if __name__ == "__main__":

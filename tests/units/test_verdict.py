@@ -7,9 +7,10 @@ from mend_reel.containers.structure import Flaw, Found
 from mend_reel.copies.arrangement import Leaving, Left, Matched
 from mend_reel.judging.completeness import Excuses, misplaced
 from mend_reel.judging.kept_digests import Compared
-from mend_reel.judging.reasons import Why
+from mend_reel.judging.reasons import Why, join
 from mend_reel.judging.results import FrameState, Results
-from mend_reel.judging.verdict import Evidence, judge
+from mend_reel.judging.judgment import Judgment, reasons_of
+from mend_reel.mending.verdict import Evidence, judge, verdict_of_file
 from mend_reel.model import Claims, Content, Frame, Kind, Layout, Outcome, SliceReport, State, Stretch, What
 from .framed import SOUND, VIDEO
 
@@ -233,6 +234,13 @@ class VerdictTest(unittest.TestCase):
         layout.stretches[:] = [dataclasses.replace(stretch, places=stretch.places[:1]) for stretch in layout.stretches]
         return verdict(layout, *outcomes, **more)
 
+    def checked(self, layout, *outcomes, flaws=(), failing=frozenset(), mended=frozenset()):
+        """The verdict on a file that is checked."""
+        layout.stretches[:] = [dataclasses.replace(stretch, places=stretch.places[:1]) for stretch in layout.stretches]
+        judged = Judgment(layout, Results(layout, layout.stretches, outcomes, [0], failing=failing), flaws)
+        judged.reasons = join(reasons_of(judged))
+        return verdict_of_file(judged, None, mended, "a")
+
     def test_one_copy(self):
         found = self.of_one_copy(recording(), Outcome(element(1), State.MISSING, 0, "1", {0: (missing("1"),)}),
                                  Outcome(element(4), State.MISSING, 0, "1", {}))
@@ -261,23 +269,37 @@ class VerdictTest(unittest.TestCase):
         self.assertEqual((found.status, found.sums.read, found.sums.alone), (0, 140, 0))
 
     def test_a_file_that_is_checked(self):
-        found = self.of_one_copy(plain(), is_check=True)
+        found = self.checked(plain())
         self.assertEqual((found.status, found.sentence("reel.avi")), (0, "reel.avi: no damage was found; 34.3 % of the bytes can't be checked, "
                                                                          "among them all of the sound."))
-        found = self.of_one_copy(recording(), is_check=True)
+        found = self.checked(recording())
         self.assertEqual(found.sentence("reel.mkv"), "reel.mkv: no damage was found; 3.2 % of the bytes can't be checked.")
+
+    def test_what_is_said_of_a_damaged_file(self):
+        lost = [Outcome(element(at), State.MISSING, 0, "1", {0: (missing("1"),)}) for at in (1, 2, 4)]
+        for numbers, mended, said in (
+                ({1}, {1}, "a: damaged in one frame; mend-reel -o OUT a can mend it."), ({1}, set(), "a: damaged in one frame."),
+                ({1, 2, 4}, {1, 2, 4}, "a: damaged in 3 frames; mend-reel -o OUT a can mend them."),
+                ({1, 2, 4}, {2}, "a: damaged in 3 frames; mend-reel -o OUT a can mend 1 of the frames.")):
+            found = self.checked(recording(), *(lost[(1, 2, 4).index(at)] for at in sorted(numbers)), failing=numbers, mended=mended)
+            self.assertEqual((found.status, found.sentence("a")), (3, said))
+        found = self.checked(recording(), lost[0], failing={1}, flaws=[Found(Flaw.BROKEN, 40, 60), Found(Flaw.AFTER_END, 90, 95)])
+        self.assertEqual(found.sentence("a"), "a: damaged in one frame and 2 other places.")
+        self.assertEqual(self.checked(recording(), flaws=[Found(Flaw.BROKEN, 40, 60)]).sentence("a"), "a: damaged in one place.")
+        text = " ".join(reason.text("a") for reason in self.checked(recording(), *lost, failing={1, 2, 4}, mended={1, 2}).reasons)
+        self.assertIn("frames 1 to 2 (0:00:00.040 to 0:00:00.080, bytes 724 to 1536): damaged; mend-reel -o OUT a can mend them", text)
+        self.assertIn("frame 4 (0:00:00.160, bytes 2260 to 2560): damaged; a further copy may have it whole", text)
 
     def test_a_file_whose_parts_are_not_walked(self):
         layout = recording()
-        alone = [dataclasses.replace(stretch, places=stretch.places[:1]) for stretch in layout.stretches]
         for flaws, is_said in (([], False), ([Found(Flaw.NOT_WALKED, 0, layout.size)], True)):
-            found = judge(Evidence(layout, alone, [], layout, is_check=True, flaws=flaws))
+            found = self.checked(layout, flaws=flaws)
             self.assertEqual((found.status, "whether its parts hang together is not checked" in found.sentence("a")), (0, is_said))
 
     def test_a_file_that_is_checked_without_a_checksum(self):
         layout = plain()
         stretches = [dataclasses.replace(stretch, kind=Kind.PLAIN, parts=()) for stretch in layout.stretches]
-        found = self.of_one_copy(dataclasses.replace(layout, stretches=stretches), is_check=True)
+        found = self.checked(dataclasses.replace(layout, stretches=stretches))
         self.assertEqual((found.status, whys(found)), (3, [Why.UNCHECKED]))
 
     def test_a_record_that_fails_its_parity(self):
@@ -292,11 +314,11 @@ class VerdictTest(unittest.TestCase):
         flaws = [Found(Flaw.BROKEN, 40, 60), Found(Flaw.AFTER_END, 90, 95), Found(Flaw.BARE, 10, 20), Found(Flaw.BROKEN, 630, 700)]
         lost = Outcome(element(1), State.MISSING, 0, "1-", {})
         self.assertEqual([reason.bytes for reason in verdict(recording(), lost, flaws=flaws).reasons], [(40, 60), (624, 1124)])
-        found = self.of_one_copy(recording(), is_check=True, flaws=flaws)
+        found = self.checked(recording(), flaws=flaws)
         self.assertEqual([reason.why for reason in found.reasons], [Why.BARE, Why.BROKEN, Why.AFTER_END, Why.BROKEN])
 
     def test_frames_that_were_damaged_before_the_file_was_written(self):
-        found = verdict(recording(), damaged_before={2, 3})
+        found = verdict(recording(), failing={2, 3})
         self.assertEqual([(reason.why, reason.frames) for reason in found.reasons], [(Why.ROTTEN, (2, 3))])
         self.assertEqual((found.counts.lost, found.results.frames[2].damaged), (2, (0, 1)))
 

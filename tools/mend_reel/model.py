@@ -15,6 +15,8 @@ from typing import Any, NamedTuple
 
 
 MATROSKA = "matroska"
+# The most bytes of a stretch that has a check.
+MOST_STRETCH = 1 << 30
 
 
 class Fault(Exception):
@@ -122,6 +124,15 @@ class Frame:
         return self.place + self.size
 
 
+class Packet(NamedTuple):
+    """A packet of sound: the number of its track among those of sound, when it plays, and where it lies."""
+
+    track: int
+    time: float
+    place: int
+    size: int
+
+
 @dataclasses.dataclass(frozen=True)
 class Claims:
     """What a file claims of itself beside its frames: how long it plays, and by track how many frames it has, at what times its index
@@ -149,6 +160,7 @@ class Because(enum.Enum):
     ALONE = ""
     CONFIRMED = ", which the container confirms"
     SOUND = ", in which nothing is known to be wrong"
+    GOOD = ", in which no damage was found"
     NOT_LOST = ", in which no sector seems to be lost there"
     UNDAMAGED = ", which is not known to be damaged there"
     SHOWS = ", whose container shows most frames"
@@ -174,6 +186,7 @@ class Stretch:
     is_alike: bool = False  # all copies that have it are known to have it alike
     source: int = 0  # the copy FROM
     because: Because = Because.ALONE  # why it is FROM
+    part_of: tuple[int, int] | None = None  # from where to where in OUT what it was cut of lies
 
     @property
     def end(self) -> int:
@@ -206,6 +219,17 @@ class Layout:
     rises: bool = False  # frames of a track lie in the order of their times
     end: int | None = None  # where the file ends by its own account, if it says so
     bare: list[tuple[int, int]] = dataclasses.field(default_factory=list)  # where elements lack the CRC-32 that those beside have
+    sound: list[Packet] = dataclasses.field(default_factory=list)  # packets of sound by their places
+    origin: int = 0  # from where on tables of a Matroska file count
+
+    def orders(self) -> list[int]:
+        """The number of each frame in its track."""
+        counts: collections.Counter[int] = collections.Counter()
+        found = []
+        for frame in self.frames:
+            found.append(counts[frame.track])
+            counts[frame.track] += 1
+        return found
 
     def contents(self) -> collections.Counter[Content]:
         """What a file has: how many tracks of each kind, and whether attachments, chapters and tags."""
@@ -222,8 +246,11 @@ class Copy:
     size: int
     form: str = ""  # the container: `matroska`, a name of FFmpeg's, or empty
     unread: Sequence[tuple[int, int]] = ()  # from where to where it could not be read, by a map
+    filling: Sequence[tuple[int, int]] = ()  # what counts as unread too: long filling, where another copy has content
+    runs: list[tuple[int, int]] | None = dataclasses.field(default=None, repr=False, compare=False)  # where it has one value over several sectors
+    is_broken: bool | None = None  # its parts do not hang together, once that was asked
     watch: Callable[[int], None] = lambda place: None  # is called with each place that is read
-    container: Any = dataclasses.field(default=None, repr=False, compare=False)  # what ffprobe reported of it
+    probed: Any = dataclasses.field(default=None, repr=False, compare=False)  # what ffprobe reported of it
     structure: Any = dataclasses.field(default=None, repr=False, compare=False)  # how its parts hang together
 
     def read(self, place: int, size: int) -> bytes:

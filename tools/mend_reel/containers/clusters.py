@@ -82,6 +82,7 @@ class Clusters:
         self._last: dict[int, float] = {}
         self._expected: dict[int, float] = {}
         self._doubtful = False
+        self.sound: list[tuple[int, float, int, int]] = []  # the track, the time, the place and the size of each block of sound
 
     def read(self, content: int, end: int, is_cut: bool = False) -> list[Item]:
         """The items of a cluster, which follow each other and cover it. Where copies differ, one that passes its CRC-32 is read alone."""
@@ -240,6 +241,7 @@ class Clusters:
         time, track = self._time(head, start), self.tracks.get(head.track)
         has_frames = track is not None and (track.is_ffv1 or track.is_flac)
         if not has_frames and len(child.vouched) >= len(self.aligned.reaching(child.content - 1)):
+            self._note_sound(head, child.end, time)
             return [Item(child.place, child.end, track.content if track else Content.UNKNOWN, head.track, time)]
         payload = self._payload(head, child.end, time, bool(head.flags & KEY) if key is None else key)
         return [*framing(child, head.track, time), Item(child.content, head.payload, Content.FRAMING, head.track, time),
@@ -257,7 +259,12 @@ class Clusters:
         time = self._time(head, None)
         return [Item(child.place, payload, Content.FRAMING, head.track, time, is_gap=True), self._payload(head, child.end, time, True)]
 
+    def _note_sound(self, head: BlockHead, end: int, time: float) -> None:
+        if head.track in self.tracks and self.tracks[head.track].content is Content.SOUND:
+            self.sound.append((head.track, time, head.payload, end - head.payload))
+
     def _payload(self, head: BlockHead, end: int, time: float, key: bool) -> Item:
+        self._note_sound(head, end, time)
         track, is_laced = self.tracks.get(head.track), bool(head.flags & LACING)
         if track and track.is_ffv1 and not is_laced:
             frame = Frame(head.track, time, head.payload, end - head.payload, key)

@@ -7,10 +7,12 @@ import dataclasses
 from collections.abc import Iterable, Iterator, Sequence
 from typing import NamedTuple
 
-from ..judging.frame_checks import Judge, Judged
+from ..engine.frame_checks import Judge, Judged
 from ..model import Content, Copy, Frame, Kind, Layout, Stretch, Track, What
-from . import own_checks, structure
-from .ffprobe import Container, Packet, contain, with_records
+from ..model import Packet as Heard
+from . import own_checks
+from .ffprobe import Packet, Probed, probe, with_records
+from .known import structure_of
 from .stretch_builder import Stretches
 
 MOST_HEADER = 1 << 24
@@ -23,7 +25,7 @@ Spot = tuple[int, int, int]
 
 def reads(copy: Copy) -> bool:
     """Whether a copy's container can be read, and shows frames that lie in it: its parts lead to its tables."""
-    return structure.read(copy).table is None and bool(contain(copy).found())
+    return structure_of(copy).table is None and bool(probe(copy).found())
 
 
 def frames(copy: Copy) -> list[Frame]:
@@ -34,17 +36,20 @@ def frames(copy: Copy) -> list[Frame]:
 def layout(copies: Sequence[Copy], judge: Judge | None = None, records: bool = True) -> Layout:
     """What lies where in a file, over all its copies: a packet that the container of one hides is that which another shows. Where packets
     overlap, `judge` says which is a frame."""
-    containers = [contain(copy) for copy in copies]
+    containers = [probe(copy) for copy in copies]
     base = max(containers, key=lambda container: (len(container.found()), len(container.tracks), len(container.packets)))
     shown = Shown(copies, containers, base)
-    size, end = ends_at([copy.size for copy in copies], [structure.read(copy).end for copy in copies])
+    size, end = ends_at([copy.size for copy in copies], [structure_of(copy).end for copy in copies])
     found, copy = [frame for frame in shown.frames(judge) if frame.end <= size], copies[containers.index(base)]
     tracks = with_records(copy, base.tracks) if records else base.tracks
-    pieces = [*of_packets(copies, shown.others(found), base), *find_records(copy, tracks, found)]
+    others = shown.others(found)
+    pieces = [*of_packets(copies, others, base), *find_records(copy, tracks, found)]
+    order = [track.number for track in base.tracks if track.content is Content.SOUND]
+    sound = [Heard(order.index(track), packet.time, place, size_) for (place, size_, track), packet in others if track in order]
     # What most of the containers claim, or else the base.
     claims = [container.claims for container in containers if container.form == base.form]
     return Layout(size, tracks, found, cover(copies, found, pieces, base.tracks, size),
-                  max(claims, key=lambda each: (claims.count(each), each == base.claims)), end=end)
+                  max(claims, key=lambda each: (claims.count(each), each == base.claims)), end=end, sound=sound)
 
 
 def ends_at(sizes: Sequence[int], ends: Sequence[int | None]) -> tuple[int, int | None]:
@@ -75,7 +80,7 @@ def find_records(copy: Copy, tracks: Sequence[Track], frames: Sequence[Frame]) -
             for first, last in own_checks.records_in(copy.read(start, min(size, MOST_HEADER)), start, tracks)]
 
 
-def of_packets(copies: Sequence[Copy], packets: Iterable[tuple[Spot, Packet]], base: Container) -> Iterator[Piece]:
+def of_packets(copies: Sequence[Copy], packets: Iterable[tuple[Spot, Packet]], base: Probed) -> Iterator[Piece]:
     """The packets as pieces. Those are frames of FLAC of which some copy has the head."""
     contents = {track.number: track.content for track in base.tracks}
     flac = {track.number for track in base.tracks if track.is_flac and base.form in GIVE_SIZES}
@@ -87,7 +92,8 @@ def of_packets(copies: Sequence[Copy], packets: Iterable[tuple[Spot, Packet]], b
 
 
 def cover(copies: Sequence[Copy], frames: Sequence[Frame], others: Sequence[Piece], tracks: Sequence[Track], size: int) -> list[Stretch]:
-    """The stretches that cover a file: its frames, other packets, Configuration Records, and what lies between them."""
+    """The stretches that cover a file: its frames, other packets, Configuration Records, and what lies between them. Of pieces that overlap
+    the first counts."""
     pieces, steps = [piece for piece in others if piece.end <= size], {track.number: track.step or 0.0 for track in tracks}
     for frame in frames:
         what = What(Content.FRAME, frame.track, frame.time, frame.time + steps.get(frame.track, 0.0))
@@ -95,7 +101,9 @@ def cover(copies: Sequence[Copy], frames: Sequence[Frame], others: Sequence[Piec
     played = [piece for piece in pieces if piece.kind is not Kind.RECORD]
     first, last = min((piece.start for piece in played), default=0), max((piece.end for piece in played), default=size)
     made, end = Stretches(copies), 0
-    for piece in sorted(pieces, key=lambda piece: piece.start):
+    for piece in sorted(pieces, key=lambda piece: (piece.start, piece.kind is not Kind.FRAME)):
+        if piece.start < end:
+            continue
         made.plain(end, piece.start, What(Content.HEADER if piece.start <= first else Content.INDEX if end >= last else Content.UNKNOWN))
         if piece.kind is Kind.PLAIN:
             made.plain(piece.start, piece.end, piece.what)
@@ -112,7 +120,7 @@ def cover(copies: Sequence[Copy], frames: Sequence[Frame], others: Sequence[Piec
 class Shown:
     """The packets that the containers of some copies show. `base` is the container that shows most frames."""
 
-    def __init__(self, copies: Sequence[Copy], containers: Sequence[Container], base: Container) -> None:
+    def __init__(self, copies: Sequence[Copy], containers: Sequence[Probed], base: Probed) -> None:
         self.copies, self.base, self.video = copies, base, base.video()
         self.spots: dict[Spot, list[Packet]] = {}
         for container in sorted(containers, key=lambda container: container is not base):

@@ -13,10 +13,11 @@ import zlib
 from collections.abc import Iterable, Iterator, Mapping, Sequence, Set
 from typing import NamedTuple
 
-from ..judging.frame_checks import MOST_BYTES
+from ..engine.external_programs import run
+from ..engine.frame_checks import MOST_BYTES
 from ..model import Claims, Content, Copy, Fault, Track, or_fault
-from ..program.external_programs import run
-from . import own_checks, structure
+from . import own_checks
+from .known import structure_of
 
 # How far after the place that ffprobe reports a packet's bytes are looked for, and after how many misses they no longer are.
 FARTHEST, MOST_MISSES = 64, 16
@@ -47,7 +48,7 @@ class Packet(NamedTuple):
 
 
 @dataclasses.dataclass
-class Container:
+class Probed:
     """What ffprobe reports of a file: the container's name (empty where it can't be read), its tracks and their packets."""
 
     form: str = ""
@@ -107,9 +108,9 @@ def read_track(values: Mapping[str, str]) -> Track:
                  step=seconds / frames if frames and seconds and codec == "ffv1" else None, is_flac=codec == "flac")
 
 
-def read_lines(lines: Iterable[str]) -> Container:
+def read_lines(lines: Iterable[str]) -> Probed:
     """What ffprobe reported, line by line."""
-    container, duration = Container(), None
+    container, duration = Probed(), None
     ends: dict[int, float] = {}
     counts: dict[int, int] = {}
     for kind, values in map(fields, lines):
@@ -132,23 +133,23 @@ def can_ask() -> bool:
     return shutil.which("ffprobe") is not None
 
 
-def contain(copy: Copy) -> Container:
+def probe(copy: Copy) -> Probed:
     """What ffprobe reports of a copy. It is asked once."""
-    if copy.container is None:
-        copy.container = ask(copy) if copy.size else Container()
-    return copy.container
+    if copy.probed is None:
+        copy.probed = ask(copy) if copy.size else Probed()
+    return copy.probed
 
 
-def ask(copy: Copy) -> Container:
+def ask(copy: Copy) -> Probed:
     """What ffprobe reports of a copy, with digests of packets, which cost it all bytes, only where footers do not show where frames lie."""
     if not can_ask():
         raise Fault(f"there is no ffprobe on the PATH, and {copy.path} is no Matroska file that can be read without it")
     container = ask_for(copy, [], "")
     if container.form == "mov":
-        container.claims = dataclasses.replace(container.claims, counts=structure.read(copy).counts)
+        container.claims = dataclasses.replace(container.claims, counts=structure_of(copy).counts)
     video = container.video()
     container.packets = locate(copy, container.packets, video)
-    if not structure.read(copy).table and any(packet.place is None for packet in container.packets if packet.stream in video):
+    if not structure_of(copy).table and any(packet.place is None for packet in container.packets if packet.stream in video):
         hashed = locate(copy, ask_for(copy, ["-show_data_hash", "crc32"], ",data_hash").packets, video)
         container.packets = [one if one.place is not None else other for one, other in zip(container.packets, hashed)]
     return container
@@ -158,7 +159,7 @@ def ask(copy: Copy) -> Container:
 def address(copy: Copy) -> Iterator[str]:
     """How FFmpeg gets a copy: up to where there are more parts than are walked, as it would walk them all; and where no part leads to
     its tables, of a file without media in which these lie where they are expected."""
-    made = structure.read(copy)
+    made = structure_of(copy)
     if made.table is None:
         yield "file:" + copy.path if made.stop is None else f"subfile,,start,0,end,{made.stop},,:{copy.path}"
         return
@@ -171,7 +172,7 @@ def address(copy: Copy) -> Iterator[str]:
         yield "file:" + view.name
 
 
-def ask_for(copy: Copy, more: Sequence[str], entries: str) -> Container:
+def ask_for(copy: Copy, more: Sequence[str], entries: str) -> Probed:
     with address(copy) as name, or_fault("cannot run ffprobe"), subprocess.Popen(
             [*PROBE, *more, "-show_entries", ENTRIES.format(more=entries), "-of", "compact", name], stdin=subprocess.DEVNULL,
             stdout=subprocess.PIPE, stderr=subprocess.DEVNULL, encoding="utf-8", errors="replace") as process:
@@ -257,7 +258,7 @@ class Locator:
 
 def locate(copy: Copy, packets: Sequence[Packet], video: Set[int]) -> list[Packet]:
     """The packets with their places. Without a digest those of other tracks lie where they are reported, or some bytes after."""
-    made = structure.read(copy)
+    made = structure_of(copy)
     is_shifted = made.table is not None or made.end is not None and made.end != copy.size
     reported = [packet.reported for packet in packets] if is_shifted else []
     locators: dict[int, Locator] = collections.defaultdict(lambda: Locator(copy, reported))

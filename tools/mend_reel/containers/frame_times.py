@@ -1,8 +1,10 @@
 """When the frames of a file are shown, and when the file ends."""
 from __future__ import annotations
 
+import bisect
 import statistics
 from collections.abc import Sequence
+from typing import Any
 
 from ..model import Frame, Layout
 
@@ -63,3 +65,20 @@ def lasts(layout: Layout) -> float | None:
     end, room = end_of(layout)
     duration = layout.claims.duration
     return duration if duration and duration - end > room else None
+
+
+def longest_chain(ranges: Sequence[tuple[int, int]]) -> list[int]:
+    """The numbers of the most ranges, in the order given, of which each begins at or after the end of the one before."""
+    ends: list[int] = []
+    # For each length of a chain the last range of the one that ends first, as a pair of its number and what comes before it.
+    chains: list[tuple[int, Any]] = []
+    for number, (start, end) in enumerate(ranges):
+        length = bisect.bisect_right(ends, start)
+        if length == len(ends) or end < ends[length]:
+            ends[length : length + 1] = [end]
+            chains[length : length + 1] = [(number, chains[length - 1] if length else None)]
+    chain, link = [], chains[-1] if chains else None
+    while link:
+        chain.append(link[0])
+        link = link[1]
+    return chain[::-1]

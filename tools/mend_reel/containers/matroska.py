@@ -5,19 +5,19 @@ import dataclasses
 import itertools
 from collections.abc import Iterable, Iterator, Sequence
 
-from ..model import Claims, Content, Copy, Kind, Layout, Track, What
-from . import clusters, ebml, elements, metadata, own_checks, structure
+from ..model import MATROSKA, MOST_STRETCH, Claims, Content, Copy, Kind, Layout, Packet, Track, What
+from . import clusters, ebml, elements, metadata, own_checks
 from .elements import NONE, WINDOW, AlignedCopies, Budget, Numbers
-from .stretch_builder import MOST_STRETCH, Stretches
+from .matroska_checks import MOST_MASTER
+from .stretch_builder import Stretches
+from .structure import Container
 
 EBML, SEGMENT, CLUSTER = 0x1A45DFA3, 0x18538067, 0x1F43B675
 CONTENTS = {EBML: Content.HEADER, 0x114D9B74: Content.SEEK_HEAD, metadata.INFORMATION: Content.INFORMATION, metadata.TRACKS: Content.TRACKS,
             metadata.CUES: Content.INDEX, CLUSTER: Content.CLUSTER, 0x1941A469: Content.ATTACHMENTS, 0x1043A770: Content.CHAPTERS,
             metadata.TAGS: Content.TAGS, clusters.VOID: Content.PADDING}
-MASTERS = frozenset(CONTENTS.values()) - {Content.CLUSTER, Content.PADDING}
 STRONG = frozenset(CONTENTS) - {clusters.VOID} | {SEGMENT}
 SIGNS = [identity.to_bytes(4, "big") for identity in sorted(STRONG)]
-MOST_METADATA = 1 << 24
 PASSES_OVER_THE_FILE = 4
 FIRST_BYTES = 1 << 20
 CLUSTERS_TO_GUESS_BY = 16
@@ -50,12 +50,21 @@ TOP = elements.Schema(STRONG | {clusters.VOID, clusters.CRC}, STRONG, frozenset(
                       clusters.IN_CLUSTER, signs, confirms=is_divided)
 
 
-def is_matroska(copies: Sequence[Copy]) -> bool:
-    """Reports whether copies are Matroska files: one begins as an EBML file does, or has top-schema elements near its start."""
-    header = EBML.to_bytes(4, "big")
-    starts = [copy.read(0, WINDOW) for copy in copies]
-    if any(data[:4] == header and ebml.Fields(data).inside(EBML).text(DOCUMENT_TYPE) in DOCUMENT_TYPES for data in starts):
-        return True
+class Matroska(Container):
+    name, endings = MATROSKA, frozenset({".mkv", ".webm", ".mka"})
+
+    def begins(self, head: bytes) -> bool:
+        return head[:4] == EBML.to_bytes(4, "big")
+
+
+def is_ebml_of_matroska(copy: Copy) -> bool:
+    """Whether a copy begins as a Matroska file does: with an EBML header that says so."""
+    data = copy.read(0, WINDOW)
+    return data[:4] == EBML.to_bytes(4, "big") and ebml.Fields(data).inside(EBML).text(DOCUMENT_TYPE) in DOCUMENT_TYPES
+
+
+def has_elements(copies: Sequence[Copy]) -> bool:
+    """Whether copies of which no start can be read are Matroska files: they have top-level elements near their start."""
     end = min(max((copy.size for copy in copies), default=0), FIRST_BYTES)
     children = elements.divide(AlignedCopies(copies), 0, end, TOP, Budget(end), is_cut=True)
     return sum(child.identity in STRONG and bool(child.vouched) for child in children) > 1
@@ -86,10 +95,10 @@ class MatroskaReader:
         segment = next((child for child in self.top if child.identity == SEGMENT), None)
         claimed_end, sized = self._read_end(segment) if segment else (None, NONE)
         strong = [child for child in self.top if child.identity in STRONG]
-        # OUT ends where the Segment does, if a copy ends there and nothing goes on, or else with the longest copy.
-        last, size = max((child.end for child in strong), default=0), self.aligned.end
-        if claimed_end is not None and last <= claimed_end and claimed_end in {copy.size for copy in self.copies}:
-            size = claimed_end
+        # OUT ends where the Segment does, if nothing of it goes on, or else with the longest copy.
+        size = self.aligned.end
+        if claimed_end is not None and not self._goes_on(strong, claimed_end):
+            size = min(size, claimed_end)
         live: list[elements.Child] = []
         for child in self.top:
             if child.identity in STRONG or child.identity == elements.UNDIVIDED:
@@ -107,9 +116,20 @@ class MatroskaReader:
         if segment and claimed_end is not None and any(child.place < claimed_end < child.end for child in strong):
             self.gaps.insert(0, (segment.place, segment.content - segment.place))
         return Layout(size, list(self.metadata.tracks), self.stretches.frames, self.stretches.made, self.metadata.claims, self.gaps,
-                      rises=True, end=claimed_end, bare=list(self._bare()))
+                      rises=True, end=claimed_end, bare=list(self._bare()), sound=self._sound(), origin=segment.content if segment else 0)
 
     # ---- the file as a whole
+
+    def _sound(self) -> list[Packet]:
+        """The blocks of sound. What was read twice counts once."""
+        order = [track.number for track in self.metadata.tracks if track.content is Content.SOUND]
+        found = {place: Packet(order.index(track), time, place, size) for track, time, place, size in self.clusters.sound}
+        return [found[place] for place in sorted(found)]
+
+    def _goes_on(self, strong: Sequence[elements.Child], end: int) -> bool:
+        """Whether an element lies over a place, or after it: but for another file that was joined to this one."""
+        after = next((child for child in strong if child.end > end), None)
+        return after is not None and (after.place < end or after.identity != EBML)
 
     def _bare(self) -> Iterator[tuple[int, int]]:
         """Yields where elements lie that have no CRC-32, though others of the same ID have one, or most others."""
@@ -128,10 +148,12 @@ class MatroskaReader:
             size = ebml.read_size(self.aligned.peek(number, segment.place + 4, 8), 0)
             if size and segment.place + 4 + size[1] == segment.content:
                 ends.setdefault(None if size[0] is None else segment.content + size[0], set()).add(number)
-        sure = {max((child.end for child in self.top if child.identity != elements.UNDIVIDED), default=0)}
+        again = [child.place for child in self.top if child.identity == EBML and child.place > segment.place][:1]
+        sure = {max((child.end for child in self.top if child.identity != elements.UNDIVIDED), default=0), *again}
         sizes = {copy.size for copy in self.copies}
-        end = max(ends, key=lambda each: (each in sure, each in sizes, len(ends[each])), default=None)
-        return end, frozenset(ends[end]) if ends and end in sure | sizes else NONE
+        end = max(ends, key=lambda each: (each in again, each in sure, each in sizes, len(ends[each])), default=None)
+        end = again[0] if end is None and again else end
+        return end, frozenset(ends.get(end, ())) if end in sure | sizes else NONE
 
     def _without_head(self, child: elements.Child) -> elements.Child | None:
         """The element that undivided bytes are but for its head, or what one of an unknown ID is, if its children cover all the rest."""
@@ -158,7 +180,7 @@ class MatroskaReader:
 
     def _content(self, child: elements.Child) -> bytes:
         """The content of an element in the copy that passes its CRC-32, or that divides, names most FFV1 tracks, and is as most have it."""
-        size = min(child.end - child.content, MOST_METADATA)
+        size = min(child.end - child.content, MOST_MASTER)
         passing = self.budget.passing(self.aligned, child.content, child.end)
         contents = [self.copies[number].read(child.content, size) for number in sorted(passing)[:1] or self.aligned.numbers]
 
@@ -256,22 +278,6 @@ def layout(copies: Sequence[Copy]) -> Layout:
     return MatroskaReader(copies).layout()
 
 
-def flaws(copy: Copy, layout: Layout) -> Iterator[structure.Found]:
-    """Yields where the elements of a file, which a layout describes, lead nowhere within top-level ones, which of these have no CRC-32, and
-    what lies after its end. A last sector that is shorter than others may be lost within a text: nothing else shows it."""
-    for content, stretches in itertools.groupby(layout.stretches, key=lambda stretch: stretch.what.content):
-        pieces = list(stretches) if content in MASTERS else []
-        start, end = (pieces[0].start, pieces[-1].end) if pieces else (0, 0)
-        data = copy.read(start, end - start) if end - start <= MOST_METADATA else b""
-        if data and not structure.divides(data):
-            yield structure.Found(structure.Flaw.BROKEN, start, end)
-        elif data and pieces[-1].kind is Kind.PLAIN and end == layout.size and structure.has_lost_text(data):
-            yield structure.Found(structure.Flaw.ZEROS, start, end)
-    yield from (structure.Found(structure.Flaw.BARE, *each) for each in layout.bare)
-    if layout.end is not None and layout.end < copy.size:
-        yield structure.Found(structure.Flaw.AFTER_END, layout.end, copy.size)
-
-
 def claims(copies: Sequence[Copy], layout: Layout) -> Iterator[Claims]:
     """Yields what each copy of the file that a layout describes claims of the recording."""
     identities = {content: identity for identity, content in CONTENTS.items() if identity in metadata.READ}
@@ -282,7 +288,7 @@ def claims(copies: Sequence[Copy], layout: Layout) -> Iterator[Claims]:
         for stretch, place in ((stretch, stretch.places[number]) for stretch in described):
             if place is not None:
                 identity = identities[stretch.what.content]
-                contents[identity] = contents.get(identity, b"") + copy.read(place, min(stretch.size, MOST_METADATA))
+                contents[identity] = contents.get(identity, b"") + copy.read(place, min(stretch.size, MOST_MASTER))
         key = tuple(sorted(contents.items()))
         if key not in known:
             known[key] = metadata.read(contents).claims

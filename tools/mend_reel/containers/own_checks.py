@@ -22,9 +22,14 @@ def is_uniform(piece: bytes) -> bool:
     return not piece or piece.count(piece[:1]) == len(piece)
 
 
+def remainder_is_zero(piece: bytes) -> bool:
+    """Whether the remainder of some bytes, which their parity is a part of, is zero."""
+    return zlib.crc32(piece.translate(TURNED), ZEROS) == ZEROS
+
+
 def passes(piece: bytes) -> bool:
     """Whether a slice passes its parity. One without content says nothing."""
-    return len(piece) > FOOTER and zlib.crc32(piece.translate(TURNED), ZEROS) == ZEROS
+    return len(piece) > FOOTER and remainder_is_zero(piece)
 
 
 # ---- the slices of a frame
@@ -111,7 +116,7 @@ def crc8(data: bytes) -> int:
 
 def passes_as_record(record: bytes) -> bool:
     """Whether a Configuration Record passes its parity. Zeros pass every parity, and are no record."""
-    return len(record) >= FEWEST_RECORD and any(record) and zlib.crc32(record.translate(TURNED), ZEROS) == ZEROS
+    return len(record) >= FEWEST_RECORD and any(record) and remainder_is_zero(record)
 
 
 def records_in(data: bytes, start: int, tracks: Iterable[Track]) -> list[tuple[int, int]]:

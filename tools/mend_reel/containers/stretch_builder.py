@@ -4,9 +4,9 @@ from __future__ import annotations
 import dataclasses
 from collections.abc import Sequence
 
-from ..model import Copy, Frame, Kind, Stretch, What
+from ..model import MOST_STRETCH, Copy, Frame, Kind, Stretch, What
 
-MOST_PLAIN, MOST_STRETCH = 1 << 20, 1 << 30
+MOST_PLAIN = 1 << 20
 
 
 class Stretches:

@@ -5,17 +5,25 @@ import dataclasses
 import enum
 import itertools
 import os
-from collections.abc import Iterator, Sequence
+import pathlib
+from collections.abc import Callable, Iterator, Mapping, Sequence
 
-from ..containers import ebml, ffmpeg_files, matroska, structure
+from ..containers import ebml, ffmpeg_files, ffprobe, files
+from ..containers.files import describe
 from ..containers.frame_times import lasts
-from ..judging.copy_health import CopyHealth, damaged_before, health, lack_parities
-from ..judging.frame_checks import Judge
-from ..model import Copy, Fault, Layout
+from ..containers.known import structure_of
+from ..containers.structure import Flaw
+from ..engine.frame_checks import Judge
+from ..judging.judgment import Judgment
+from ..judging.parities import lack_parities
+from ..model import Content, Copy, Fault, Kind, Layout
 from .alignment import Alignment, align
-from .frame_pairing import Matched, Recording, complete, pair, share
+from .filling import complement, filled
+from .frame_pairing import Matched, Recording, complete, pair, pair_sound, share
 
-HEADER = 4096
+# How many places say nothing where copies have hardly any content in common.
+HEADER, FEW = 4096, 4
+DESCRIBES = frozenset({Content.INFORMATION, Content.TAGS, Content.CHAPTERS, Content.ATTACHMENTS, Content.SEEK_HEAD, Content.INDEX, Content.PADDING})
 
 
 class Leaving(enum.Enum):
@@ -49,7 +57,11 @@ class Arrangement:
     layout: Layout  # of OUT's file
     matched: list[Matched] = dataclasses.field(default_factory=list)  # other files
     left: list[Left] = dataclasses.field(default_factory=list)
-    damaged_before: set[int] = dataclasses.field(default_factory=set)  # the frames that were damaged before OUT's file was written
+    good: int | None = None  # the undamaged copy that OUT is
+    filled: Copy | None = None  # what the copies of OUT's file have together, where each has long filling
+    is_read_again: bool = False  # the layout is what OUT showed when it was made a first time
+    differ: bool = True  # the copies are not alike
+    editions: list[int] = dataclasses.field(default_factory=list)  # other undamaged copies of it, whose descriptions differ
 
     def notes(self, copies: Sequence[Copy]) -> list[str]:
         """Whose file OUT is, where there are others, and which copies have bytes after its end."""
@@ -57,7 +69,11 @@ class Arrangement:
                   for number in self.basis if copies[number].size > self.layout.size]
         own, others = (("copies " if len(numbers) > 1 else "copy ") + ", ".join(str(number + 1) for number in numbers)
                        for numbers in (self.basis, [each.number for each in self.matched]))
-        return longer + ([f"OUT is the file of {own}; what serves of {others} is brought into it"] if self.matched else [])
+        longer += [f"OUT is copy {self.good + 1} as it is: no damage was found in it"] if self.good is not None and self.differ else []
+        longer += [f"copy {number + 1} is undamaged too, and another edition of the file: what describes the recording differs in it"
+                   for number in self.editions]
+        is_mixed = bool(self.matched) and self.good is None
+        return longer + ([f"OUT is the file of {own}; what serves of {others} is brought into it"] if is_mixed else [])
 
 
 # ---- copies of one file
@@ -87,7 +103,10 @@ def is_same_file(one: Copy, other: Copy) -> bool:
     if not may_be_same(one, other) or is_whole:
         return False
     alignment = align(one, other)
-    return alignment.is_same_file() and not alignment.is_shifted()
+    if alignment.is_same_file():
+        return not alignment.is_shifted()
+    is_unlike = alignment.compared > FEW and 2 * alignment.alike < alignment.compared
+    return not is_unlike and complement(one, other)
 
 
 def may_be_same(one: Copy, other: Copy) -> bool:
@@ -129,9 +148,8 @@ def atoms_end(data: bytes) -> int | None:
 # ---- which file OUT is made of
 
 
-def describe(copies: Sequence[Copy], judge: Judge, records: bool = True) -> Layout:
-    """What lies where in a file, over all its copies."""
-    return matroska.layout(copies) if matroska.is_matroska(copies) else ffmpeg_files.layout(copies, judge, records)
+# Judges one copy, by its number.
+JudgeCopy = Callable[[int], Judgment]
 
 
 @dataclasses.dataclass
@@ -140,7 +158,10 @@ class File:
 
     numbers: list[int]
     recording: Recording
-    healths: dict[int, CopyHealth] = dataclasses.field(default_factory=dict)
+    filled: Copy | None = None  # what its copies have together, where each has long filling
+    intact: dict[int, set[int]] = dataclasses.field(default_factory=dict)  # the numbers of the frames that pass, by copy
+    passing: dict[int, set[int]] = dataclasses.field(default_factory=dict)  # and of the elements
+    undamaged: list[int] = dataclasses.field(default_factory=list)
     pairings: list[tuple[File, Matched]] = dataclasses.field(default_factory=list)
 
     @property
@@ -151,12 +172,26 @@ class File:
         """Whether it has FFV1 frames, or a track of them in another form, of which the container's checksums are judged."""
         return bool(self.layout.frames) or any(track.is_encoded for track in self.layout.tracks)
 
-    def damaged_before(self) -> set[int]:
-        return set() if lack_parities(self.layout, self.recording.copies) else damaged_before(self.layout, list(self.healths.values()))
+    def examine(self, judge: Judge, judgment: JudgeCopy) -> None:
+        """Sees what passes in each copy."""
+        for at, (number, copy) in enumerate(zip(self.numbers, self.recording.copies)):
+            judged = judge(copy, [(frame.place, frame.size) for frame in self.layout.frames])
+            self.intact[number] = {frame for frame, each in enumerate(judged) if each.is_intact()}
+            self.passing[number] = {each for each, stretch in enumerate(self.layout.stretches) if stretch.kind is Kind.ELEMENT
+                                    and ebml.passes_in(stretch, self.recording.copies, at)}
+            self.undamaged += [number] if is_good(judgment(number)) else []
+
+    def rotten(self) -> set[int]:
+        """The numbers of the frames that fail in elements that pass: they were damaged before the file was written."""
+        if lack_parities(self.layout, self.recording.copies):
+            return set()
+        numbers = {frame.place: at for at, frame in enumerate(self.layout.frames)}
+        inside = {numbers[frame.place] for each in self.passing.values() for at in each for frame in self.layout.stretches[at].parts}
+        return inside.difference(*self.intact.values())
 
     def has_some(self) -> bool:
         """Whether some frame of it passes, or an element with one."""
-        return any(each.intact or any(self.layout.stretches[at].parts for at in each.passing) for each in self.healths.values())
+        return any(self.intact.values()) or any(self.layout.stretches[at].parts for each in self.passing.values() for at in each)
 
     def given(self, judge: Judge) -> set[int]:
         """The numbers of its frames that pass in another file."""
@@ -166,17 +201,24 @@ class File:
             found.update(number for number, each in zip(pairing.places, judged) if each.is_intact())
         return found
 
-    def rank(self, judge: Judge) -> tuple[int, int, int, bool, int]:
-        """What speaks for a file: that it has no frame that was damaged before it was written, and that another file has; how many of its
-        bytes pass a check in some copy of any file; how many kinds of content it has; an undamaged copy; and that it came first."""
-        given, old_damage = self.given(judge), self.damaged_before()
-        intact = given.union(*(each.intact for each in self.healths.values())) - old_damage
-        passing = set().union(*(each.passing for each in self.healths.values()))
+    def can_be_opened(self) -> bool:
+        """Whether FFmpeg reads the container of a copy, where it can be asked."""
+        return not ffprobe.can_ask() or any(map(ffmpeg_files.frames, self.recording.copies))
+
+    def rank(self, judge: Judge) -> tuple[int, ...]:
+        """What speaks for a file. An undamaged copy comes first; of several files with one that with most kinds of content. Of damaged files one
+        that can be opened; that has no frame that was damaged before it was written, and that another file has; of which most bytes pass a
+        check in some copy of any file; with most kinds of content; and that which came first."""
+        contents = sum(self.layout.contents().values())
+        if self.undamaged:
+            return 1, contents, -self.undamaged[0]
+        given, rotten = self.given(judge), self.rotten()
+        intact = given.union(*self.intact.values()) - rotten
+        passing = set().union(*self.passing.values())
         inside = {frame.place for at in passing for frame in self.layout.stretches[at].parts}
         verified = sum(self.layout.stretches[at].size for at in passing)
         verified += sum(self.layout.frames[at].size for at in intact if self.layout.frames[at].place not in inside)
-        return (-len(old_damage & given), verified, sum(self.layout.contents().values()),
-                any(each.is_undamaged for each in self.healths.values()), -self.numbers[0])
+        return 0, self.can_be_opened(), -len(rotten & given), verified, contents, -self.numbers[0]
 
     def why_left(self) -> Leaving:
         if self.layout.frames:
@@ -184,46 +226,78 @@ class File:
         return Leaving.NO_VIDEO if self.layout.tracks else Leaving.UNREAD
 
 
-def arrange(copies: Sequence[Copy], judge: Judge) -> Arrangement:
-    """Which copies OUT is made of, and how. Frames are judged only where the copies are of several files."""
+def arrange(copies: Sequence[Copy], judge: Judge, judgment: JudgeCopy, work: pathlib.Path) -> Arrangement:
+    """Which copies OUT is made of, and how. Copies are judged only where they are of several files."""
     numbers, left = group(copies)
-    files = [File(each, Recording(own, describe(own, judge))) for each in numbers for own in [[copies[number] for number in each]]]
-    if not any(file.has_video() for file in files):
+    found = [read_file(each, [copies[number] for number in each], judge, work / f"filled-{each[0]}") for each in numbers]
+    if not any(file.has_video() for file in found):
         raise Fault("; ".join(why_no_video(copies)))
-    if len(files) == 1:
-        return Arrangement(files[0].numbers, files[0].layout, left=left)
-    basis = choose(files, copies, judge)
-    made = Arrangement(basis.numbers, basis.layout, left=left, damaged_before=basis.damaged_before())
+    if len(found) == 1:
+        return Arrangement(found[0].numbers, found[0].layout, left=left, filled=found[0].filled)
+    basis = choose(found, copies, judge, judgment)
+    made = Arrangement(basis.numbers, basis.layout, left=left, filled=basis.filled)
+    made = with_good(made, basis.undamaged, {number: judgment(number) for number in basis.undamaged}) if basis.undamaged else made
     pairings = {id(file): each for file, each in basis.pairings}
-    for file in (file for file in files if file is not basis):
+    for file in (file for file in found if file is not basis):
         pairing = pairings.get(id(file))
         if pairing is None:
             made.left += [Left(number, file.why_left()) for number in file.numbers]
         else:
-            made.matched += [matched(number, copy, file.layout, pairing, basis.layout, judge)
+            made.matched += [matched(number, copy, file.layout, pairing, basis, judge)
                              for number, copy in zip(file.numbers, file.recording.copies)]
     made.left.sort(key=lambda each: each.number)
     made.matched.sort(key=lambda each: each.number)
     return made
 
 
+def read_file(numbers: Sequence[int], copies: Sequence[Copy], judge: Judge, path: pathlib.Path) -> File:
+    """A file over all its copies. Where no copy's parts lead through it, it is read again without their long filling."""
+    layout = describe(copies, judge)
+    leads = not layout.gaps and layout.frames and any(not files.flaws_of(copy, copy.form, layout) for copy in copies)
+    together = None if leads or len(copies) < 2 else filled(copies, layout, judge, path)
+    return File(list(numbers), Recording(copies, together.layout if together else layout), together.made if together else None)
+
+
+def is_good(judged: Judgment) -> bool:
+    """Whether a file is undamaged, and it is known how its parts hang together: a table that hides frames could not be told else."""
+    return judged.is_undamaged and judged.is_walked
+
+
+def with_good(arrangement: Arrangement, undamaged: Sequence[int], judgments: Mapping[int, Judgment], votes: Mapping[int, int] | None = None
+              ) -> Arrangement:
+    """The same, but OUT is one of some undamaged copies of its file: that with most kinds of content, then that for which most copies speak
+    where they differ, and the first of these. Others whose parts lie elsewhere are other editions of the file, and no versions of it."""
+    known = votes or {}
+    good = max(undamaged, key=lambda number: (sum(judgments[number].layout.contents().values()), known.get(number, 0), -number))
+    parts = parts_of(judgments[good].layout)
+    editions = [number for number in undamaged if parts_of(judgments[number].layout) != parts]
+    basis = [number for number in arrangement.basis if number not in editions]
+    return dataclasses.replace(arrangement, basis=basis, layout=judgments[good].layout, good=good, editions=editions, filled=None)
+
+
+def parts_of(layout: Layout) -> list[tuple[Kind, int, int]]:
+    """Where what has checks of its own lies in a file, and what describes it."""
+    return [(stretch.kind, stretch.start, stretch.size) for stretch in layout.stretches
+            if stretch.kind is not Kind.PLAIN or stretch.what.content in DESCRIBES]
+
+
 def why_no_video(copies: Sequence[Copy]) -> Iterator[str]:
     """Why no video was found: what of each file can be said."""
-    names, structures = [copy.path for copy in copies if copy.size], [(copy, structure.read(copy).flaws) for copy in copies]
+    names, structures = [copy.path for copy in copies if copy.size], [(copy, structure_of(copy).flaws) for copy in copies]
     yield from [f"no FFV1 video was found in {', '.join(names)}"] if names else []
     yield from (f"{copy.path} has lost what says where its frames lie" for copy, flaws in structures
-                if any(found.flaw is structure.Flaw.NO_TABLE for found in flaws))
+                if any(found.flaw is Flaw.NO_TABLE for found in flaws))
     yield from (f"FFmpeg can't read {copy.path}, though its parts hang together: what describes its video to a decoder may be damaged, "
                 "and a copy beside it may have that right"
-                for copy, flaws in structures if copy.container is not None and not copy.container.form and not flaws)
+                for copy, flaws in structures if copy.probed is not None and not copy.probed.form and not flaws)
     yield from (f"{copy.path} is empty" for copy in copies if not copy.size)
 
 
-def choose(files: Sequence[File], copies: Sequence[Copy], judge: Judge) -> File:
+def choose(files: Sequence[File], copies: Sequence[Copy], judge: Judge, judgment: JudgeCopy) -> File:
     """The file for which most speaks. One that shares nothing serves only with several copies, or if it alone has what passes."""
     shown = [file for file in files if file.has_video()]
     for file in shown:
-        file.healths = {number: health(copies[number], at, file.layout, judge) for at, number in enumerate(file.numbers)}
+        file.examine(judge, judgment)
         file.pairings = [(other, pairing) for other in files if other is not file for pairing in [relate(file, other)] if pairing]
     some = [file for file in shown if file.has_some()]
     candidates = [file for file in shown if file.pairings or len(file.numbers) > 1 or len(shown) == 1 or some == [file]]
@@ -244,10 +318,13 @@ def relate(basis: File, other: File) -> Matched | None:
     return pairing if share(basis.recording, other.recording, pairing) else None
 
 
-def matched(number: int, copy: Copy, layout: Layout, pairing: Matched, basis: Layout, judge: Judge) -> Matched:
+def matched(number: int, copy: Copy, layout: Layout, pairing: Matched, basis: File, judge: Judge) -> Matched:
     """How a copy of another file serves."""
-    places = {each: place for each, place in pairing.places.items() if place + basis.frames[each].size <= copy.size}
+    places = {each: place for each, place in pairing.places.items() if place + basis.layout.frames[each].size <= copy.size}
     judged = judge(copy, [(frame.place, frame.size) for frame in pairing.contrary])
-    contrary = [frame for frame, each in zip(pairing.contrary, judged) if each.is_intact()]
+    sizes = {frame.size for frame in pairing.contrary}
+    known = {own.read(frame.place, frame.size) for own in basis.recording.copies for frame in basis.layout.frames if frame.size in sizes}
+    contrary = [frame for frame, each in zip(pairing.contrary, judged) if each.is_intact() and copy.read(frame.place, frame.size) not in known]
     unplaced = [frame for frame in pairing.unplaced if frame.end <= copy.size]
-    return Matched(number, places, unplaced, contrary, None if pairing.alignment else lasts(layout), pairing.tracks, pairing.alignment)
+    sound = {} if pairing.alignment else pair_sound(basis.recording, layout, copy)
+    return Matched(number, places, unplaced, contrary, None if pairing.alignment else lasts(layout), pairing.tracks, sound, pairing.alignment)

@@ -7,7 +7,8 @@ import os
 from collections.abc import Callable, Sequence
 
 from ..containers import ffmpeg_files, ffprobe, matroska
-from ..judging.frame_checks import Judge
+from ..engine.frame_checks import Judge
+from ..judging.unread import without_unread
 from ..model import MATROSKA, Claims, Copy, Layout, Outcome, Stretch, open_copy
 from . import differences, known_wrong, preferred_copy
 from .inputs import Inputs
@@ -37,13 +38,12 @@ def compare(layout: Layout, inputs: Inputs, report: Callable[[float, float], Non
     own, stretches = inputs.files[: inputs.own], []
     # What the copies of a Matroska file claim lies in the same elements.
     claims = ([layout.claims, *matroska.claims(own, layout)] if any(copy.form == MATROSKA for copy in own)
-              else [ffprobe.contain(copy).claims for copy in own])
+              else [ffprobe.probe(copy).claims for copy in own])
     for stretch in layout.stretches:
-        for part in known_wrong.without_unread(stretch, inputs.files, inputs.own):
+        for part in without_unread(stretch, inputs.files, inputs.own):
             stretches += differences.split(part, inputs.files)
         report(stretch.end, layout.size)
     stretches, broken = known_wrong.drop_broken(stretches, inputs.files)
-    stretches = [known_wrong.without_lost(stretch, inputs.files) for stretch in stretches]
     reads = [number < inputs.own and can_be_read(copy, layout, broken[number]) for number, copy in enumerate(inputs.files)]
     notes = [f"copy {inputs.numbers[number] + 1} has damaged element headers in {f'{count} places' if count > 1 else 'one place'}, "
              "where those of another copy lead on" for number, count in sorted(broken.items())]

@@ -159,4 +159,5 @@ def cut(stretches: Iterable[Stretch], bounds: Set[int]) -> list[Stretch]:
 def _parts(stretch: Stretch, runs: Sequence[Run], agreed: Label | None) -> list[Stretch]:
     """Returns the parts of a stretch between the ends of runs. In those of the label `agreed` the copies are alike."""
     starts = [0, *(run.end for run in runs)]
-    return [stretch.part(start, run.end - start, is_alike=run.label == agreed) for start, run in zip(starts, runs)]
+    whole = stretch.part_of or (stretch.start, stretch.end)
+    return [stretch.part(start, run.end - start, is_alike=run.label == agreed, part_of=whole) for start, run in zip(starts, runs)]

@@ -12,7 +12,7 @@ from ..model import Copy, Frame, Layout
 from .alignment import Alignment
 
 TAIL = 32
-MOST_READ = 4
+MOST_READ, DIGITS = 4, 2
 NEAR = 0.4
 PIECE = WINDOW = 1 << 20
 # How often a whole file is searched: for a first frame, and after so many frames were looked for near by in vain.
@@ -57,6 +57,7 @@ class Matched:
     contrary: list[Frame] = dataclasses.field(default_factory=list)  # at times at which OUT has another frame
     lasts: float | None = None  # how long it says that it lasts, if it is cut short itself
     tracks: dict[int, int] = dataclasses.field(default_factory=dict)  # OUT's numbers of its FFV1 tracks
+    sound: dict[int, tuple[int, int]] = dataclasses.field(default_factory=dict)  # where it has packets of OUT's sound, by their places, and their sizes
     alignment: Alignment | None = None  # where its bytes lie, if it is OUT's file with bytes lost or added
 
 
@@ -79,6 +80,22 @@ def pair_tracks(ours: Sequence[Frame], theirs: Sequence[Frame], alike: Mapping[i
         pairs.setdefault(track, own)
     left = iter(sorted({frame.track for frame in ours} - set(pairs.values())))
     return {**pairs, **{track: next(left, None) for track in sorted({frame.track for frame in theirs} - set(pairs))}}
+
+
+def pair_sound(ours: Recording, theirs: Layout, copy: Copy) -> dict[int, tuple[int, int]]:
+    """Where a copy of another file has packets of sound, by their places in the first file, with their sizes: those of one time and one size, if
+    of each track most that have content in both are equal, so that it is of one codec."""
+    there = {(packet.track, round(packet.time, DIGITS), packet.size): packet.place for packet in theirs.sound}
+    found: dict[int, dict[int, tuple[int, int]]] = collections.defaultdict(dict)
+    equal: collections.Counter[int] = collections.Counter()
+    for packet in ours.layout.sound:
+        place = there.get((packet.track, round(packet.time, DIGITS), packet.size))
+        if place is not None and place + packet.size <= copy.size:
+            found[packet.track][packet.place] = place, packet.size
+            content = copy.read(place, packet.size)
+            same = any(own.read(packet.place, packet.size) == content for own in ours.copies[:MOST_READ])
+            equal[packet.track] += 0 if is_uniform(content) else 1 if same else -1
+    return {place: pair for track, pairs in found.items() if equal[track] > 0 for place, pair in pairs.items()}
 
 
 class TrackPairing:

@@ -6,10 +6,11 @@ import bisect
 import dataclasses
 import pathlib
 from collections.abc import Iterable, Iterator, Sequence
-from typing import Any
 
 from ..containers import ebml
-from ..model import Copy, Fault, Frame, Kind, Layout, Stretch, open_copy, or_fault
+from ..containers.frame_times import longest_chain
+from ..judging.results import NO_COPY
+from ..model import Copy, Fault, Kind, Layout, Stretch, open_copy, or_fault
 from . import differences
 from .arrangement import Arrangement, Matched
 
@@ -31,15 +32,20 @@ class Inputs:
 
 def gather(arrangement: Arrangement, layout: Layout, copies: Sequence[Copy], work: pathlib.Path) -> tuple[Inputs, Layout]:
     """The files that serve, and the layout with the places of its stretches in each of them: of a copy that lost or gained bytes all that
-    lies in its spans, and of other files frames that no element covers, and elements that no copy of OUT's file has whole, with their
-    frames."""
+    lies in its spans, and of other files frames and sound that no element covers, and elements that no copy of OUT's file has whole, with
+    their frames and sound."""
     basis = [copies[number] for number in arrangement.basis]
     inputs = Inputs(list(basis), list(arrangement.basis), len(basis))
-    bounds = set().union(*(matched.alignment.bounds() for matched in arrangement.matched if matched.alignment))
+    bounds = set().union(*(matched.alignment.bounds() for matched in arrangement.matched if matched.alignment),
+                         *({place, place + size} for matched in arrangement.matched for place, (_, size) in matched.sound.items()))
     stretches = differences.cut(layout.stretches, bounds)
     layout = dataclasses.replace(layout, stretches=stretches)
     lost = [number for number, stretch in enumerate(stretches if arrangement.matched else ()) if stretch.kind is Kind.ELEMENT
             and not any(ebml.passes_in(stretch, basis, copy) for copy in range(len(basis)))]
+    if arrangement.filled:
+        inputs.files.append(arrangement.filled)
+        inputs.numbers.append(NO_COPY)
+        stretches = [dataclasses.replace(stretch, places=(*stretch.places, None if stretch.kind is Kind.PLAIN else stretch.start)) for stretch in stretches]
     for matched in arrangement.matched:
         copy, path = copies[matched.number], str(work / f"frames-of-copy-{matched.number + 1}")
         whole = aligned(layout, matched, copy.size) if matched.alignment else rising(layout, matched)
@@ -64,13 +70,14 @@ def aligned(layout: Layout, matched: Matched, size: int) -> dict[int, int]:
 
 def carry(layout: Layout, copies: Sequence[Copy], other: Copy, matched: Matched, needed: Iterable[int], path: str) -> dict[int, int]:
     """Writes a file that has, one after the other, each of the stretches `needed` as the first copy that has it has it, with those frames
-    over it that the other file has. Returns the place of each stretch there. Those without a frame of the other file are left out."""
-    given = {layout.frames[number].place: place for number, place in matched.places.items()}
+    and packets of sound over it that the other file has. Returns the place of each stretch there. Those without any are left out."""
+    given = sorted([*((layout.frames[number].place, layout.frames[number].size, place) for number, place in matched.places.items()),
+                    *((place, size, there) for place, (there, size) in matched.sound.items())])
     places: dict[int, int] = {}
     end = 0
     with or_fault(f"cannot write {path}"), open(path, "wb") as file:
         for number, stretch in ((number, layout.stretches[number]) for number in sorted(set(needed))):
-            frames = [(frame, given[frame.place]) for frame in stretch.parts if frame.place in given]
+            frames = given[bisect.bisect_left(given, (stretch.start,)) : bisect.bisect_left(given, (stretch.end,))]
             source = next((at for at in stretch.having() if at < len(copies)), None)
             if frames and source is not None:
                 file.writelines(overlay(stretch, copies[source], stretch.places[source] or 0, other, frames))
@@ -79,13 +86,14 @@ def carry(layout: Layout, copies: Sequence[Copy], other: Copy, matched: Matched,
     return places
 
 
-def overlay(stretch: Stretch, source: Copy, place: int, other: Copy, frames: Sequence[tuple[Frame, int]]) -> Iterator[bytes]:
-    """The bytes of a stretch, with frames of the other file over those of the source."""
+def overlay(stretch: Stretch, source: Copy, place: int, other: Copy, packets: Sequence[tuple[int, int, int]]) -> Iterator[bytes]:
+    """The bytes of a stretch, with packets of the other file over those of the source, each by its place and size and its place there."""
     at = stretch.start
-    for frame, frame_place in frames:
-        yield from pieces(source, place + at - stretch.start, frame.place - at)
-        yield from pieces(other, frame_place, frame.size)
-        at = frame.end
+    for start, size, there in packets:
+        if at <= start and start + size <= stretch.end:
+            yield from pieces(source, place + at - stretch.start, start - at)
+            yield from pieces(other, there, size)
+            at = start + size
     yield from pieces(source, place + at - stretch.start, stretch.end - at)
 
 
@@ -99,26 +107,10 @@ def pieces(copy: Copy, place: int, size: int) -> Iterator[bytes]:
 
 
 def rising(layout: Layout, matched: Matched) -> dict[int, int]:
-    """The places of stretches of the kind FRAME in another file, by their numbers. The program reads a copy once from its start on, so
-    places have to rise: of those that do not as few as can be are left out."""
-    given = {layout.frames[number].place: place for number, place in matched.places.items()}
-    found = [(number, given[stretch.start], given[stretch.start] + stretch.size) for number, stretch in enumerate(layout.stretches)
-             if stretch.kind is Kind.FRAME and stretch.parts and stretch.start in given]
+    """The places of frames and of sound in another file, by the numbers of their stretches. The program reads a copy once from its start on,
+    so places have to rise: of those that do not as few as can be are left out."""
+    given = {(layout.frames[number].place, layout.frames[number].size): place for number, place in matched.places.items()}
+    given.update({(place, size): there for place, (there, size) in matched.sound.items()})
+    found = [(number, place, place + stretch.size) for number, stretch in enumerate(layout.stretches)
+             for place in [given.get((stretch.start, stretch.size))] if stretch.kind is not Kind.ELEMENT and place is not None]
     return {found[at][0]: found[at][1] for at in longest_chain([(start, end) for _, start, end in found])}
-
-
-def longest_chain(ranges: Sequence[tuple[int, int]]) -> list[int]:
-    """The numbers of the most ranges, in the order given, of which each begins at or after the end of the one before."""
-    ends: list[int] = []
-    # For each length of a chain the last range of the one that ends first, as a pair of its number and what comes before it.
-    chains: list[tuple[int, Any]] = []
-    for number, (start, end) in enumerate(ranges):
-        length = bisect.bisect_right(ends, start)
-        if length == len(ends) or end < ends[length]:
-            ends[length : length + 1] = [end]
-            chains[length : length + 1] = [(number, chains[length - 1] if length else None)]
-    chain, link = [], chains[-1] if chains else None
-    while link:
-        chain.append(link[0])
-        link = link[1]
-    return chain[::-1]

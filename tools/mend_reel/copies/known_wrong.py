@@ -1,13 +1,11 @@
-"""Versions of a stretch that are known to be wrong, and are none: what of a copy could not be read, element headers that lead nowhere,
-and sectors that were lost."""
+"""Versions of a stretch that are wrong, or seem so: element headers that lead nowhere, and sectors that were lost."""
 from __future__ import annotations
 
-import bisect
 import collections
-import dataclasses
 import re
 from collections.abc import Iterable, Sequence
 
+from ..judging.unread import only
 from ..model import Content, Copy, Kind, Stretch
 from . import differences
 from .differences import PIECE, SECTOR
@@ -16,46 +14,6 @@ from .differences import PIECE, SECTOR
 FILLING = re.compile(rb"(.)\1{%d,}" % (SECTOR - 1), re.DOTALL)
 # Copies that differ in fewer bytes than this around a stretch do not show a lost sector: one of silence with a wrong byte looks the same.
 FEWEST_LOST = 16
-
-
-def only(stretch: Stretch, numbers: Iterable[int]) -> Stretch:
-    """A stretch that some copies alone have."""
-    return dataclasses.replace(stretch, places=tuple(place if at in numbers else None for at, place in enumerate(stretch.places)))
-
-
-# ---- what could not be read
-
-
-def without_unread(stretch: Stretch, copies: Sequence[Copy], own: int) -> list[Stretch]:
-    """The parts of a stretch, in which no copy has a place that it could not be read at: plain ones are cut there. A frame or an element is
-    one part: its check says what of it is right. The first copies, so many as `own`, are of OUT's file."""
-    if not any(copy.unread for copy in copies):
-        return [stretch]
-    cuts = {stretch.start, stretch.end}
-    for copy, place in zip(copies, stretch.places):
-        if place is not None and stretch.kind is Kind.PLAIN:
-            cuts.update(stretch.start + at - place for span in spans_in(copy, place, place + stretch.size) for at in span)
-    ends = sorted(cuts)
-    return [read_part(stretch.part(start - stretch.start, end - start), copies, own) for start, end in zip(ends, ends[1:])]
-
-
-def spans_in(copy: Copy, start: int, end: int) -> list[tuple[int, int]]:
-    """What could not be read between two places of a copy."""
-    first = bisect.bisect_right(copy.unread, (start, start))
-    first -= first > 0 and copy.unread[first - 1][1] > start
-    return [(max(one, start), min(other, end)) for one, other in copy.unread[first : bisect.bisect_left(copy.unread, (end, end))]]
-
-
-def read_part(stretch: Stretch, copies: Sequence[Copy], own: int) -> Stretch:
-    """A stretch as the copies have it that could be read there. If one copy alone could be, and each other one of OUT's file not, what it
-    has stands without doubt. What none could be read is that of the first copy, and open."""
-    having = stretch.having()
-    read = [number for number in having for place in [stretch.places[number] or 0]
-            if spans_in(copies[number], place, place + stretch.size) != [(place, place + stretch.size)]]
-    if read or not having:
-        is_read = len(read) == 1 < len(having) and having[:own] == list(range(own))
-        return dataclasses.replace(only(stretch, read), is_read=is_read)
-    return dataclasses.replace(only(stretch, having[:1]), is_unread=True) if stretch.kind is Kind.PLAIN else stretch
 
 
 # ---- element headers
@@ -80,17 +38,6 @@ def drop_broken(stretches: Iterable[Stretch], copies: Sequence[Copy]) -> tuple[l
 # ---- sectors that were lost
 
 
-def without_lost(stretch: Stretch, copies: Sequence[Copy]) -> Stretch:
-    """Returns a plain stretch without the versions of copies that have lost a sector there, where two others at least agree."""
-    having = stretch.having()
-    if stretch.kind is not Kind.PLAIN or stretch.is_alike or len(having) < 3:
-        return stretch
-    lost = {number for number in having if has_lost_sector(stretch, copies, number, having)}
-    agreed = [group for group in differences.partition(stretch, copies) if not lost.issuperset(group)]
-    is_clear = lost and len(agreed) == 1 and len(agreed[0]) > 1 and lost.isdisjoint(agreed[0])
-    return only(stretch, agreed[0]) if is_clear else stretch
-
-
 def around(stretch: Stretch, number: int) -> tuple[int, int]:
     """Returns the range of a copy in which a lost sector would lie that has bytes of a stretch."""
     place = stretch.places[number] or 0
@@ -98,7 +45,8 @@ def around(stretch: Stretch, number: int) -> tuple[int, int]:
 
 
 def has_lost_sector(stretch: Stretch, copies: Sequence[Copy], number: int, others: Iterable[int]) -> bool:
-    """Whether a copy has one value all over a sector at a stretch, or zeros in a short last one, where another has more values."""
+    """Whether a copy has one value all over a sector at a stretch, or zeros in a short last one, where another has more values. A run that
+    goes on in all copies beside the stretch is content."""
     start, end = around(stretch, number)
     shifts = [(other, (stretch.places[other] or 0) - (stretch.places[number] or 0)) for other in others if other != number]
     for place in range(start, end, PIECE):
@@ -106,10 +54,20 @@ def has_lost_sector(stretch: Stretch, copies: Sequence[Copy], number: int, other
         runs, tail = [match.span() for match in FILLING.finditer(piece)], (place + len(piece)) % SECTOR
         if place + len(piece) == copies[number].size and tail and not any(piece[-tail:]):
             runs.append((len(piece) - tail, len(piece)))
-        theirs = (copies[other].read(max(place + first + shift, 0), last - first) for first, last in runs for other, shift in shifts)
-        if any(each.count(each[:1]) < len(each) for each in theirs):
-            return True
+        for first, last in ((place + first, place + last) for first, last in runs):
+            theirs = (copies[other].read(max(first + shift, 0), last - first) for other, shift in shifts)
+            if any(each.count(each[:1]) < len(each) for each in theirs) and not goes_on(stretch, copies, number, (first, last), shifts):
+                return True
     return False
+
+
+def goes_on(stretch: Stretch, copies: Sequence[Copy], number: int, run: tuple[int, int], shifts: Sequence[tuple[int, int]]) -> bool:
+    """Whether a run of one value in a copy goes on in all copies beside a stretch, within the part that this was cut of: silence or padding.
+    One that begins within a part and goes to its end is a lost sector."""
+    place, whole = stretch.places[number] or 0, stretch.part_of or (stretch.start, stretch.end)
+    sides = ((max(run[0], place - stretch.start + whole[0]), place), (place + stretch.size, min(run[1], place - stretch.start + whole[1])))
+    return any(end - start >= FEWEST_LOST and all(copies[other].read(start + shift, end - start) == copies[number].read(start, end - start)
+                                                  for other, shift in shifts) for start, end in sides)
 
 
 def differ_widely(stretch: Stretch, copies: Sequence[Copy], one: int, other: int) -> bool:

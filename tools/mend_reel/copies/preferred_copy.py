@@ -2,7 +2,7 @@
 from __future__ import annotations
 
 import dataclasses
-from collections.abc import Callable, Container, Iterable, Iterator, Sequence
+from collections.abc import Callable, Container, Iterable, Iterator, Sequence, Set
 
 from ..containers import ebml
 from ..model import Because, Content, Copy, Kind, Layout, Stretch
@@ -85,6 +85,13 @@ def follow(stretch: Stretch, number: int) -> Stretch:
     if stretch.kind is not Kind.PLAIN or stretch.what.content in PLAYED or stretch.places[number] is None:
         return stretch
     return dataclasses.replace(stretch, source=number, because=Because.SHOWS)
+
+
+def without_broken(stretch: Stretch, broken: Set[int]) -> Stretch:
+    """Returns a stretch of how the file hangs together without the versions of some copies, whose own parts do not."""
+    if stretch.kind is not Kind.PLAIN or stretch.is_alike or stretch.what.content in PLAYED:
+        return stretch
+    return dataclasses.replace(stretch, places=tuple(None if number in broken else place for number, place in enumerate(stretch.places)))
 
 
 def differing(stretches: Iterable[Stretch], copies: Sequence[Copy], found: Sequence[KnownDamage], unlike: Container[int] | None

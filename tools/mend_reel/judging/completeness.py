@@ -1,75 +1,31 @@
-"""Whether OUT, read again, shows all frames: those that were listed, and those that its times, duration, index and count speak of."""
+"""Whether a file shows all frames that its times, its duration, its index and its counts speak of."""
 from __future__ import annotations
 
 import bisect
-import dataclasses
 import itertools
-from collections.abc import Iterator, Mapping, Sequence, Set
+from collections.abc import Iterator, Sequence
 
-from ..containers.frame_times import THOUSANDTHS, TrackTimes, end_of, tracks_of
-from ..containers.structure import Found
-from ..copies.arrangement import Left, Matched
-from ..copies.inputs import longest_chain
-from ..model import Claims, Content, Frame, Layout, Outcome, Stretch
-from .kept_digests import Compared
+from ..containers.frame_times import THOUSANDTHS, TrackTimes, end_of, longest_chain, tracks_of
+from ..model import Claims, Content, Frame, Layout
 from .reasons import Reason, Why
-from .results import VERIFIED, NearEnd, Results
+from .results import VERIFIED, Results
 
 # A hidden frame is no smaller than so much of the smallest that is shown. It does not hide in the head of an element.
 SMALLER, SMALL_HEAD = 0.25, 32
 MICROSECONDS = 1_000_000
 
 
-@dataclasses.dataclass
-class Evidence:
-    """What the verdict is judged by."""
-
-    layout: Layout  # what OUT was made by
-    stretches: Sequence[Stretch]  # as they were listed
-    outcomes: Sequence[Outcome]  # what became of those that are not undamaged
-    out: Layout | None  # what lies where in OUT as it was read again; None where nothing can be read
-    claims: Sequence[Claims] = ()  # what the containers of copies claim of the recording
-    matched: Sequence[Matched] = ()  # copies that are other files
-    left: Sequence[Left] = ()  # copies that are left out
-    copy_of_mark: Sequence[int] = ()  # which copy each mark of an outcome is of
-    others: Mapping[int, Layout] = dataclasses.field(default_factory=dict)  # what the other files have, by copy
-    has_damaged_heads: bool = False  # damaged element headers of copies were left out
-    decoded: Mapping[int, NearEnd] = dataclasses.field(default_factory=dict)  # frames with guessed slices that decode, by their places
-    compared: Compared | None = None  # what a kept digest says
-    is_check: bool = False  # one file is checked, and no OUT is made
-    flaws: Sequence[Found] = ()  # where the parts of OUT, or of that file, do not hang together
-    damaged_before: Set[int] = frozenset()  # the numbers of frames that fail their parities in elements that pass
-
-
-def find_lacks(evidence: Evidence, results: Results) -> Iterator[Reason]:
-    """What OUT does not show, in the order of what is surest."""
-    layout, out = evidence.layout, evidence.out
-    if out is None or not out.frames:
-        yield from [Reason(Why.UNREAD)] if layout.frames else []
-    else:
-        # What single copies claim counts where OUT says nothing. Where it does, their bytes were compared.
-        claims, tracks = [out.claims, layout.claims, *(claims.beside(out.claims) for claims in evidence.claims)], tracks_of(out)
-        yield from hidden(layout, out, results)
-        yield from misplaced(out)
-        excuses = Excuses(claims, results, tracks)
-        found = {track.number: list(holes(track, excuses)) for track in tracks}
-        yield from itertools.chain.from_iterable(found.values())
-        yield from counts(layout, claims, tracks)
-        yield from ends(out, claims, tracks, evidence.matched)
-        for track in tracks:
-            yield from indexed(claims, track, [reason.times for reason in found[track.number] if reason.times])
-    for matched in evidence.matched:
-        for why, frames in ((Why.UNPLACED, matched.unplaced), (Why.CONTRARY, matched.contrary)):
-            for frame in sorted(frames, key=lambda frame: frame.time):
-                yield Reason(why, Content.FRAME, times=(frame.time, frame.time), copy=matched.number)
-
-
-def hidden(layout: Layout, out: Layout, results: Results) -> Iterator[Reason]:
-    """The listed frames that OUT's container does not show at their places."""
-    shown = {(frame.track, frame.place, frame.size) for frame in out.frames}
-    for order, frame in zip(results.orders, layout.frames):
-        if (frame.track, frame.place, frame.size) not in shown:
-            yield Reason(Why.HIDDEN, Content.FRAME, frame.track, (order, order), (frame.place, frame.end), (frame.time, frame.time))
+def lacks(layout: Layout, claims: Sequence[Claims], results: Results) -> Iterator[Reason]:
+    """What a file does not show of what it claims, in the order of what is surest. `results` are of the bytes in which the frames lie."""
+    tracks = tracks_of(layout)
+    yield from misplaced(layout)
+    excuses = Excuses(claims, results, tracks)
+    found = {track.number: list(holes(track, excuses)) for track in tracks}
+    yield from itertools.chain.from_iterable(found.values())
+    yield from counts(layout, claims, tracks)
+    yield from ends(layout, claims, tracks)
+    for track in tracks:
+        yield from indexed(claims, track, [reason.times for reason in found[track.number] if reason.times])
 
 
 def misplaced(out: Layout) -> Iterator[Reason]:
@@ -129,8 +85,8 @@ def counts(layout: Layout, claims: Sequence[Claims], tracks: Sequence[TrackTimes
             yield Reason(Why.COUNT, track=number, has=has, count=count)
 
 
-def ends(out: Layout, claims: Sequence[Claims], tracks: Sequence[TrackTimes], others: Sequence[Matched]) -> Iterator[Reason]:
-    """Where OUT ends before the time that the file claims, or a track does, or a copy that is another file and is cut short itself."""
+def ends(out: Layout, claims: Sequence[Claims], tracks: Sequence[TrackTimes]) -> Iterator[Reason]:
+    """Where a file ends before the time that it claims, or a track does."""
     for track in tracks:
         claimed = max((each.ends[track.number] for each in claims if track.number in each.ends), default=0.0)
         if claimed - track.end() > 0.5 * track.most_step():
@@ -138,9 +94,6 @@ def ends(out: Layout, claims: Sequence[Claims], tracks: Sequence[TrackTimes], ot
     end, room = end_of(out)
     duration = max((each.duration or 0.0 for each in claims), default=0.0)
     yield from [Reason(Why.SHORT, times=(end, duration))] if duration - end > room else []
-    for other in others:
-        if other.lasts is not None and other.lasts - end > room:
-            yield Reason(Why.SHORTER, times=(end, other.lasts), copy=other.number)
 
 
 def indexed(claims: Sequence[Claims], track: TrackTimes, known: Sequence[tuple[float, float]]) -> Iterator[Reason]:

@@ -8,7 +8,7 @@ import tempfile
 from collections.abc import Callable, Iterable, Sequence
 
 from ..model import Copy, Frame, Layout, Outcome, SliceReport, State, Stretch, Track
-from ..program.external_programs import run
+from ..engine.external_programs import run
 from .results import GUESSED, NearEnd, is_guessed
 
 NOWHERE = "/dev/null"

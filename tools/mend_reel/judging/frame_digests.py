@@ -11,7 +11,7 @@ from collections.abc import Callable, Iterator, Sequence
 from typing import NamedTuple
 
 from ..model import Content, Copy, Fault, Frame, Layout, Track, or_fault
-from ..program.external_programs import last_line, run
+from ..engine.external_programs import last_line, run
 from .decoding import MOST_FRAMES, is_key
 from .kept_digests import FrameDigests, Report, Stream
 

@@ -1,9 +1,10 @@
-"""Digests of files, and whether a file is the original by a digest that was kept of it, or by those of its frames that FFmpeg's framemd5
-and framehash write: of packets, or of decoded frames."""
+"""Digests of files, and whether a file is the original by a digest that was kept of it, by its line in a manifest, or by those of its frames
+that FFmpeg's framemd5 and framehash write: of packets, or of decoded frames."""
 from __future__ import annotations
 
 import collections
 import dataclasses
+import functools
 import hashlib
 import itertools
 import os
@@ -20,6 +21,10 @@ ALGORITHMS = {32: "md5", 40: "sha1", 64: "sha256", 128: "sha512"}
 LINE = re.compile(r"(\\?)(?:(?P<plain>[0-9a-fA-F]+) [ *](?P<name>.+)|(?P<tag>[A-Za-z0-9]+) \((?P<named>.*)\) = (?P<tagged>[0-9a-fA-F]+))",
                   re.DOTALL)
 ESCAPES = {r"\\": "\\", r"\n": "\n", r"\r": "\r"}
+# A manifest of a bag has its algorithm in its name, and blanks of any number in a line (RFC 8493, section 2.1.3).
+MANIFEST = re.compile(r"(?:tag)?manifest-(\w+)\.txt")
+BAG_LINE = re.compile(r"([0-9a-fA-F]+)[ \t]+\*?(.+)")
+BAG_ESCAPES = {"%0a": "\n", "%0d": "\r", "%25": "%"}
 FRAMES_SIGN = "#format: frame checksums"
 MOST_LINE, MOST_LINES, MOST_STREAMS, MOST_RUNS = 1 << 16, 1 << 20, 64, 10
 HEADER = re.compile(r"#(\w+)(?: ([0-9]{1,9}))?: ?([A-Za-z0-9_/.-]{1,32})")
@@ -43,11 +48,13 @@ class Compared(NamedTuple):
 
 
 def compare(digest_file: str, path: str, named: str, copies: Sequence[str], report: Report = unreported, own: Make | None = None) -> Compared:
-    """What a digest file says of a file that is named so. A line of that name is meant, or of that of a copy, or the only one. `own` makes
-    the digests of frames where it can, and else FFmpeg does."""
-    if next(iter(lines(digest_file)), "").startswith(FRAMES_SIGN):
+    """What a digest file says of a file that is named so. A line of that name is meant, or of that of a copy, or the only one; of a file that
+    has this name of its own its line. `own` makes the digests of frames where it can, and else FFmpeg does."""
+    if is_of_frames(digest_file):
         return compare_frames(digest_file, path, named, report, own)
-    entry = choose(list(filter(None, map(read_line, lines(digest_file)))), named, copies, digest_file)
+    found = entries(digest_file)
+    is_line = named == path and len({entry[1:] for entry in found}) > 1
+    entry = line_of(found, path, digest_file) if is_line else choose(found, named, copies, digest_file)
     made, algorithm = digest(path, entry.algorithm, report), entry.algorithm.upper()
     if made == entry.digest:
         return Compared(True, f"{named} is the original: its {algorithm} is that of {digest_file}", True)
@@ -94,6 +101,26 @@ def lines(path: str) -> Iterator[str]:
             raise Fault(f"{path} is no file of digests: it is too long")
 
 
+def is_of_frames(digest_file: str) -> bool:
+    """Whether a digest file has the digests of one file's frames."""
+    return next(iter(lines(digest_file)), "").startswith(FRAMES_SIGN)
+
+
+def entries(digest_file: str) -> list[Entry]:
+    """The entries of a digest file or a manifest."""
+    bag = MANIFEST.fullmatch(os.path.basename(digest_file))
+    return [entry for entry in map(read_line if bag is None else functools.partial(read_bag_line, bag[1].lower()), lines(digest_file)) if entry]
+
+
+def read_bag_line(algorithm: str, line: str) -> Entry | None:
+    """The entry of a line of a bag's manifest, if its digest is one of that algorithm."""
+    found = BAG_LINE.fullmatch(line)
+    if not found or ALGORITHMS.get(len(found[1])) != algorithm:
+        return None
+    name = re.sub("%(?:0[AaDd]|25)", lambda match: BAG_ESCAPES[match.group().lower()], found[2])
+    return Entry(name, algorithm, found[1].lower())
+
+
 def read_line(line: str) -> Entry | None:
     found = LINE.fullmatch(line)
     made = found and (found["plain"] or found["tagged"])
@@ -118,6 +145,33 @@ def choose(found: Sequence[Entry], named: str, copies: Sequence[str], digest_fil
         return found[0]
     raise Fault(f"{digest_file} has no digest" + (" of the name of OUT or of a copy" if found else " that md5sum, sha1sum, sha256sum or "
                                                   "FFmpeg's framemd5 wrote"))
+
+
+def line_of(found: Sequence[Entry], path: str, digest_file: str) -> Entry:
+    """The entry of a file: that whose path leads to it from the manifest's folder, or is the file's as it is given; else that whose path ends as
+    the file's does, by as many names as possible."""
+    own = {os.path.abspath(path), os.path.realpath(path)}
+    folders = {os.path.dirname(way(digest_file)) for way in (os.path.abspath, os.path.realpath)}
+    meant = ([entry for entry in found if any(os.path.normpath(os.path.join(folder, entry.name)) in own for folder in folders)]
+             or [entry for entry in found if os.path.normpath(entry.name) == os.path.normpath(path)])
+    if not meant:
+        ends = [common_end(entry.name, os.path.abspath(path)) for entry in found]
+        meant = [entry for entry, end in zip(found, ends) if end and end == max(ends)]
+        names = sorted({os.path.normpath(entry.name) for entry in meant})
+        if len(names) > 1:
+            raise Fault(f"{digest_file} has several lines that may be of {path}: those of {names[0]} and of {names[1]}")
+    if not meant:
+        raise Fault(f"{digest_file} does not name {path}")
+    best = max(meant, key=lambda entry: len(entry.digest))
+    if any(entry.algorithm == best.algorithm and entry.digest != best.digest for entry in meant):
+        raise Fault(f"{digest_file} has two digests of {best.name}")
+    return best
+
+
+def common_end(path: str, other: str) -> int:
+    """How many names at the end of two paths are the same."""
+    pairs = zip(reversed(os.path.normpath(path).split("/")), reversed(other.split("/")))
+    return sum(1 for _ in itertools.takewhile(lambda pair: pair[0] == pair[1] != "", pairs))
 
 
 # ---- of frames

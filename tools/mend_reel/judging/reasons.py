@@ -16,8 +16,10 @@ MOST_LINES = 50
 class Why(enum.Enum):
     """Why a place of OUT is in doubt, and what to do."""
 
-    DAMAGED = "damaged in every copy; a further copy may restore {it}"
-    ALONE_DAMAGED = "damaged in the only copy that has {it}; a further copy may restore {it}"
+    FAILS = "damaged{spread}; {remedy}"
+    FAILS_BESIDE = "damaged beside the frames, where sound and block headers lie; {remedy}"
+    DAMAGED = "damaged in every copy{spread}; a further copy may restore {it}"
+    ALONE_DAMAGED = "damaged in the only copy that has {it}{spread}; a further copy may restore {it}"
     VOTED = ("damaged in every copy; {out} has {it} as most copies have each part of a slice, by which all slices pass. That can be by "
              "chance; a further copy may restore {it}")
     REPAIRED = ("damaged in every copy; {out} has {it} with inverted bits, one in a slice, by which all slices pass. That can be by "
@@ -46,12 +48,17 @@ class Why(enum.Enum):
     BROKEN = "the parts of the file lead nowhere there; a further copy may have them right"
     CUT = "the file says that it goes on there; a further copy may have the end"
     AFTER_END = "this lies after the end of the file by its own account"
+    MISLED = "a table there leads to something else; a further copy may have it right"
+    SUM = "the checksum of these bytes fails; a further copy may have them right"
+    SHIFT = "from here on a copy lies otherwise, so bytes were lost from it or put into it, and no checksum says which; {out} has those of copy {source}"
+    MAP = "the map of copy {copy} calls these bytes unread, and it has content there: it is the map of another file"
     MISCOUNTED = "the file counts {count} frames or blocks there, and {has} are in it; a further copy may have the others"
     NO_TABLE = "what says where the frames lie is lost or was never written; a further copy may have it"
     ZEROS = "a text there has zero bytes, as where the last sector of a file is lost; a further copy may have it right"
+    LOST = "a sector of the sound there has one value all over, as where it was lost; a further copy may have it"
     BARE = "this has no checksum, though what lies beside it has one; its checksum may be lost"
     RECORD = "what describes its video to a decoder (the Configuration Record) fails its parity; a further copy may have it right"
-    ROTTEN = ("parts of {it} fail their own checks, though the checksum around {it} passes: {it} was damaged before this file was written; "
+    ROTTEN = ("parts of {it} fail their own checks, though nothing else does: {it} was damaged before this file was written{spread}; "
               "a copy of an earlier file may have {it}")
     UNCHECKED = "no frame has a checksum, so no damage in them can be found; a further copy may confirm them"
     CONTRARY = "copy {copy} has other intact frames at these times; see whether it is of the same recording"
@@ -64,7 +71,8 @@ class Note(enum.Enum):
 
 
 # What lies there is not known.
-OF_BYTES = frozenset({Why.ABSENT, Why.UNDIVIDED, Why.BROKEN, Why.CUT, Why.AFTER_END, Why.MISCOUNTED, Why.BARE, Why.ZEROS})
+OF_BYTES = frozenset({Why.ABSENT, Why.UNDIVIDED, Why.BROKEN, Why.CUT, Why.AFTER_END, Why.MISCOUNTED, Why.BARE, Why.ZEROS,
+                      Why.MISLED, Why.SUM, Why.MAP, Why.SHIFT, Why.LOST})
 OF_FILE = frozenset({Why.SHORT, Why.SHORTER, Why.COUNT, Why.UNCHECKED, Why.NO_TABLE})
 OF_FRAMES = frozenset({Why.HOLE, Why.INDEX, Why.ORDER, Why.UNPLACED, Why.CONTRARY})
 
@@ -84,11 +92,14 @@ class Reason:
     has: int = 0  # how many frames OUT has
     count: int = 1  # how many it would have
     because: Because = Because.ALONE
+    spread: tuple[int, int] | None = None  # the frames after it that depend on it
+    remedy: str = ""  # what may be done, if it is not to look for a further copy
 
     def joined_with(self, after: Reason) -> Reason:
         """This reason and that of what lies after it as one."""
         return dataclasses.replace(self, frames=widest(self.frames, after.frames), bytes=widest(self.bytes, after.bytes),
-                                   times=widest(self.times, after.times), count=self.count + after.count)
+                                   times=widest(self.times, after.times), count=self.count + after.count,
+                                   spread=after.spread)
 
     def is_many(self) -> bool:
         if self.frames:
@@ -105,8 +116,7 @@ class Reason:
         """What is in doubt."""
         track = "" if self.track is None else f" of track {self.track}"
         if self.frames:
-            first, last = self.frames
-            return (f"frame {first}" if first == last else f"frames {first} to {last}") + track
+            return numbers_of(*self.frames) + track
         if self.why in OF_FRAMES:
             return f"{self.count} frame{'s' if self.count > 1 else ''}{track}"
         if self.why in OF_FILE:
@@ -120,12 +130,20 @@ class Reason:
         outer = "" if self.frames or not time else f" from {time}" if " to " in time else f" at {time}"
         return outer + (f" ({', '.join(inner)})" if inner else "")
 
+    def spread_text(self, it: str) -> str:
+        return f", and {numbers_of(*self.spread)} depend{'s' if self.spread[0] == self.spread[1] else ''} on {it}" if self.spread else ""
+
     def text(self, out: str = "OUT") -> str:
         """The reason in a line, in which OUT has a name."""
-        why = self.why.value.format(it="them" if self.is_many() else "it", source=one_more(self.source), because=self.because.value,
+        it = "them" if self.is_many() else "it"
+        why = self.why.value.format(it=it, spread=self.spread_text(it), remedy=self.remedy or f"a further copy may have {it} whole", source=one_more(self.source), because=self.because.value,
                                     copy=one_more(self.copy), out=out, has=self.has, count=self.count,
                                     amount=f"{self.count:,} byte{'s' if self.count != 1 else ''}")
         return f"{self.subject(out)}{self.where()}: {why}"
+
+
+def numbers_of(first: int, last: int) -> str:
+    return f"frame {first}" if first == last else f"frames {first} to {last}"
 
 
 def one_more(number: int | None) -> str:
@@ -150,7 +168,7 @@ def span_of_times(times: tuple[float, float]) -> str:
 
 def key_of(reason: Reason) -> tuple[Any, ...]:
     """What reasons have in common that can be one."""
-    return reason.why, reason.content, reason.track, reason.source, reason.because, reason.copy
+    return reason.why, reason.content, reason.track, reason.source, reason.because, reason.copy, reason.remedy
 
 
 def goes_on(before: Reason, after: Reason) -> bool:

@@ -11,6 +11,8 @@ from ..model import Content, Frame, Kind, Layout, Outcome, SliceReport, State, S
 
 GIVEN, GUESSED = ("settled", "woven"), ("voted", "repaired")
 VERIFIED = (State.WHOLE, State.WOVEN)
+# Stands for a file that is none of the copies.
+NO_COPY = -1
 
 
 class FrameState(enum.Enum):
@@ -95,30 +97,31 @@ def is_guessed(slices: Sequence[SliceReport]) -> bool:
 
 class Results:
     """What became of the frames of a recording. `copy_of_mark` has the copy that each mark of an outcome is of; `near_end` by their places
-    the frames with guessed slices that decode, and `damaged_before` the numbers of frames that fail their parities in elements that pass."""
+    the frames with guessed slices that decode; `failing` the numbers of frames that fail their parities, also where the element around
+    them passes; `alike` by the numbers of elements how many bytes beside their frames all of several copies have alike."""
 
     def __init__(self, layout: Layout, stretches: Sequence[Stretch], outcomes: Iterable[Outcome], copy_of_mark: Sequence[int],
-                 near_end: Mapping[int, NearEnd] | None = None, damaged_before: Set[int] = frozenset()) -> None:
-        self.layout, self.stretches, self.copy_of_mark, self.damaged_before = layout, stretches, copy_of_mark, damaged_before
+                 near_end: Mapping[int, NearEnd] | None = None, failing: Set[int] = frozenset(), alike: Mapping[int, int] | None = None) -> None:
+        self.layout, self.stretches, self.copy_of_mark, self.failing, self.alike = layout, stretches, copy_of_mark, failing, alike or {}
         # That it decodes vouches for no frame of which all was guessed near the end of a slice.
         self.near_end = dict(near_end or {})
         self.decoded = {place for place, near in self.near_end.items() if near is not NearEnd.ALL}
         self.places = [frame.place for frame in layout.frames]
         self.outcomes = {outcome.number: outcome for outcome in outcomes}
-        self.orders, counts = [], collections.Counter[int]()
+        self.orders = layout.orders()
+        self.tracks: dict[int, list[Frame]] = collections.defaultdict(list)
         for frame in layout.frames:
-            self.orders.append(counts[frame.track])
-            counts[frame.track] += 1
+            self.tracks[frame.track].append(frame)
         self.states = list(map(self.find_state, range(len(stretches))))
         self.vouch_for_headers()
         self.frames: dict[int, FrameResult] = {}
         for number in self.outcomes:
             self.add(number)
-        self.add_damaged_before()
+        self.add_failing()
 
     def copies_with(self, marks: str, mark: str) -> set[int]:
         """The copies that have a mark. Several marks may be of one copy."""
-        return {self.copy_of_mark[at] for at, each in enumerate(marks) if each == mark}
+        return {self.copy_of_mark[at] for at, each in enumerate(marks) if each == mark} - {NO_COPY}
 
     def source(self, stretch: Stretch) -> int:
         """The copy that a stretch is taken from where nothing vouches for its bytes."""
@@ -167,10 +170,11 @@ class Results:
             return zeros | ones
         return set().union(*(self.copies_with(place.marks, "0") for place in slices), () if is_given(slices) else zeros)
 
-    def add_damaged_before(self) -> None:
-        """Adds the frames that were damaged before the file was written: all copies of it have them so."""
+    def add_failing(self) -> None:
+        """Adds the frames that fail although nothing else does: they were damaged before the file was written, and all copies have them so."""
         starts = [stretch.start for stretch in self.stretches]
-        for at in self.damaged_before:
+        self.rotten = {at for at in self.failing if at not in self.frames or self.states[self.frames[at].stretch] in VERIFIED}
+        for at in self.rotten:
             number = bisect.bisect_right(starts, self.places[at]) - 1
             damaged = {self.copy_of_mark[mark] for mark in self.stretches[number].having()}
             self.frames[at] = FrameResult(at, self.orders[at], self.layout.frames[at], number, FrameState.LOST, tuple(sorted(damaged)))
@@ -212,21 +216,28 @@ class Results:
         sums: collections.Counter[str] = collections.Counter()
         for number, (stretch, state) in enumerate(zip(self.stretches, self.states)):
             is_named = state in (State.AGREED, State.ALONE, State.READ)
-            verified = stretch.size if is_named else self.verified(number, stretch)
-            sums.update({state.value if is_named else "verified": verified, "open": stretch.size - verified})
+            verified, agreed = stretch.size if is_named else self.verified(number, stretch), 0 if is_named else self.alike.get(number, 0)
+            sums.update({state.value if is_named else "verified": verified})
+            sums.update(agreed=agreed, open=stretch.size - verified - agreed)
         return Sums(*(sums[name] for name in Sums().named()))
 
     def verified(self, number: int, stretch: Stretch) -> int:
         """How many bytes of a stretch pass a checksum in OUT: all, or those of its frames that are given back, or decode with guessed
         slices, and of its FLAC frames that the program does not list as lost."""
         if self.states[number] in VERIFIED or self.is_decoded(stretch):
-            return stretch.size
+            return stretch.size - sum(self.layout.frames[at].size for at in self.numbers(stretch) if at in self.rotten)
         slices, given = self.outcomes[number].slices if number in self.outcomes else {}, 0
         for part, (place, size, is_flac) in enumerate(stretch.listed_parts() if stretch.kind is Kind.ELEMENT else ()):
             result = None if is_flac else self.frames.get(bisect.bisect_left(self.places, place))
             is_lost = result and not (result.slices and is_given(result.slices) or place in self.decoded)
             given += size * (all(each.state == "whole" for each in slices.get(part, ())) if is_flac else not is_lost)
         return given
+
+    def open_beside(self, number: int) -> int:
+        """How many bytes of an element nothing vouches for beside its frames that are lost."""
+        stretch = self.stretches[number]
+        lost = sum(each.frame.size for each in self.within(number) if each.state is FrameState.LOST)
+        return max(stretch.size - self.verified(number, stretch) - self.alike.get(number, 0) - lost, 0)
 
     def verified_in(self, copy: int) -> int:
         """How many bytes of a copy pass a checksum: those of stretches that do, and that it has as OUT has them."""

@@ -12,7 +12,8 @@ from typing import Any, NoReturn, TextIO
 from ..model import Fault
 from . import options, session
 from .kept_frames import refuse_kept
-from .output_files import INTERRUPTS, Files, WorkFolder, descriptor_of, holds_data, in_one_line, is_same, is_written_to, uninterrupted
+from .output_files import (INTERRUPTS, Files, WorkFolder, descriptor_of, holds_data, in_one_line, is_recording, is_same, is_written_to,
+                           uninterrupted)
 from .progress import Progress
 from .session import Outputs
 
@@ -43,6 +44,8 @@ def check(asked: options.Options) -> None:
                 raise Fault(f"{path} is {'one of the copies' if read in asked.copies else f'read: it is {read}'}")
         if os.path.isdir(path) and descriptor is None:
             raise Fault(f"cannot write {path}: it is a folder")
+        if path != asked.out and is_recording(path):
+            raise Fault(f"{path} is a recording: only -o overwrites one")
         if holds_data(path) and not asked.force:
             raise Fault(f"{path} is there (--force overwrites it)")
         if place in places and (descriptor is not None or not is_written_to(path)):
@@ -96,6 +99,8 @@ def main() -> int:
         with uninterrupted():
             work = WorkFolder()
         outputs = Outputs(asked, files, work)
+        # Another run may have made one of the files meanwhile: from here on their parts are held.
+        check(asked)
         finished = session.run(asked, work.path, outputs, progress)
         progress.end()
         return finish(asked, outputs, *finished)

@@ -10,7 +10,7 @@ FINISHED = "+"
 NUMBER = r"(0[xX][0-9a-fA-F]{1,16}|[0-9]{1,20})"
 STATUS = re.compile(rf"{NUMBER}\s+[?*/FG+-](?:\s+\S+)?", re.ASCII)
 BLOCK = re.compile(rf"{NUMBER}\s+{NUMBER}\s+([?*/+-])", re.ASCII)
-MOST_LINE, MOST_LINES = 4096, 1 << 22
+MOST_LINE, MOST_LINES, SECTOR = 4096, 1 << 22, 512
 
 
 def unread(path: str, copy: Copy) -> list[tuple[int, int]]:
@@ -25,6 +25,17 @@ def unread(path: str, copy: Copy) -> list[tuple[int, int]]:
         if status != FINISHED and start < end:
             joins = found and found[-1][1] == start
             found[-1 if joins else len(found) :] = [(found[-1][0] if joins else start, end)]
+    return found
+
+
+def contradicted(copy: Copy) -> list[tuple[int, int]]:
+    """What of a copy is called unread and holds no filling: neither one value all over a sector, nor the same in each of several."""
+    found = []
+    for start, end in copy.unread:
+        pieces = [copy.read(place, min(SECTOR, end - place)) for place in range(start, end, SECTOR)]
+        is_repeated = len(pieces) > 1 and all(piece == pieces[0][: len(piece)] for piece in pieces)
+        if not is_repeated and not all(piece.count(piece[:1]) == len(piece) for piece in pieces):
+            found.append((start, end))
     return found
 
 

@@ -10,11 +10,11 @@ import tempfile
 from collections.abc import Iterable, Sequence
 from typing import NamedTuple
 
+from ..engine.external_programs import last_line, run
 from ..judging.results import FrameResult, FrameState
 from ..model import Copy, Fault, Track
 from ..reports.pictures import LONGEST, Drawn, Shape, Tiles, blank, picture, shape_of, tiles_of
-from .external_programs import last_line, run
-from .output_files import in_one_line, is_same
+from .output_files import in_one_line, is_recording, is_same
 
 # The word by which ffv1restore holds frames of any recording with parities, and the statuses with which it has written a picture.
 ANY, SHOWN = "--any", (0, 3)
@@ -38,11 +38,13 @@ class Held(NamedTuple):
 
 
 def refuse_kept(folders: Iterable[str], copies: Sequence[str], force: bool) -> None:
-    """Refuses to overwrite what an earlier call kept in some folders, and copies that have such names."""
+    """Refuses to overwrite what an earlier call kept in some folders, and copies and recordings that have such names."""
     for path in (os.path.join(folder, name) for folder in folders if os.path.isdir(folder)
                  for name in sorted(os.listdir(folder)) if KEPT.fullmatch(name)):
         if any(is_same(path, copy) for copy in copies):
             raise Fault(f"{path} is one of the copies")
+        if is_recording(path):
+            raise Fault(f"{path} is a recording: only -o overwrites one")
         if not force:
             raise Fault(f"{path} is there (--force overwrites it)")
 
@@ -161,6 +163,8 @@ def copy_over(path: pathlib.Path, name: str, others: Sequence[str]) -> str | Non
     """Copies a file, and returns why that could not be."""
     if any(is_same(name, other) for other in others):
         return f"{name} is not kept: it is another file of this call"
+    if is_recording(name):
+        return f"{name} is not kept: it is a recording"
     try:
         shutil.copyfile(path, name)
         return None

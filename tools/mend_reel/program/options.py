@@ -12,9 +12,9 @@ DESCRIPTION = """Makes OUT, one good recording, from damaged copies of a recordi
 verified by a checksum, or copies agree on it, or it is reported. Without -o the first COPY is OUT, as it was before there was -o: for
 scripts. An OUT that is one of the copies is refused. Where OUT or FILE is a device, a pipe or -, it is written to, not replaced; - is
 standard output."""
-EPILOG = """exit status: 0 OUT is what was recorded, as far as any check can tell (with --check: no copy is damaged); 1 a fault, reported on
-standard error, and no OUT was made, or the line says that it was; 2 the command line was not understood; 3 OUT was made and something is
-open or missing in it (with --check: a copy is damaged)"""
+EPILOG = """exit status: 0 OUT is what was recorded, as far as any check can tell (with --check: no copy is damaged); 1 a fault, reported on standard
+error, and no OUT was made, or the line says that it was (with --check: a copy could not be judged); 2 the command line was not
+understood; 3 OUT was made and something is open or missing in it (with --check: a copy is damaged)"""
 END_OF_OPTIONS = "--"
 
 
@@ -63,10 +63,11 @@ def parser() -> argparse.ArgumentParser:
     add("paths", nargs="*", metavar="COPY", help="the copies; without -o and --check the first one is OUT")
     add("-o", "--out", metavar="OUT", help="the file to make")
     add("--check", action="store_true", help="report what is damaged in one or more copies, and write no OUT")
-    add("--force", action="store_true", help="overwrite files that exist; a recording of the same video only as the OUT of -o")
+    add("--force", action="store_true", help="overwrite files that exist; recordings only as OUT, one of the same video only as that of -o")
     add("--report", metavar="FILE", help="write a page in HTML: the verdict, a timeline, a table of what is damaged")
     add("--json", metavar="FILE", help="write the same for machines")
-    add("--digest", metavar="FILE", help="compare OUT with the digest that md5sum, sha1sum, sha256sum or FFmpeg's framemd5 wrote")
+    add("--digest", metavar="FILE", help="compare OUT with the digest that md5sum, sha1sum, sha256sum, sha512sum or FFmpeg's framemd5 wrote; "
+        "with --check each copy with its line in a manifest of these or of BagIt")
     add("--digests", action="store_true", help="take the SHA-256 of OUT and of each copy into the reports")
     add("--map", metavar="COPY=FILE", action="append", default=[],
         help="what GNU ddrescue's mapfile FILE calls unread is no version of COPY")
@@ -91,8 +92,6 @@ def read(words: Sequence[str]) -> Options:
         asked.out = paths.pop(0)
     if not paths:
         made.error(f"the following arguments are required: {'COPY' if asked.check or asked.out is not None else 'OUT, COPY'}")
-    if asked.check and asked.digest is not None and len(paths) > 1:
-        made.error("argument --digest: with --check there must be one copy")
     named = {field.name: getattr(asked, field.name) for field in dataclasses.fields(Options) if hasattr(asked, field.name)}
     if "" in (*named.values(), *paths):
         made.error("a name is empty")

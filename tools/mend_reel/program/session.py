@@ -9,33 +9,39 @@ import pathlib
 import shutil
 import stat
 import sys
-from collections.abc import Iterable, Mapping, Sequence
+from collections.abc import Iterable, Iterator, Mapping, Sequence, Set
 
-from ..containers import ffprobe, matroska, structure
-from ..copies.arrangement import Arrangement, arrange, describe
+from ..containers.files import describe, flaws_of, form_of
+from ..containers.known import ENDINGS, by_start
+from ..containers.structure import Flaw, Found
+from ..copies import evidence
+from ..copies.arrangement import Arrangement, arrange, is_good, why_no_video, with_good
 from ..copies.comparison import Comparison, best_shown, compare
+from ..copies.filling import placed
 from ..copies.inputs import Inputs, gather
-from ..copies.preferred_copy import follow
-from ..judging import copy_health, decoding, frame_digests, kept_digests
-from ..judging.frame_checks import Scan
-from ..judging.results import FrameResult, FrameState, NearEnd
-from ..judging.verdict import Evidence, Verdict, judge
-from ..model import MATROSKA, Copy, Fault, Frame, Layout, Outcome, State, Stretch, Track, open_copy, or_fault
+from ..copies.preferred_copy import follow, without_broken
+from ..engine.external_programs import find_ffv1restore, of_each, version_of
+from ..engine.frame_checks import Scan
+from ..engine.mend_run import list_of, mend, write_list
+from ..judging import decoding, frame_digests, kept_digests
+from ..judging.judgment import Judgment, judge_file
+from ..judging.parities import NO_PARITIES, lack_parities, without_parts
+from ..judging.reasons import Reason, Why
+from ..judging.results import NO_COPY, VERIFIED, FrameResult, FrameState, NearEnd, Results
+from ..mending.verdict import Evidence, Verdict, judge, verdict_of_file
+from ..model import Because, Copy, Fault, Frame, Kind, Layout, Outcome, SliceReport, State, Stretch, Track, open_copy, or_fault
 from ..reports import json_document, page
-from ..reports.summary import CopySummary, Role, Summary
+from ..reports.summary import CopySummary, Entry, Role, Summary, Unreadable, of_files
 from . import ddrescue_maps, output_files
-from .external_programs import find_ffv1restore, of_each, version_of
 from .kept_frames import Held, Keeper
-from .mend_run import list_of, mend, write_list
 from .options import VERSION, Options
 from .output_files import Files, Output, WorkFolder, check_room, is_written_to
 from .progress import Progress
 
-NOWHERE = "/dev/null"
 PIECE = 1 << 20
+NONE: Set[int] = frozenset()
 # How many frames a report shows.
 MOST_SHOWN = 200
-SUFFIXES = {MATROSKA: {".mkv", ".webm", ".mka"}, "avi": {".avi"}, "mov": {".mov", ".mp4", ".m4v", ".qt"}, "nut": {".nut"}, "mxf": {".mxf"}}
 WRITERS = {"report": page.write, "json": json_document.write}
 
 
@@ -46,9 +52,39 @@ class Made:
     stretches: list[Stretch]  # in the order of OUT
     outcomes: list[Outcome]  # what became of those that are not undamaged, by their numbers
     out: Layout  # what lies where in OUT when it is read again
-    flaws: list[structure.Found]  # where its parts do not hang together
-    part: str | None = None  # its path while it is made
-    decoded: Mapping[int, NearEnd] = dataclasses.field(default_factory=dict)  # frames with guessed slices that decode, by their places
+    flaws: list[Found]  # where its parts do not hang together
+    part: str  # its path while it is made
+    decoded: Mapping[int, NearEnd]  # frames with guessed slices that decode, by their places
+    failing: frozenset[int]  # the numbers of the frames that fail their parities in it, though the elements around them pass
+
+
+@dataclasses.dataclass
+class Attempt:
+    """OUT as it was made of copies that were arranged so."""
+
+    arrangement: Arrangement
+    layout: Layout
+    comparison: Comparison
+    made: Made
+
+    @property
+    def inputs(self) -> Inputs:
+        return self.comparison.inputs
+
+    def is_copy(self, number: int) -> bool:
+        """Whether OUT is byte for byte one of the copies of its file."""
+        at, file = self.inputs.numbers.index(number), self.inputs.files[self.inputs.numbers.index(number)]
+        return not self.layout.gaps and self.layout.size == file.size and all(each.marks[at] == "1" for each in self.made.outcomes)
+
+    def damaged(self) -> set[int]:
+        """The copies of OUT's file in which a check fails, as OUT passes it and the bytes before it, which lead there, are OUT's."""
+        differs = {each.number: each.marks for each in self.made.outcomes}
+        return {self.inputs.numbers[at] for number, marks in differs.items() for at, mark in enumerate(marks[: self.inputs.own])
+                if mark == "0" and self.made.stretches[number].kind is not Kind.PLAIN and differs.get(number - 1, marks.replace("0", "1"))[at] == "1"
+                and self.state(number) is not State.DISPUTED}
+
+    def state(self, number: int) -> State:
+        return next(each.state for each in self.made.outcomes if each.number == number)
 
 
 class Outputs:
@@ -56,15 +92,13 @@ class Outputs:
 
     def __init__(self, options: Options, files: Files, work: WorkFolder) -> None:
         self.files, self.is_out_made = files, False
-        self.left = [f"a run that was killed left {path}; remove it if no other run makes {options.out} now"
-                     for path in (output_files.leftovers(options.out) if options.out is not None else [])]
-        self.left += [f"a run that was killed left {path}; remove it" for path in output_files.left_folders()]
         for folder in filter(None, (options.keep, options.pictures)):
             files.make_folder(folder)
         self.out, self.report, self.json = (None if path is None else files.make(path, str(work.path))
                                             for path in (options.out, options.report, options.json))
+        self.left = [f"a run that was killed left {path}; remove it" for path in (*files.left, *output_files.left_folders())]
 
-    def write_reports(self, summaries: Sequence[Summary]) -> list[Fault]:
+    def write_reports(self, entries: Sequence[Entry]) -> list[Fault]:
         """Writes the page and the document, if they are asked for, and returns why one can't be written."""
         faults = []
         for name, write in WRITERS.items():
@@ -72,7 +106,7 @@ class Outputs:
             try:
                 if output is not None:
                     with or_fault(f"cannot write {output.path}"), open(output.part, "w", encoding="utf-8") as made:
-                        write(made, summaries)
+                        write(made, entries)
                     self.files.settle(output)
             except Fault as fault:
                 faults.append(fault)
@@ -82,21 +116,39 @@ class Outputs:
 def run(options: Options, work: pathlib.Path, outputs: Outputs, progress: Progress) -> tuple[list[str], int, list[Fault]]:
     """Makes OUT, or judges each file by itself. OUT has its place before anything else is written. Returns the lines to print, the exit
     status, and what could not be judged or written."""
-    summaries: list[Summary] = []
-    faults: list[Fault] = []
-    if options.out is not None:
-        summaries.append(Session(options, work, outputs, progress).run())
-    for number, path in enumerate(options.copies if options.out is None else ()):
-        (work / str(number)).mkdir()
-        maps = {0: options.maps[number]} if number in options.maps else {}
+    entries: Sequence[Entry] = ([Session(options, work, outputs, progress).run()] if options.out is not None
+                                else list(checked(options, work, outputs, progress)))
+    faults = [Fault(entry.fault) for entry in entries if isinstance(entry, Unreadable)] + outputs.write_reports(entries)
+    lines = [line for entry in entries for line in entry.lines()] + ([of_files(entries)] if len(entries) > 1 else [])
+    return lines, max(entry.status for entry in entries), faults
+
+
+def checked(options: Options, work: pathlib.Path, outputs: Outputs, progress: Progress) -> Iterator[Entry]:
+    """What is found of each file that is checked. One that can't be judged costs the others nothing."""
+    program, several = find_ffv1restore(), len(options.copies) > 1
+    if options.digest is not None and several and kept_digests.is_of_frames(options.digest):
+        raise Fault(f"{options.digest} has the digests of one file's frames, and several files are given")
+    for number, path in enumerate(options.copies):
+        alone = dataclasses.replace(options, copies=(path,), maps={0: options.maps[number]} if number in options.maps else {})
         try:
-            summaries.append(Session(dataclasses.replace(options, copies=(path,), maps=maps), work / str(number), outputs, progress).run())
-        except Fault as fault:
-            faults.append(fault)
-    if not summaries:
-        raise faults[0]
-    faults += outputs.write_reports(summaries)
-    return [line for summary in summaries for line in summary.lines()], max(each.verdict.status for each in summaries), faults
+            if options.digest is not None and several:
+                kept_digests.line_of(kept_digests.entries(options.digest), path, options.digest)
+            (work / str(number)).mkdir()
+            yield Session(alone, work / str(number), outputs, progress).run()
+        except (Fault, OSError) as fault:
+            yield Unreadable(*circumstances(program), path, str(fault))
+
+
+def circumstances(program: str) -> tuple[str, Mapping[str, str], Sequence[str]]:
+    """When, by which programs, and by which words the work is done."""
+    date = datetime.datetime.now(datetime.timezone.utc).isoformat(timespec="seconds")
+    versions = {"mend-reel": VERSION, "ffv1restore": version_of(program), "ffprobe": version_of("ffprobe")}
+    return date, versions, ["mend-reel", *sys.argv[1:]]
+
+
+def with_marks(slices: Mapping[int, Sequence[SliceReport]]) -> dict[int, tuple[SliceReport, ...]]:
+    """The slices of parts with the mark of one more file, which has none of them."""
+    return {part: tuple(dataclasses.replace(each, marks=each.marks + "-") for each in own) for part, own in slices.items()}
 
 
 def patch(source: pathlib.Path, out: str, stretches: Iterable[Stretch]) -> None:
@@ -108,81 +160,168 @@ def patch(source: pathlib.Path, out: str, stretches: Iterable[Stretch]) -> None:
                 made.write(file.read(min(PIECE, stretch.size - place)))
 
 
-def form_of(copy: Copy) -> str:
-    """The name of a copy's container; nothing where it can't be read."""
-    return MATROSKA if matroska.is_matroska([copy]) else ffprobe.contain(copy).form if ffprobe.can_ask() else ""
-
-
-def flaws_of(copy: Copy, form: str, layout: Layout) -> list[structure.Found]:
-    """Where the parts of a file do not hang together."""
-    return list(matroska.flaws(copy, layout) if form == MATROSKA else structure.read(copy).flaws)
-
-
 class Session:
     """One OUT, or one file that is checked."""
 
     def __init__(self, options: Options, work: pathlib.Path, outputs: Outputs, progress: Progress) -> None:
         self.options, self.work, self.outputs, self.progress = options, work, outputs, progress
         self.program = find_ffv1restore()
-        self.judge = Scan(self.program, work)
+        self.scan = Scan(self.program, work)
         self.keeper = Keeper(self.program, work, options.keep, options.pictures, options.report is not None)
         self.notes: list[str] = list(outputs.left)
+        self.told: list[Reason] = []
+        self.copies: list[Copy] = []
+        self.judgments: dict[int, Judgment] = {}
 
     def run(self) -> Summary:
         """Does the work."""
-        copies = [open_copy(path) for path in self.options.copies]
+        self.copies = [open_copy(path) for path in self.options.copies]
         for number, path in self.options.maps.items():
-            copies[number].unread = ddrescue_maps.unread(path, copies[number])
-        self.progress.watch(copies)
+            self.read_map(number, path)
+        self.progress.watch(self.copies)
         try:
-            return self.judged(copies)
+            self.progress.begin("reading the copies")
+            for copy, form in zip(self.copies, of_each(self.options.jobs, form_of, self.copies)):
+                copy.form = form
+            return self.checked() if self.options.out is None else self.mended()
         finally:
-            for copy in copies:
+            for copy in self.copies:
                 os.close(copy.file)
 
-    def judged(self, copies: Sequence[Copy]) -> Summary:
-        """What becomes of some copies."""
-        self.progress.begin("reading the copies")
-        for copy, form in zip(copies, of_each(self.options.jobs, form_of, copies)):
-            copy.form = form
-        self.refuse_recording(copies)
-        arrangement = arrange(copies, self.judge)
-        layout = arrangement.layout
-        if copy_health.lack_parities(layout, [copies[number] for number in arrangement.basis]):
-            layout = copy_health.without_parts(layout)
-            self.notes.append(copy_health.NO_PARITIES)
+    def read_map(self, number: int, path: str) -> None:
+        """Takes what a map calls unread, but from one that calls so what has content: that is the map of another file."""
+        copy = self.copies[number]
+        copy.unread = ddrescue_maps.unread(path, copy)
+        wrong = ddrescue_maps.contradicted(copy)
+        self.told += [Reason(Why.MAP, bytes=span, copy=number) for span in wrong]
+        copy.unread = [] if wrong else copy.unread
+
+    def judgment(self, number: int) -> Judgment:
+        """The judgment of a copy, which is made once."""
+        if number not in self.judgments:
+            self.judgments[number] = judge_file(self.copies[number], self.scan)
+        return self.judgments[number]
+
+    # ---- a file that is checked
+
+    def checked(self) -> Summary:
+        """What checks say of a file."""
+        copy, judged = self.copies[0], self.judgment(0)
+        layout = judged.layout
+        if not layout.frames and not any(track.is_encoded for track in layout.tracks):
+            raise Fault("; ".join(why_no_video(self.copies)))
+        self.note_parities(judged.has_parities, layout)
+        judged.reasons = [*self.told, *judged.reasons]
+        verdict = verdict_of_file(judged, self.compared(copy.path, layout), self.mendable(judged), copy.path)
+        self.keep_frames(layout, Inputs([copy], [0], 1), layout.stretches, verdict)
+        return self.summary(Arrangement([0], layout), layout, verdict, None)
+
+    def mendable(self, judged: Judgment) -> set[int]:
+        """The numbers of the damaged frames of a file that it can give back alone: with a bit inverted they pass, and decode."""
+        layout, copy = judged.layout, self.copies[0]
+        failing = [layout.stretches[number] for number in judged.results.outcomes]
+        if not judged.results.failing or not failing:
+            return set()
+        listed, outcomes = self.mend_listed("few", failing, str(self.work / "again"), [copy], layout.size)
+        made = open_copy(str(self.work / "again"))
+        try:
+            overlay = evidence.Overlay(copy, made, listed)
+            decoder = decoding.SamplesDecoder(overlay, layout.frames, self.program, self.work)
+            decoded = decoding.decoded(layout, listed, outcomes, decoder, decoding.GuessFinder(overlay, [copy]))
+        finally:
+            os.close(made.file)
+        results = Results(layout, listed, outcomes, [0], decoded)
+        return {at for at in judged.results.failing if at in results.frames and results.frames[at].state is not FrameState.LOST}
+
+    def note_parities(self, has_parities: bool, layout: Layout) -> None:
+        if not has_parities:
+            self.notes.append(NO_PARITIES)
             for track in filter(lambda track: track.is_ffv1, layout.tracks):
                 self.keeper.is_asked_for(track)
-        inputs, layout = gather(arrangement, layout, copies, self.work)
-        self.progress.begin("comparing the copies")
-        comparison = compare(layout, inputs, self.progress.at)
-        others = {matched.number: describe([copies[matched.number]], self.judge, False) for matched in arrangement.matched}
-        claims = [*comparison.claims, *(others[matched.number].claims.of_tracks(matched.tracks) for matched in arrangement.matched)]
-        made = self.make(comparison)
-        form, suffix = inputs.form(), os.path.splitext(self.options.out or "")[1].lower()
-        named = {each for each, suffixes in SUFFIXES.items() if suffix in suffixes}
-        self.notes += [*arrangement.notes(copies), *comparison.notes]
-        self.notes += [f"OUT is a file of {form}, though its name ends with {suffix}"] if named and form and form not in named else []
-        compared, damaged_before, path = None, arrangement.damaged_before, made.part or self.options.copies[0]
-        if self.options.digest is not None:
-            self.progress.begin("comparing with the digest")
-            compared = self.compare_with_digest(self.options.digest, path, made.out)
-        if self.options.out is None:
-            damaged_before = copy_health.damaged_before(layout, [copy_health.health(copies[0], 0, layout, self.judge)])
+
+    # ---- OUT
+
+    def mended(self) -> Summary:
+        """OUT, and what became of the copies."""
+        self.refuse_recording(self.copies)
+        attempt = self.attempt(arrange(self.copies, self.scan, self.judgment, self.work))
+        better = self.better(attempt)
+        while better is not None:
+            attempt = self.attempt(better)
+            better = self.better(attempt)
+        arrangement, layout, inputs, made = attempt.arrangement, attempt.layout, attempt.inputs, attempt.made
+        self.note_parities(bool(layout.frames) == any(stretch.parts for stretch in layout.stretches), layout)
+        others = {matched.number: describe([self.copies[matched.number]], self.scan, False) for matched in arrangement.matched}
+        claims = [*attempt.comparison.claims, *(others[matched.number].claims.of_tracks(matched.tracks) for matched in arrangement.matched)]
+        self.notes += [*arrangement.notes(self.copies), *attempt.comparison.notes, *self.note_name(inputs.form())]
+        alike = evidence.alike_beside(made.stretches, made.outcomes, inputs.files[: inputs.own])
         verdict = judge(Evidence(
             layout, made.stretches, made.outcomes, made.out, claims, arrangement.matched, arrangement.left, inputs.numbers, others,
-            bool(comparison.notes), made.decoded, compared, self.options.out is None, made.flaws, damaged_before))
-        self.keep_frames(layout, inputs, made, verdict)
-        summary = self.summary(copies, arrangement, layout, verdict, made.part)
+            bool(attempt.comparison.notes), made.decoded, self.compared(made.part, made.out), made.flaws, made.failing, alike, self.told,
+            len(self.copies) == 1, arrangement.good is not None))
+        self.keep_frames(layout, inputs, made.stretches, verdict)
+        summary = self.summary(arrangement, layout, verdict, made.part)
         if self.outputs.out is not None:
             self.outputs.files.settle(self.outputs.out)
             self.outputs.is_out_made = True
         self.notes += self.keeper.hand_over([*self.options.copies, *self.options.read(), *self.options.made()])
         return summary
 
-    def compare_with_digest(self, digest: str, path: str, layout: Layout) -> kept_digests.Compared:
-        """What a kept digest says of OUT, or of the file that is checked, in which this lies. Where ffmpeg is there, it makes the digests of frames:
-        then their times are compared too."""
+    def note_name(self, form: str) -> list[str]:
+        """That OUT's name ends otherwise than that of a file of its container."""
+        suffix = os.path.splitext(self.options.out or "")[1].lower()
+        named = {each for each, endings in ENDINGS.items() if suffix in endings}
+        return [f"OUT is a file of {form}, though its name ends with {suffix}"] if named and form and form not in named else []
+
+    def attempt(self, arrangement: Arrangement) -> Attempt:
+        """Has OUT made of copies that are arranged so."""
+        own = [self.copies[number] for number in arrangement.basis]
+        layout = placed(arrangement.layout, own)
+        layout = without_parts(layout) if lack_parities(layout, own) else layout
+        inputs, layout = gather(arrangement, layout, self.copies, self.work)
+        self.progress.begin("comparing the copies")
+        comparison = compare(layout, inputs, self.progress.at)
+        if arrangement.good is not None:
+            at = inputs.numbers.index(arrangement.good)
+            broken = {number for number in range(inputs.own) if number != at and self.is_broken(inputs.files[number])} if by_start(inputs.files[at]) else NONE
+            comparison.layout.stretches = [dataclasses.replace(without_broken(stretch, broken), source=at, because=Because.GOOD)
+                                           for stretch in comparison.layout.stretches]
+        return Attempt(arrangement, layout, comparison, self.make(comparison, arrangement.good is not None))
+
+    def is_broken(self, copy: Copy) -> bool:
+        """Whether the parts of a copy do not hang together, so that where they lie differs from an undamaged copy is no doubt."""
+        if copy.is_broken is None:
+            layout = describe([copy], self.scan) if by_start(copy) else None
+            copy.is_broken = layout is None or bool(layout.gaps) or any(
+                found.flaw is not Flaw.LOST for found in flaws_of(copy, copy.form, layout))
+        return copy.is_broken
+
+    def better(self, attempt: Attempt) -> Arrangement | None:
+        """Another way to arrange the copies, if OUT is none of the undamaged ones, or shows more of itself than they did; None if not."""
+        arrangement = attempt.arrangement
+        if arrangement.good is not None or arrangement.is_read_again:
+            return None
+        damaged = attempt.damaged()
+        undamaged = [number for number in arrangement.basis if number not in damaged and is_good(self.judgment(number))]
+        if undamaged:
+            own = attempt.inputs.files[: attempt.inputs.own]
+            votes = evidence.votes(attempt.made.stretches, attempt.made.outcomes, own) if len(undamaged) > 1 else {}
+            made = with_good(arrangement, undamaged, self.judgments, {number: votes.get(at, 0) for at, number in enumerate(arrangement.basis)})
+            if attempt.is_copy(made.good or 0) and not made.editions:
+                arrangement.good, arrangement.differ = made.good, bool(attempt.made.outcomes or arrangement.matched)
+                return None
+            return made
+        out = attempt.made.out
+        is_more = len(out.frames) > len(attempt.layout.frames) or bool(attempt.layout.gaps) and not out.gaps
+        return dataclasses.replace(arrangement, layout=out, is_read_again=True) if is_more and len(self.copies) > 1 else None
+
+    def compared(self, path: str, layout: Layout) -> kept_digests.Compared | None:
+        """What a kept digest, if there is one, says of OUT, or of the file that is checked, in which this lies. Where ffmpeg is there, it makes
+        the digests of frames: then their times are compared too."""
+        digest = self.options.digest
+        if digest is None:
+            return None
+        self.progress.begin("comparing with the digest")
         file = open_copy(path)
         try:
             own = None if shutil.which("ffmpeg") else frame_digests.OwnDigests(file, layout, self.program, self.work)
@@ -198,7 +337,7 @@ class Session:
         there = open_copy(path)
         try:
             there.form = form_of(there)
-            left = {left.number for left in arrange([there, *copies], self.judge).left}
+            left = {left.number for left in arrange([there, *copies], self.scan, lambda number: judge_file([there, *copies][number], self.scan), self.work).left}
         except Fault:
             return
         finally:
@@ -206,17 +345,18 @@ class Session:
         if 0 not in left and len(left) < len(copies):
             raise Fault(f"{path} is a recording of the same video as the copies (-o {path} overwrites it)")
 
-    # ---- OUT
+    # ---- how it is made
 
-    def make(self, comparison: Comparison) -> Made:
-        """Has OUT made, and reads it again."""
-        inputs, layout = comparison.inputs, comparison.layout
-        if self.outputs.out is None or self.options.out is None:
-            return Made(*self.mend(comparison, NOWHERE), layout, flaws_of(inputs.files[0], inputs.files[0].form, layout))
-        part, link = self.outputs.out.part, self.work / "out"
-        check_room(part, self.options.out, layout.size)
-        link.symlink_to(os.path.abspath(part))
-        mended = self.followed(comparison, *self.mend(comparison, str(link)), str(link))
+    def make(self, comparison: Comparison, is_good: bool) -> Made:
+        """Has OUT made, and reads it again. `is_good` says that it is an undamaged copy."""
+        inputs, layout, path = comparison.inputs, comparison.layout, self.options.out or ""
+        part, link = self.outputs.out.part if self.outputs.out else "", self.work / "out"
+        check_room(part, path, layout.size)
+        if not link.is_symlink():
+            link.symlink_to(os.path.abspath(part))
+        stretches, outcomes = self.mend(comparison, str(link), is_good)
+        if not is_good:
+            stretches, outcomes = self.followed(comparison, *self.with_votes(comparison, stretches, outcomes, str(link)), str(link))
         with open(part, "rb") as made:
             os.fchmod(made.fileno(), stat.S_IMODE(os.fstat(inputs.files[0].file).st_mode))
             os.fsync(made.fileno())
@@ -224,36 +364,70 @@ class Session:
         try:
             self.progress.begin("reading OUT again")
             decoder = decoding.SamplesDecoder(out, layout.frames, self.program, self.work)
-            decoded = decoding.decoded(layout, *mended, decoder, decoding.GuessFinder(out, inputs.files))
+            decoded = decoding.decoded(layout, stretches, outcomes, decoder, decoding.GuessFinder(out, inputs.files))
             self.progress.watch([out])
-            read = describe([out], self.judge)
-            return Made(*mended, read, flaws_of(out, inputs.form(), read), part, decoded)
+            self.scan.forget(out)
+            out.form = form_of(out)
+            read = describe([out], self.scan)
+            failing = self.failing(out, layout, stretches, outcomes)
+            return Made(stretches, outcomes, read, flaws_of(out, out.form, read), part, decoded, failing)
         finally:
             os.close(out.file)
 
-    def mend(self, comparison: Comparison, out: str) -> tuple[list[Stretch], list[Outcome]]:
+    def failing(self, out: Copy, layout: Layout, stretches: Sequence[Stretch], outcomes: Sequence[Outcome]) -> frozenset[int]:
+        """The numbers of the frames of OUT that fail their parities in elements that pass."""
+        lost = {outcome.number for outcome in outcomes if outcome.state not in VERIFIED}
+        inside = {frame.place for number, stretch in enumerate(stretches) if stretch.kind is Kind.ELEMENT and number not in lost
+                  for frame in stretch.parts}
+        numbers = [number for number, frame in enumerate(layout.frames) if frame.place in inside]
+        judged = self.scan(out, [(layout.frames[number].place, layout.frames[number].size) for number in numbers])
+        return frozenset(number for number, each in zip(numbers, judged) if not each.is_intact())
+
+    def mend(self, comparison: Comparison, out: str, is_good: bool) -> tuple[list[Stretch], list[Outcome]]:
         """Has the program make OUT. Returns the stretches in the order of OUT, and what became of those that are not undamaged."""
-        listed, outcomes = self.mend_listed("list", comparison.layout.stretches, out, comparison)
-        return self.mend_anew(comparison, listed, outcomes, comparison.sources(listed, outcomes, self.judge), out)
+        files, size = comparison.inputs.files, comparison.layout.size
+        listed, outcomes = self.mend_listed("list", comparison.layout.stretches, out, files, size)
+        chosen, settled = {} if is_good else comparison.sources(listed, outcomes, self.scan), set[int]()
+        # Of several versions of an element that pass that is right of which all frames pass, if it is one.
+        for outcome in (each for each in outcomes if each.state is State.DISPUTED and listed[each.number].parts):
+            right = evidence.right_versions(listed[outcome.number], files, self.scan)
+            if len(right) == 1 and (not is_good or listed[outcome.number].source in right[0]):
+                number, source = outcome.number, listed[outcome.number].source if is_good else right[0][0]
+                chosen[number] = dataclasses.replace(listed[number], source=source, because=Because.CONFIRMED)
+                settled.add(number)
+        listed, outcomes = self.mend_anew(comparison, listed, outcomes, chosen, out)
+        return listed, [dataclasses.replace(each, state=State.WHOLE) if each.number in settled else each for each in outcomes]
+
+    def with_votes(self, comparison: Comparison, listed: list[Stretch], outcomes: list[Outcome], out: str) -> tuple[list[Stretch], list[Outcome]]:
+        """OUT with those elements that pass as most copies have them."""
+        found = list(evidence.voted(listed, outcomes, comparison.inputs.files))
+        if not found:
+            return listed, outcomes
+        file, places = evidence.write_voted(found, self.work / "voted")
+        comparison.inputs.files.append(file)
+        comparison.inputs.numbers.append(NO_COPY)
+        listed = [dataclasses.replace(stretch, places=(*stretch.places, places.get(number))) for number, stretch in enumerate(listed)]
+        outcomes = [dataclasses.replace(each, marks=each.marks + "-", slices=with_marks(each.slices)) for each in outcomes]
+        return self.mend_anew(comparison, listed, outcomes, {number: listed[number] for number in places}, out, set(places))
 
     def followed(self, comparison: Comparison, listed: list[Stretch], outcomes: list[Outcome], out: str
                  ) -> tuple[list[Stretch], list[Outcome]]:
         """OUT as it is, or with the container of the copy that shows more right frames than OUT does, where copies differ in it."""
         ways = {outcome.number: listed[outcome.number] for outcome in outcomes if outcome.state is State.OPEN}
         is_of_container = any(follow(stretch, stretch.source) is not stretch for stretch in ways.values())
-        best = best_shown(os.path.realpath(out), comparison.inputs.files[: comparison.inputs.own], self.judge) if is_of_container else None
+        best = best_shown(os.path.realpath(out), comparison.inputs.files[: comparison.inputs.own], self.scan) if is_of_container else None
         if best is None:
             return listed, outcomes
         return self.mend_anew(comparison, listed, outcomes, {number: follow(stretch, best) for number, stretch in ways.items()}, out)
 
-    def mend_anew(self, comparison: Comparison, listed: list[Stretch], outcomes: list[Outcome], chosen: Mapping[int, Stretch], out: str
-                  ) -> tuple[list[Stretch], list[Outcome]]:
-        """OUT with those stretches of which another copy is followed than before made anew: nothing else is read a second time."""
-        changed = {number: stretch for number, stretch in chosen.items() if stretch.source != listed[number].source}
+    def mend_anew(self, comparison: Comparison, listed: list[Stretch], outcomes: list[Outcome], chosen: Mapping[int, Stretch], out: str,
+                  more: Set[int] = frozenset()) -> tuple[list[Stretch], list[Outcome]]:
+        """OUT with those stretches of which another copy is followed than before made anew, and `more`: nothing else is read a second time."""
+        changed = {number: stretch for number, stretch in chosen.items() if stretch.source != listed[number].source or number in more}
         listed = [chosen.get(number, stretch) for number, stretch in enumerate(listed)]
         if changed:
             again = self.work / "again"
-            _, few = self.mend_listed("few", list(changed.values()), str(again), comparison)
+            _, few = self.mend_listed("few", list(changed.values()), str(again), comparison.inputs.files, comparison.layout.size)
             patch(again, out, changed.values())
             anew = [dataclasses.replace(outcome, number=list(changed)[outcome.number]) for outcome in few]
             outcomes = sorted([*(each for each in outcomes if each.number not in changed), *anew], key=lambda outcome: outcome.number)
@@ -261,17 +435,17 @@ class Session:
         self.keeper.keep_list(self.work / "list", comparison.inputs.files)
         return listed, outcomes
 
-    def mend_listed(self, name: str, stretches: Sequence[Stretch], out: str, comparison: Comparison) -> tuple[list[Stretch], list[Outcome]]:
+    def mend_listed(self, name: str, stretches: Sequence[Stretch], out: str, files: Sequence[Copy], size: int) -> tuple[list[Stretch], list[Outcome]]:
         """Has the program make a file by a list of stretches. Returns them as they are listed, and what became of them."""
         listed = list_of(stretches)
         write_list(listed, self.work / name)
         self.progress.begin("mending")
-        return listed, mend(self.program, listed, self.work / name, out, self.options.out or out, comparison.inputs.files, self.work,
-                            lambda done: self.progress.at(done, comparison.layout.size))
+        return listed, mend(self.program, listed, self.work / name, out, self.options.out or out, files, self.work,
+                            lambda done: self.progress.at(done, size))
 
     # ---- what is kept and reported
 
-    def keep_frames(self, layout: Layout, inputs: Inputs, made: Made, verdict: Verdict) -> None:
+    def keep_frames(self, layout: Layout, inputs: Inputs, stretches: Sequence[Stretch], verdict: Verdict) -> None:
         """Keeps what was asked for of each damaged frame."""
         tracks = {track.number: track for track in layout.tracks}
         several = sum(track.is_ffv1 for track in layout.tracks) > 1
@@ -280,7 +454,7 @@ class Session:
             track, is_shown = tracks[result.frame.track], result.number in shown
             if (self.options.keep or self.options.pictures or is_shown) and self.keeper.is_asked_for(track):
                 name = f"track-{track.number}-frame-{result.order}" if several else f"frame-{result.order}"
-                pieces = self.versions(result.frame, made.stretches[result.stretch], inputs)
+                pieces = self.versions(result.frame, stretches[result.stretch], inputs)
                 self.keeper.hold(Held(name, track, pieces, result, is_shown))
         self.notes += self.keeper.notes
 
@@ -295,9 +469,9 @@ class Session:
         return [(self.options.copies[number], file.read(place + frame.place - stretch.start, frame.size))
                 for file, number, place in zip(inputs.files, inputs.numbers, stretch.places) if place is not None]
 
-    def summary(self, copies: Sequence[Copy], arrangement: Arrangement, layout: Layout, verdict: Verdict, part: str | None) -> Summary:
+    def summary(self, arrangement: Arrangement, layout: Layout, verdict: Verdict, part: str | None) -> Summary:
         """What is to be said of OUT, or of a file that was checked. `part` is where OUT lies while it is made."""
-        digests, out = self.options.digests, None
+        copies, digests, out = self.copies, self.options.digests, None
         if digests:
             self.progress.begin("taking digests")
         sums = of_each(self.options.jobs, kept_digests.sha256, copies) if digests else [None] * len(copies)
@@ -310,7 +484,4 @@ class Session:
             form = next((copies[number].form for number in arrangement.basis if copies[number].form), "")
             sum_ = kept_digests.digest(part, "sha256", self.progress.at) if digests else None
             out = CopySummary(self.options.out, os.stat(part).st_size, form, sha256=sum_)
-        versions = {"mend-reel": VERSION, "ffv1restore": version_of(self.program), "ffprobe": version_of("ffprobe")}
-        date = datetime.datetime.now(datetime.timezone.utc).isoformat(timespec="seconds")
-        return Summary(date, versions, ["mend-reel", *sys.argv[1:]], summaries, out, layout, verdict, arrangement.matched, self.notes,
-                       self.keeper.drawn)
+        return Summary(*circumstances(self.program), summaries, out, layout, verdict, arrangement.matched, self.notes, self.keeper.drawn)

@@ -11,9 +11,9 @@ from collections.abc import Iterable, Iterator, Mapping, Sequence
 from typing import Any, TextIO
 
 from ..judging.reasons import Reason
-from ..judging.results import FrameResult, Results
+from ..judging.results import NO_COPY, FrameResult, Results
 from .pictures import Drawn
-from .summary import CopySummary, Role, Summary
+from .summary import CopySummary, Entry, Role, Summary, Unreadable
 
 FORMAT, FORMAT_VERSION = "mend-reel", 2
 Made = dict[str, Any]
@@ -21,20 +21,27 @@ NONE_SHOWN: Mapping[int, Drawn] = {}
 ROLES = {Role.BASIS: "basis", Role.OTHER: "other file", Role.LEFT: "left out"}
 
 
-def write(file: TextIO, summaries: Sequence[Summary]) -> None:
+def write(file: TextIO, entries: Sequence[Entry]) -> None:
     """Writes the document: OUT, or each file that was checked."""
-    first = summaries[0]
+    first = entries[0]
     write_open(file, {"format": FORMAT, "format_version": FORMAT_VERSION, "date": first.date, "programs": dict(first.versions),
                       "command": [text_of(word) for word in first.command]}, "files")
-    for number, summary in enumerate(summaries):
+    for number, entry in enumerate(entries):
         file.write(",\n" if number else "\n")
-        write_open(file, document(summary), "stretches")
-        # They come last, one in a line.
-        shown = {each.result.number: each for each in summary.shown}
-        for at, stretch in enumerate(listed(summary.verdict.results, shown)):
-            file.write((",\n  " if at else "\n  ") + json.dumps(stretch))
-        file.write("\n ]\n}")
+        if isinstance(entry, Unreadable):
+            json.dump({**name_of(entry.path), "status": entry.status, "fault": text_of(entry.fault)}, file, indent=1)
+        else:
+            write_judged(file, entry)
     file.write("\n ]\n}\n")
+
+
+def write_judged(file: TextIO, summary: Summary) -> None:
+    """Writes OUT, or a file that was judged. Its stretches come last, one in a line."""
+    write_open(file, document(summary), "stretches")
+    shown = {each.result.number: each for each in summary.shown}
+    for at, stretch in enumerate(listed(summary.verdict.results, shown)):
+        file.write((",\n  " if at else "\n  ") + json.dumps(stretch))
+    file.write("\n ]\n}")
 
 
 def write_open(file: TextIO, made: Made, last: str) -> None:
@@ -70,9 +77,12 @@ def text_of(text: str) -> str:
 
 def file_of(copy: CopySummary) -> Made:
     """What a copy and OUT are alike in."""
-    is_text = copy.name() == copy.path
-    return {"path": copy.name(), "path_hex": None if is_text else os.fsencode(copy.path).hex(), "size": copy.size,
-            "container": copy.form or None, "sha256": copy.sha256}
+    return {**name_of(copy.path), "size": copy.size, "container": copy.form or None, "sha256": copy.sha256}
+
+
+def name_of(path: str) -> Made:
+    """A path as text, and its bytes where it is none."""
+    return {"path": text_of(path), "path_hex": None if text_of(path) == path else os.fsencode(path).hex()}
 
 
 def reason_of(reason: Reason, out: str) -> Made:
@@ -84,7 +94,7 @@ def reason_of(reason: Reason, out: str) -> Made:
 
 def counted(copy: int | None) -> int | None:
     """The number of a copy, from 1."""
-    return None if copy is None else copy + 1
+    return None if copy is None or copy == NO_COPY else copy + 1
 
 
 def times_of(times: Iterable[float | None]) -> list[float | None] | None:
@@ -112,7 +122,8 @@ def stretch_of(results: Results, number: int, shown: Mapping[int, Drawn]) -> Mad
         "range": [stretch.start, stretch.end], "taken_from": counted(results.source(stretch)),
         # Where each copy has it, and whether it has there what OUT has.
         "places": [{"copy": results.copy_of_mark[at] + 1, "range": None if place is None else [place, place + stretch.size],
-                    "is_alike": {"1": True, "0": False}.get(mark)} for at, (place, mark) in enumerate(zip(stretch.places, marks))],
+                    "is_alike": {"1": True, "0": False}.get(mark)} for at, (place, mark) in enumerate(zip(stretch.places, marks))
+                   if results.copy_of_mark[at] != NO_COPY],
         "frames": [frame_of(result, results, shown.get(result.number)) for result in results.within(number)],
     }
 

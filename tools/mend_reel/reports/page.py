@@ -14,7 +14,7 @@ from ..judging.results import FrameResult, FrameState, Results
 from ..model import Kind
 from .json_document import Made, frame_of, listed, text_of
 from .pictures import Drawn
-from .summary import CopySummary, Summary
+from .summary import STATES, CopySummary, Entry, Summary, Unreadable, of_files, share_of
 from .timeline import COLOURS, OF_COPY, OF_OUT, WORDS, Shade, Timeline
 
 MOST_ROWS, MOST_SLICES = 1000, 24
@@ -35,18 +35,33 @@ def text(words: Any) -> str:
     return html.escape(text_of(str(words)))
 
 
-def write(file: TextIO, summaries: Sequence[Summary]) -> None:
-    """Writes the page: OUT, or each file that was checked."""
-    title = text(", ".join(summary.title() for summary in summaries[:4]))
+def write(file: TextIO, entries: Sequence[Entry]) -> None:
+    """Writes the page: OUT, or each file that was checked, after a table of them if there are several."""
+    title = text(", ".join(entry.title() for entry in entries[:4]))
     file.write(f'<!DOCTYPE html>\n<html lang="en"><head><meta charset="utf-8"><meta name="viewport" content="width=device-width">'
                f"<title>{title}</title><style>{STYLE}</style></head><body>")
-    for summary in summaries:
-        file.write(f"<h1>{text(summary.title())}</h1>\n")
-        file.writelines(part(summary) + "\n" for part in (verdict, counts, doubts, copies, timeline, frames, pictures, others))
-    first = summaries[0]
+    file.write(contents(entries) if len(entries) > 1 else "")
+    for number, entry in enumerate(entries, 1):
+        file.write(f'<section id="file-{number}"><h1>{text(entry.title())}</h1>\n')
+        if isinstance(entry, Unreadable):
+            file.write(f'<p class="verdict bad">{text(entry.sentence())}</p>\n')
+        else:
+            file.writelines(part(entry) + "\n" for part in (verdict, counts, doubts, copies, timeline, frames, pictures, others))
+        file.write("</section>")
+    first = entries[0]
     made = ", ".join(f"{name} {version}" for name, version in first.versions.items())
     file.write(f"<footer><p>{text(first.date)}. {text(made)}.</p><p><code>{text(' '.join(first.command))}</code></p></footer>"
                "\n</body></html>\n")
+
+
+def contents(entries: Sequence[Entry]) -> str:
+    """How many files are damaged, and a table of all, the worst first, each with a link to its part."""
+    worst, rows = max(entry.status for entry in entries), list(STATES)
+    ordered = sorted(enumerate(entries, 1), key=lambda each: rows.index(each[1].status))
+    cells = "".join(f'<tr><td class="w"><a href="#file-{number}">{text(entry.title())}</a></td><td class="k">{STATES[entry.status]}</td>'
+                    f'<td class="w">{text(entry.sentence())}</td></tr>' for number, entry in ordered)
+    return (f'<h1>Files</h1><p class="verdict {"bad" if worst else "good"}">{of_files(entries)}</p>'
+            f'<table class="wide"><thead><tr><th>File</th><th>State</th><th>What was found</th></tr></thead><tbody>{cells}</tbody></table>\n')
 
 
 def verdict(summary: Summary) -> str:
@@ -84,7 +99,7 @@ def copies(summary: Summary) -> str:
 
 def copy_row(name: str, copy: CopySummary, role: str) -> str:
     digest = f'<br><code class="sha">SHA-256 {copy.sha256}</code>' if copy.sha256 else ""
-    verified = "" if copy.verified is None else f"{100 * copy.verified / copy.size if copy.size else 0:.1f} %"
+    verified = "" if copy.verified is None else share_of(copy.verified, copy.size)
     return (f'<tr><th scope="row">{name}</th><td class="w">{text(copy.name())}{digest}</td><td>{text(copy.form or "unknown")}</td>'
             f'<td class="n">{copy.size:,}</td><td class="n">{verified}</td><td>{text(role)}</td></tr>')
 

@@ -1,15 +1,17 @@
 """What the reports for people and for machines are made of, and the lines that are printed."""
 from __future__ import annotations
 
+import collections
 import dataclasses
 import enum
 import os
 from collections.abc import Mapping, Sequence
+from typing import Union
 
 from ..copies.arrangement import Matched
 from ..judging import reasons
 from ..judging.results import Counts, Sums
-from ..judging.verdict import Verdict
+from ..mending.verdict import Verdict
 from ..model import Layout
 from .pictures import Drawn
 
@@ -54,6 +56,10 @@ class Summary:
     notes: Sequence[str] = ()  # what else is to be said
     shown: Sequence[Drawn] = ()  # frames that are not restored, of which a picture was made
 
+    @property
+    def status(self) -> int:
+        return self.verdict.status
+
     def title(self) -> str:
         return self.out.name() if self.out else ", ".join(copy.name() for copy in self.copies[:4])
 
@@ -67,23 +73,57 @@ class Summary:
 
     def lines(self) -> list[str]:
         """What is printed: first the verdict, then the counts, what is in doubt, and notes."""
-        return [self.sentence(), of_frames(self.verdict.counts), of_bytes(self.verdict.sums),
+        return [self.sentence(), of_frames(self.verdict.counts, self.verdict.is_check), of_bytes(self.verdict.sums),
                 *reasons.lines(self.verdict.reasons, self.out_name()), *self.notes, *self.verdict.notes]
 
 
-def of_frames(counts: Counts) -> str:
-    """`frames: 50, 3 damaged, 2 restored (1 woven), 1 not restored`."""
+@dataclasses.dataclass
+class Unreadable:
+    """A file that could not be judged, and why."""
+
+    date: str  # when
+    versions: Mapping[str, str]  # by which programs
+    command: Sequence[str]  # how the tool was called
+    path: str
+    fault: str
+    status: int = 1
+
+    def title(self) -> str:
+        return CopySummary(self.path, 0).name()
+
+    def sentence(self) -> str:
+        return f"{self.path} could not be judged: {self.fault}"
+
+    def lines(self) -> list[str]:
+        return [self.sentence()]
+
+
+# What is reported of a file, and what it is called by its status: the worst first.
+Entry = Union[Summary, Unreadable]
+STATES = {1: "unreadable", 3: "damaged", 0: "undamaged"}
+
+
+def of_files(entries: Sequence[Entry]) -> str:
+    """`32 files: 25 undamaged, 6 damaged, 1 unreadable`"""
+    counts = collections.Counter(entry.status for entry in entries)
+    return f"{len(entries):,} files: " + ", ".join(f"{counts[status]:,} {state}" for status, state in reversed(STATES.items()))
+
+
+def of_frames(counts: Counts, is_check: bool = False) -> str:
+    """`frames: 50, 3 damaged, 2 restored (1 woven), 1 not restored`. Of a file that was checked nothing is said to be restored."""
     woven = f" ({counts.woven:,} woven)" if counts.woven else ""
-    found = [f"frames: {counts.frames:,}", f"{counts.damaged:,} damaged", f"{counts.restored:,} restored{woven}" if counts.restored else "",
-             f"{counts.lost:,} not restored" if counts.lost else ""]
-    return ", ".join(filter(None, found))
+    restored = [f"{counts.restored:,} restored{woven}" if counts.restored else "", f"{counts.lost:,} not restored" if counts.lost else ""]
+    return ", ".join(filter(None, [f"frames: {counts.frames:,}", f"{counts.damaged:,} damaged", *([] if is_check else restored)]))
 
 
 def of_bytes(sums: Sums) -> str:
-    """`bytes: 881,357 verified (99.9 %), 521 agreed`: of the others only what there is. A share is cut, not rounded: 100 is all."""
+    """`bytes: 881,357 verified (99.9 %), 521 agreed`: of the others only what there is."""
     named = sums.named()
-    whole = sum(named.values())
-    tenths = 1000 * sums.verified // max(whole, 1)
-    share = "100" if sums.verified == whole else f"{tenths // 10}.{tenths % 10}"
     others = [f"{size:,} {name}" for name, size in named.items() if size and name != "verified"]
-    return ", ".join([f"bytes: {sums.verified:,} verified ({share} %)", *others])
+    return ", ".join([f"bytes: {sums.verified:,} verified ({share_of(sums.verified, sum(named.values()))})", *others])
+
+
+def share_of(part: int, whole: int) -> str:
+    """A share in hundredths, cut and not rounded: `100 %` is all."""
+    tenths = 1000 * part // max(whole, 1)
+    return "100 %" if part == whole else f"{tenths // 10}.{tenths % 10} %"

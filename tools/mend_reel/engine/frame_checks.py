@@ -7,8 +7,9 @@ import pathlib
 import tempfile
 from collections.abc import Callable, Sequence
 
-from ..model import Copy, Fault
-from ..program.external_programs import last_line, started
+from ..model import Content, Copy, Fault, Kind, Stretch, What
+from .external_programs import last_line, started
+from .mend_run import mend, write_list
 
 Range = tuple[int, int]
 MOST_BYTES = 1 << 30
@@ -46,6 +47,20 @@ class Scan:
             for each, judged in zip(now, self.scan(copy, now)):
                 self.known[(copy.path, *each)] = judged
         return [self.known.get((copy.path, *each), Judged()) for each in ranges]
+
+    def forget(self, copy: Copy) -> None:
+        """Forgets what is known of a file that was made anew."""
+        self.known = {each: judged for each, judged in self.known.items() if each[0] != copy.path}
+
+    def failing_flac(self, copy: Copy, ranges: Sequence[Range]) -> set[int]:
+        """The places of those of some frames of FLAC, which follow each other, that fail their checks, as `mend` finds them."""
+        stretches = [Stretch(Kind.FLAC, place, size, What(Content.SOUND), (place,)) for place, size in ranges]
+        if not stretches:
+            return set()
+        path = self.work / "flac-list"
+        write_list(stretches, path)
+        failing = mend(self.program, stretches, path, os.devnull, copy.path, [copy], self.work, lambda done: None)
+        return {stretches[outcome.number].start for outcome in failing}
 
     def scan(self, copy: Copy, ranges: Sequence[Range]) -> list[Judged]:
         """Has the program judge ranges that rise and do not overlap. It reads the copy by a link, as it takes only names that are text."""

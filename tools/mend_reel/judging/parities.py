@@ -1,4 +1,4 @@
-"""What of a copy passes its checks, and whether the slices of a recording have parities at all."""
+"""Whether the slices of a recording have parities at all."""
 from __future__ import annotations
 
 import dataclasses
@@ -7,40 +7,10 @@ from collections.abc import Sequence
 from ..containers import ebml
 from ..containers.own_checks import has_only_sizes, is_uniform, passes, slices
 from ..model import Copy, Frame, Kind, Layout
-from .frame_checks import Judge
 
 MOST_SAMPLES = 16
-
-
-@dataclasses.dataclass(frozen=True)
-class CopyHealth:
-    """Of a copy: the numbers of frames and of elements that pass, and whether nothing is lacking and all that is judged passes."""
-
-    intact: frozenset[int] = frozenset()
-    passing: frozenset[int] = frozenset()
-    is_undamaged: bool = False
-
-
-def health(copy: Copy, number: int, layout: Layout, judge: Judge) -> CopyHealth:
-    """The health of a copy of the file that a layout describes, of which it is the copy `number`."""
-    judged = judge(copy, [(frame.place, frame.size) for frame in layout.frames])
-    intact = frozenset(at for at, each in enumerate(judged) if each.is_intact())
-    elements = [(at, stretch) for at, stretch in enumerate(layout.stretches) if stretch.kind is Kind.ELEMENT]
-    passing = frozenset(at for at, stretch in elements for place in [stretch.places[number]]
-                        if place is not None and ebml.passes(copy, place, place + stretch.size))
-    lacks = any(stretch.places[number] is None for stretch in layout.stretches)
-    is_undamaged = not lacks and not layout.gaps and len(intact) == len(layout.frames) and len(passing) == len(elements)
-    return CopyHealth(intact, passing, is_undamaged)
-
-
-def damaged_before(layout: Layout, healths: Sequence[CopyHealth]) -> set[int]:
-    """The numbers of the frames that fail in elements that pass: they were damaged before the file was written."""
-    numbers = {frame.place: at for at, frame in enumerate(layout.frames)}
-    return {numbers[frame.place] for each in healths for at in each.passing for frame in layout.stretches[at].parts} - {
-        at for each in healths for at in each.intact}
-
-
-# ---- recordings without parities
+NO_PARITIES = ("the slices of this recording have no parities (it was made without -slicecrc 1), so no damage within a frame can be found "
+               "or mended by them: frames are judged by the container's checksums, or by whether the copies agree")
 
 
 def lack_parities(layout: Layout, copies: Sequence[Copy]) -> bool:
@@ -76,7 +46,3 @@ def without_parts(layout: Layout) -> Layout:
     """The layout of a recording without parities: its frames are plain bytes, and elements have no parts."""
     kinds = {kind: Kind.PLAIN if kind is Kind.FRAME else kind for kind in Kind}
     return dataclasses.replace(layout, stretches=[dataclasses.replace(each, kind=kinds[each.kind], parts=()) for each in layout.stretches])
-
-
-NO_PARITIES = ("the slices of this recording have no parities (it was made without -slicecrc 1), so no damage within a frame can be found "
-               "or mended by them: frames are judged by the container's checksums, or by whether the copies agree")

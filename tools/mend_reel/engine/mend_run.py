@@ -8,8 +8,7 @@ import os
 import pathlib
 from collections.abc import Callable, Iterable, Iterator, Sequence
 
-from ..containers.stretch_builder import MOST_STRETCH
-from ..model import Copy, Fault, Kind, Outcome, SliceReport, State, Stretch
+from ..model import MOST_STRETCH, Copy, Fault, Kind, Outcome, SliceReport, State, Stretch
 from .external_programs import last_line, started
 
 PIECE = 1 << 20
@@ -28,7 +27,8 @@ def list_of(stretches: Iterable[Stretch]) -> list[Stretch]:
         ends += [0] * (len(piece.places) - len(ends))
         piece = rising(piece, ends)
         having = piece.having()
-        assert having, "each byte of OUT is in some copy"
+        if not having:
+            raise Fault(f"no copy has the bytes from {piece.start} on, as its parts lie over each other")
         source = piece.source if piece.source in having else having[0]
         piece = piece if source == piece.source else dataclasses.replace(piece, source=source)
         for number in having:

@@ -1,0 +1,106 @@
+"""Long filling: what a copy has one value all over, where another copy of the file has content. It counts as unread there."""
+from __future__ import annotations
+
+import dataclasses
+import pathlib
+from collections.abc import Iterator, Sequence
+
+from ..containers.files import describe, form_of
+from ..engine.frame_checks import Judge
+from ..judging.unread import spans_in
+from ..model import Copy, Layout, open_copy, or_fault
+
+# Fewer sectors than this are no long filling, and not more of a file than its quarter stands against what copies have alike.
+SECTOR, FEWEST, PIECE, QUARTER = 512, 2, 1 << 20, 4
+
+
+def runs(copy: Copy) -> list[tuple[int, int]]:
+    """From where to where a copy has one value over several sectors. It is looked for once."""
+    if copy.runs is None:
+        found: list[tuple[int, int, bytes]] = []
+        for place in range(0, copy.size, PIECE):
+            piece = copy.read(place, PIECE)
+            firsts = piece[::SECTOR]
+            for number, value in enumerate(firsts):
+                # Most sectors are told by their first byte and that of a neighbour.
+                if value in firsts[max(number - 1, 0) : number] + firsts[number + 1 : number + 2] or number + 1 == len(firsts):
+                    add(found, place + SECTOR * number, piece[SECTOR * number : SECTOR * (number + 1)])
+        copy.runs = [grown(copy, *run) for run in found if run[1] - run[0] >= FEWEST * SECTOR or run[1] == copy.size]
+    return copy.runs
+
+
+def add(found: list[tuple[int, int, bytes]], place: int, sector: bytes) -> None:
+    """Adds a sector that has one value, to the run before it if that ends there."""
+    value = sector[:1]
+    if sector.count(value) == len(sector):
+        joins = found and found[-1][1:] == (place, value)
+        found[-1 if joins else len(found) :] = [(found[-1][0] if joins else place, place + len(sector), value)]
+
+
+def grown(copy: Copy, start: int, end: int, value: bytes) -> tuple[int, int]:
+    """A run with the bytes of its value in the sectors beside it."""
+    first = max(start - SECTOR, 0)
+    before, after = copy.read(first, start - first), copy.read(end, SECTOR)
+    return start - len(before) + len(before.rstrip(value)), end + len(after) - len(after.lstrip(value))
+
+
+def filling(copy: Copy, others: Sequence[Copy]) -> list[tuple[int, int]]:
+    """The runs of a copy at which another one has content, from the first sector to the last: silence has the same value about what differs."""
+    return [(start, end) for start, end in runs(copy)
+            if any(has_content(other, start) and has_content(other, end - SECTOR) for other in others if other is not copy)]
+
+
+def has_content(copy: Copy, place: int) -> bool:
+    """Whether a copy has more than one value in the bytes of a sector from a place on."""
+    piece = copy.read(max(place, 0), SECTOR)
+    return piece.count(piece[:1]) < len(piece)
+
+
+def complement(one: Copy, other: Copy) -> bool:
+    """Whether two copies of one length have content where the other has long filling, so that they may be of one file."""
+    ours, theirs = filling(one, [other]), filling(other, [one])
+    whole = sum(end - start for start, end in (*ours, *theirs))
+    both = sum(end - start for first, last in ours for start, end in spans_in(theirs, first, last))
+    return bool(ours and theirs) and one.size == other.size and QUARTER * whole >= one.size and QUARTER * both < whole
+
+
+@dataclasses.dataclass
+class Filled:
+    """A file as its copies have it together, and what lies where in it."""
+
+    made: Copy
+    layout: Layout
+
+
+def filled(copies: Sequence[Copy], layout: Layout, judge: Judge, path: pathlib.Path) -> Filled | None:
+    """A file as its copies have it together, which is written to a path: where a copy has filling another one counts. None if no copy has
+    any. What lies where in it is as it was known, if no more is found."""
+    spans = [filling(copy, copies) for copy in copies]
+    if not any(spans):
+        return None
+    with or_fault(f"cannot write {path}"), open(path, "wb") as file:
+        file.writelines(pieces(copies, spans))
+    for copy, own in zip(copies, spans):
+        copy.filling = own
+    made = open_copy(str(path))
+    made.form = form_of(made)
+    found = describe([made], judge)
+    is_more = (len(found.frames), -len(found.gaps)) > (len(layout.frames), -len(layout.gaps))
+    return Filled(made, placed(found, copies) if is_more else layout)
+
+
+def placed(layout: Layout, copies: Sequence[Copy]) -> Layout:
+    """A layout with the places of its stretches in copies of the file, if it was made of one of them alone."""
+    if all(len(stretch.places) == len(copies) for stretch in layout.stretches):
+        return layout
+    return dataclasses.replace(layout, stretches=[dataclasses.replace(
+        stretch, places=tuple(stretch.start if stretch.end <= copy.size else None for copy in copies)) for stretch in layout.stretches])
+
+
+def pieces(copies: Sequence[Copy], spans: Sequence[Sequence[tuple[int, int]]]) -> Iterator[bytes]:
+    """The bytes of a file from its first one on, each as a copy has it that has no filling there, if one has not."""
+    size = max(copy.size for copy in copies)
+    cuts = sorted({*range(0, size, PIECE), size, *(at for own in spans for span in own for at in span), *(copy.size for copy in copies)})
+    for start, end in zip(cuts, cuts[1:]):
+        having = [(bool(spans_in(own, start, end)), number) for number, (copy, own) in enumerate(zip(copies, spans)) if end <= copy.size]
+        yield copies[min(having)[1]].read(start, end - start)

@@ -1,0 +1,1 @@
+"""What ffv1restore and FFmpeg are asked to do."""

@@ -1,0 +1,1 @@
+"""What became of OUT, by all that is known of it and of its copies."""
