@@ -10,7 +10,7 @@ from . import ffmpeg_files, ffprobe, matroska, matroska_checks
 from .known import by_start, structure_of
 from .structure import Flaw, Found
 
-SECTOR, PIECE, MOST_RUN = 512, 1 << 16, 1 << 14
+SECTOR, PIECE, MOST_RUN, MOST_ALIKE = 512, 1 << 16, 1 << 14, 4
 FILLING = re.compile(rb"(.)\1{%d,}" % (SECTOR - 1), re.DOTALL)
 
 
@@ -38,13 +38,15 @@ def flaws_of(copy: Copy, form: str, layout: Layout) -> list[Found]:
 
 
 def lost_sectors(copy: Copy, layout: Layout) -> Iterator[Found]:
-    """Yields runs of one value in sound that no checksum covers, which begin and end where sectors do, and not where the sound does: silence that
-    was recorded begins and ends anywhere."""
+    """Yields runs of one value in sound that no checksum covers, which begin and end where sectors do, but for a byte or two that are alike by
+    chance, and not where the sound does: silence that was recorded begins and ends anywhere."""
     for stretch in layout.stretches:
         if stretch.kind is not Kind.PLAIN or stretch.what.content is not Content.SOUND:
             continue
         for place in range(stretch.start, stretch.end, PIECE):
             piece = copy.read(place, min(PIECE + MOST_RUN, stretch.end - place))
             for start, end in (match.span() for match in FILLING.finditer(piece)):
-                if (place + start) % SECTOR == (place + end) % SECTOR == 0 and start and start < PIECE and place + end < stretch.end:
-                    yield Found(Flaw.LOST, place + start, place + end)
+                first, last = -(-(place + start) // SECTOR) * SECTOR, (place + end) // SECTOR * SECTOR
+                is_sector = first < last and max(first - place - start, place + end - last) <= MOST_ALIKE
+                if is_sector and start and start < PIECE and place + end < stretch.end:
+                    yield Found(Flaw.LOST, first, last)

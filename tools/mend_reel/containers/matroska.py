@@ -57,12 +57,6 @@ class Matroska(Container):
         return head[:4] == EBML.to_bytes(4, "big")
 
 
-def is_ebml_of_matroska(copy: Copy) -> bool:
-    """Whether a copy begins as a Matroska file does: with an EBML header that says so."""
-    data = copy.read(0, WINDOW)
-    return data[:4] == EBML.to_bytes(4, "big") and ebml.Fields(data).inside(EBML).text(DOCUMENT_TYPE) in DOCUMENT_TYPES
-
-
 def has_elements(copies: Sequence[Copy]) -> bool:
     """Whether copies of which no start can be read are Matroska files: they have top-level elements near their start."""
     end = min(max((copy.size for copy in copies), default=0), FIRST_BYTES)

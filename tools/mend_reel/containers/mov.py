@@ -111,7 +111,8 @@ class Tables:
     def in_chunks(self) -> list[int]:
         """How many samples each chunk has."""
         ends = [first for first, _ in self.runs[1:]] + [len(self.places) + 1]
-        return list(itertools.chain.from_iterable([each] * max(min(end, len(self.places) + 1) - first, 0) for (first, each), end in zip(self.runs, ends)))
+        most = len(self.places) + 1
+        return list(itertools.chain.from_iterable([each] * max(min(end, most) - first, 0) for (first, each), end in zip(self.runs, ends)))
 
     def chunks(self) -> Iterator[tuple[int, int]]:
         """From where to where each chunk lies."""

@@ -14,8 +14,8 @@ ID = b"nut/multimedia container\0"
 MAIN, STREAM, SYNCPOINT, INDEX, INFO = (bytes.fromhex(each) for each in (
     "4e4d7a561f5f04ad", "4e5311405bf2f9db", "4e4be4adeeca4569", "4e58dd672f23e64e", "4e49ab68b596ba78"))
 START, LONG = 8, 4096
-KEY, CODED_TIME, OF_STREAM, LARGE, CHECKED, RESERVED, SIDE, OF_HEAD, MATCHED, CODED, INVALID = (
-    1 << bit for bit in (0, 3, 4, 5, 6, 7, 8, 10, 11, 12, 13))
+KEY, CODED_TIME, OF_STREAM, LARGE, CHECKED, RESERVED, OF_HEAD, MATCHED, CODED, INVALID = (
+    1 << bit for bit in (0, 3, 4, 5, 6, 7, 10, 11, 12, 13))
 WINDOW, MOST_PACKET, FEWEST, MOST_NUMBER = 64, 1 << 26, 1 << 14, 10
 
 

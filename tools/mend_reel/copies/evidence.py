@@ -37,8 +37,9 @@ def most(versions: Sequence[bytes]) -> bytes:
     if len(versions) == FEWEST_VOTES:
         one, two, three = (int.from_bytes(version, "big") for version in versions)
         return (one & two | one & three | two & three).to_bytes(len(versions[0]), "big")
-    return b"".join(pieces[0] if pieces.count(pieces[0]) == len(pieces) else bytes(collections.Counter(each).most_common(1)[0][0] for each in zip(*pieces))
-                    for at in range(0, len(versions[0]), CHUNK) for pieces in [[version[at : at + CHUNK] for version in versions]])
+    chunks = ([version[at : at + CHUNK] for version in versions] for at in range(0, len(versions[0]), CHUNK))
+    return b"".join(pieces[0] if pieces.count(pieces[0]) == len(pieces) else bytes(collections.Counter(each).most_common(1)[0][0]
+                                                                                  for each in zip(*pieces)) for pieces in chunks)
 
 
 def passes(content: bytes) -> bool:

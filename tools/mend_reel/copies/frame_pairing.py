@@ -57,7 +57,8 @@ class Matched:
     contrary: list[Frame] = dataclasses.field(default_factory=list)  # at times at which OUT has another frame
     lasts: float | None = None  # how long it says that it lasts, if it is cut short itself
     tracks: dict[int, int] = dataclasses.field(default_factory=dict)  # OUT's numbers of its FFV1 tracks
-    sound: dict[int, tuple[int, int]] = dataclasses.field(default_factory=dict)  # where it has packets of OUT's sound, by their places, and their sizes
+    # Where it has packets of OUT's sound, by their places in OUT, and their sizes.
+    sound: dict[int, tuple[int, int]] = dataclasses.field(default_factory=dict)
     alignment: Alignment | None = None  # where its bytes lie, if it is OUT's file with bytes lost or added
 
 

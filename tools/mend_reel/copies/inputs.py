@@ -45,7 +45,8 @@ def gather(arrangement: Arrangement, layout: Layout, copies: Sequence[Copy], wor
     if arrangement.filled:
         inputs.files.append(arrangement.filled)
         inputs.numbers.append(NO_COPY)
-        stretches = [dataclasses.replace(stretch, places=(*stretch.places, None if stretch.kind is Kind.PLAIN else stretch.start)) for stretch in stretches]
+        stretches = [dataclasses.replace(stretch, places=(*stretch.places, None if stretch.kind is Kind.PLAIN else stretch.start))
+                     for stretch in stretches]
     for matched in arrangement.matched:
         copy, path = copies[matched.number], str(work / f"frames-of-copy-{matched.number + 1}")
         whole = aligned(layout, matched, copy.size) if matched.alignment else rising(layout, matched)

@@ -50,7 +50,8 @@ class Why(enum.Enum):
     AFTER_END = "this lies after the end of the file by its own account"
     MISLED = "a table there leads to something else; a further copy may have it right"
     SUM = "the checksum of these bytes fails; a further copy may have them right"
-    SHIFT = "from here on a copy lies otherwise, so bytes were lost from it or put into it, and no checksum says which; {out} has those of copy {source}"
+    SHIFT = ("from here on a copy lies otherwise, so bytes were lost from it or put into it, and no checksum says which; "
+             "{out} has those of copy {source}")
     MAP = "the map of copy {copy} calls these bytes unread, and it has content there: it is the map of another file"
     MISCOUNTED = "the file counts {count} frames or blocks there, and {has} are in it; a further copy may have the others"
     NO_TABLE = "what says where the frames lie is lost or was never written; a further copy may have it"
@@ -136,8 +137,9 @@ class Reason:
     def text(self, out: str = "OUT") -> str:
         """The reason in a line, in which OUT has a name."""
         it = "them" if self.is_many() else "it"
-        why = self.why.value.format(it=it, spread=self.spread_text(it), remedy=self.remedy or f"a further copy may have {it} whole", source=one_more(self.source), because=self.because.value,
-                                    copy=one_more(self.copy), out=out, has=self.has, count=self.count,
+        remedy = self.remedy or f"a further copy may have {it} whole"
+        why = self.why.value.format(it=it, spread=self.spread_text(it), remedy=remedy, source=one_more(self.source), copy=one_more(self.copy),
+                                    because=self.because.value, out=out, has=self.has, count=self.count,
                                     amount=f"{self.count:,} byte{'s' if self.count != 1 else ''}")
         return f"{self.subject(out)}{self.where()}: {why}"
 

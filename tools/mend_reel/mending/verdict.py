@@ -4,7 +4,7 @@ from __future__ import annotations
 
 import bisect
 import dataclasses
-from collections.abc import Iterator, Mapping, Sequence, Set
+from collections.abc import Iterable, Iterator, Mapping, Sequence, Set
 
 from ..containers.frame_times import end_of
 from ..containers.own_checks import passes_as_record
@@ -89,9 +89,9 @@ class Verdict:
         others = sum(not reason.frames for reason in self.reasons)
         words = [f"{frames:,} frames" if frames > 1 else "one frame"] if frames else []
         words += [f"{others:,} {'other ' if frames else ''}places" if others > 1 else f"one {'other ' if frames else ''}place"] if others else []
-        all_of_it = self.can_mend == frames and not others
-        many = "" if all_of_it else f" {self.can_mend:,} of the frames"
-        remedy = f"; mend-reel -o OUT {name} can mend {'it' if frames == 1 and all_of_it else 'them' if all_of_it else many[1:]}" if self.can_mend else ""
+        some = f"{self.can_mend:,} of the frames"
+        what = some if self.can_mend < frames or others else "it" if frames == 1 else "them"
+        remedy = f"; mend-reel -o OUT {name} can mend {what}" if self.can_mend else ""
         return f"damaged in {' and '.join(words)}{remedy}."
 
     def unchecked(self) -> str:
@@ -112,10 +112,10 @@ def verdict_of_file(judged: Judgment, compared: Compared | None = None, mended: 
     reasons = [dataclasses.replace(reason, remedy=remedy.format("them" if reason.is_many() else "it")) if reason.why is Why.FAILS and reason.frames
                and within(reason, results) <= mended else reason for reason in judged.reasons]
     is_original = compared is not None and compared.is_original
-    notes = [compared.text] if compared and is_original and not compared.is_of_all else []
-    counts = results.counts()
-    return Verdict([] if is_original and compared and compared.is_of_all else reasons, [*notes, *of_the_rest(results, "damaged frames")], results.sums(), counts, results,
-                   bool(judged.reasons), compared, True, judged.is_walked, len(mended))
+    is_of_all = compared is not None and compared.is_of_all
+    notes = [*([compared.text] if compared and is_original and not is_of_all else []), *of_the_rest(results, "damaged frames")]
+    return Verdict([] if is_original and is_of_all else reasons, notes, results.sums(), results.counts(), results, bool(judged.reasons), compared,
+                   True, judged.is_walked, len(mended))
 
 
 def within(reason: Reason, results: Results) -> set[int]:
@@ -131,12 +131,13 @@ def judge(evidence: Evidence) -> Verdict:
     # Bytes that no copy divides, and those that none has.
     found = [Reason(Why.ABSENT if place >= evidence.layout.size else Why.UNDIVIDED, bytes=(place, place + size))
              for place, size in evidence.layout.gaps]
-    found += [*evidence.told, *of_stretches(results), *of_shifts(evidence, results), *(frame_reason(Why.ROTTEN, results, at) for at in sorted(results.rotten)),
+    found += [*evidence.told, *of_stretches(results), *of_shifts(evidence, results),
+              *(frame_reason(Why.ROTTEN, results, at) for at in sorted(results.rotten)),
               *(unchecked(results) if evidence.is_alone or evidence.is_good else of_one_copy(results))]
     flaws = evidence.flaws if evidence.is_alone else [flaw for flaw in evidence.flaws if flaw.flaw not in MAY_BE_AGREED]
     found = sorted([*found, *of_flaws(flaws, found)], key=lambda reason: reason.bytes or (0, 0))
     # What other files have, and OUT lacks or has less of. Whoever writes a file writes tags.
-    lacking = [(copy, content) for copy, other in evidence.others.items() for content in sorted(other.contents() - evidence.layout.contents(), key=lambda each: (each in BESIDE_TRACKS, list(Content).index(each)))]
+    lacking = [(copy, content) for copy, other in evidence.others.items() for content in in_order(other.contents() - evidence.layout.contents())]
     found += [*find_lacks(evidence, results), *(Reason(Why.LACKS, what, copy=copy) for copy, what in lacking if what is not Content.TAGS)]
     found += [Reason(Why.RECORD, Content.TRACKS, track.number) for track in (evidence.out or evidence.layout).tracks
               if track.is_ffv1 and track.record and not passes_as_record(track.record)]
@@ -151,6 +152,11 @@ def judge(evidence: Evidence) -> Verdict:
               *(f"copy {copy + 1} has tags, and OUT has none" for copy, what in lacking if what is Content.TAGS)]
     has_damage = bool(counts.damaged or results.outcomes or evidence.has_damaged_heads or is_cut(evidence, copy_of_mark))
     return Verdict([] if is_original and is_of_all else join(found), notes, results.sums(), counts, results, has_damage, compared)
+
+
+def in_order(contents: Iterable[Content]) -> list[Content]:
+    """Contents in an order that is the same in each run: tracks come first."""
+    return sorted(contents, key=lambda each: (each in BESIDE_TRACKS, list(Content).index(each)))
 
 
 def is_cut(evidence: Evidence, copy_of_mark: Sequence[int]) -> bool:
@@ -195,7 +201,8 @@ def of_shifts(evidence: Evidence, results: Results) -> Iterator[Reason]:
             place = min(before.end, evidence.layout.size - 1)
             at = bisect.bisect_right(starts, place) - 1
             is_lacking = after.start > before.end or not evidence.is_good
-            if is_lacking and results.states[at] not in VERIFIED and not any(frame.place <= place < frame.end for frame in results.stretches[at].parts):
+            is_in_frame = any(frame.place <= place < frame.end for frame in results.stretches[at].parts)
+            if is_lacking and results.states[at] not in VERIFIED and not is_in_frame:
                 yield Reason(Why.SHIFT, bytes=(place, max(after.start, place + 1)), source=results.source(results.stretches[at]))
 
 

@@ -39,7 +39,6 @@ from .output_files import Files, Output, WorkFolder, check_room, is_written_to
 from .progress import Progress
 
 PIECE = 1 << 20
-NONE: Set[int] = frozenset()
 # How many frames a report shows.
 MOST_SHOWN = 200
 WRITERS = {"report": page.write, "json": json_document.write}
@@ -283,7 +282,8 @@ class Session:
         comparison = compare(layout, inputs, self.progress.at)
         if arrangement.good is not None:
             at = inputs.numbers.index(arrangement.good)
-            broken = {number for number in range(inputs.own) if number != at and self.is_broken(inputs.files[number])} if by_start(inputs.files[at]) else NONE
+            others = [number for number in range(inputs.own) if number != at and by_start(inputs.files[at])]
+            broken = set(filter(lambda number: self.is_broken(inputs.files[number]), others))
             comparison.layout.stretches = [dataclasses.replace(without_broken(stretch, broken), source=at, because=Because.GOOD)
                                            for stretch in comparison.layout.stretches]
         return Attempt(arrangement, layout, comparison, self.make(comparison, arrangement.good is not None))
@@ -337,7 +337,8 @@ class Session:
         there = open_copy(path)
         try:
             there.form = form_of(there)
-            left = {left.number for left in arrange([there, *copies], self.scan, lambda number: judge_file([there, *copies][number], self.scan), self.work).left}
+            both = [there, *copies]
+            left = {left.number for left in arrange(both, self.scan, lambda number: judge_file(both[number], self.scan), self.work).left}
         except Fault:
             return
         finally:
@@ -462,7 +463,8 @@ class Session:
         """The frames that a report shows: of those that are not restored the ones with the most lost tiles, and of these the first ones."""
         lost = [result for result in verdict.results.frames.values() if result.state is FrameState.LOST]
         can_be_shown = [result for result in lost if self.keeper.is_asked_for(tracks[result.frame.track])]
-        return heapq.nsmallest(MOST_SHOWN, can_be_shown, key=lambda result: (-self.keeper.lost_tiles(tracks[result.frame.track], result), result.number))
+        return heapq.nsmallest(MOST_SHOWN, can_be_shown, key=lambda result: (-self.keeper.lost_tiles(tracks[result.frame.track], result),
+                                                                             result.number))
 
     def versions(self, frame: Frame, stretch: Stretch, inputs: Inputs) -> list[tuple[str, bytes]]:
         """What the copies have of a frame, each by its path."""
