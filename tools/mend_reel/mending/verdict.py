@@ -120,8 +120,8 @@ def verdict_of_file(judged: Judgment, compared: Compared | None = None, mended: 
 
 def within(reason: Reason, results: Results) -> set[int]:
     """The numbers of the damaged frames that a reason names."""
-    first, last = reason.bytes or (0, 0)
-    return {at for at, each in results.frames.items() if first <= each.frame.place < last}
+    first, last = (bisect.bisect_left(results.places, place) for place in reason.bytes or (0, 0))
+    return {at for at in range(first, last) if at in results.frames}
 
 
 def judge(evidence: Evidence) -> Verdict:

@@ -78,12 +78,10 @@ class Attempt:
     def damaged(self) -> set[int]:
         """The copies of OUT's file in which a check fails, as OUT passes it and the bytes before it, which lead there, are OUT's."""
         differs = {each.number: each.marks for each in self.made.outcomes}
+        disputed = {each.number for each in self.made.outcomes if each.state is State.DISPUTED}
         return {self.inputs.numbers[at] for number, marks in differs.items() for at, mark in enumerate(marks[: self.inputs.own])
                 if mark == "0" and self.made.stretches[number].kind is not Kind.PLAIN and differs.get(number - 1, marks.replace("0", "1"))[at] == "1"
-                and self.state(number) is not State.DISPUTED}
-
-    def state(self, number: int) -> State:
-        return next(each.state for each in self.made.outcomes if each.number == number)
+                and number not in disputed}
 
 
 class Outputs:
