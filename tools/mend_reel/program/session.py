@@ -17,7 +17,7 @@ from ..containers.structure import Flaw, Found
 from ..copies import evidence
 from ..copies.arrangement import Arrangement, arrange, is_good, why_no_video, with_good
 from ..copies.comparison import Comparison, best_shown, compare
-from ..copies.filling import placed
+from ..copies.filling import filled, placed
 from ..copies.inputs import Inputs, gather
 from ..copies.preferred_copy import follow, without_broken
 from ..engine.external_programs import find_ffv1restore, of_each, version_of
@@ -309,6 +309,10 @@ class Session:
                 arrangement.good, arrangement.differ = made.good, bool(attempt.made.outcomes or arrangement.matched)
                 return None
             return made
+        own, is_lost = attempt.inputs.files[: attempt.inputs.own], any(each.state is State.MISSING for each in attempt.made.outcomes)
+        together = filled(own, arrangement.layout, self.scan, self.work / "filled") if is_lost and len(own) > 1 and not arrangement.filled else None
+        if together:
+            return dataclasses.replace(arrangement, layout=together.layout, filled=together.made, is_read_again=True)
         out = attempt.made.out
         is_more = len(out.frames) > len(attempt.layout.frames) or bool(attempt.layout.gaps) and not out.gaps
         return dataclasses.replace(arrangement, layout=out, is_read_again=True) if is_more and len(self.copies) > 1 else None
