@@ -1,0 +1,3 @@
+-- Definitions that no contract of a public call reaches: what private calls keep.
+pub mod Front
+pub mod Passed
