@@ -97,7 +97,7 @@ class Citations(unittest.TestCase):
         self.assertEqual(self.cited("has_bit bits_of' size"), [])
 
     def test_passed_on(self) -> None:
-        line = "ghost use Rattle.ebml_crc.specs.Parity.{divisor};\nuse Rattle.std.specs.Prelude.{List}\n"
+        line = "ghost use Rattle.ebml.specs.Parity.{divisor};\nuse Rattle.std.specs.Prelude.{List}\n"
         self.assertEqual(list(specs_text.citations(line, "divisor List")), [("ffv1_bits/specs/Parity.antt", "divisor")])
         case = "use Rattle.ffv1_weave.specs.Weave.Weave.{woven}\n"
         self.assertEqual(list(specs_text.citations(case, "woven bytes")), [("ffv1_weave/specs/Weave.antt", "Weave")])

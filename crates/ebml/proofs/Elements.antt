@@ -4,7 +4,7 @@ use Rattle.std.specs.Prelude.{Some, Contains}
 use Rattle.std.specs.List.{AllByRecursion, concat}
 use Rattle.std.proofs.lemmas.List.{length-take-le, length-take, length-append, take-append-drop, take_at, drop_at, append_assoc, append_cancel_left, append-nil, length-drop, take_rest}
 use Rattle.std.proofs.Math.Seq.{take-add}
-use Rattle.ebml.specs.Vint.{AreBytes}
+use Rattle.ffv1_bits.specs.Parity.{AreBytes}
 use Rattle.ebml.specs.Head.{HasHead}
 use Rattle.ebml.specs.Children.{IsElement, IsChild, BeginsNoChild, AreChildren}
 use Rattle.ebml.specs.declared.head.Head.{Head}

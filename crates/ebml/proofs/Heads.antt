@@ -3,7 +3,8 @@ use Rattle.std.proofs.Common.{◌≡◌, ℕ, ◌+◌, ◌-◌, ◌≤◌, List,
 use Rattle.std.specs.Prelude.{◌==◌, if◌then◌else◌, Option, Some, None}
 use Rattle.std.proofs.lemmas.List.{length-take-le, length-append, length-drop, take-take, take_at, drop_at, drop-take, take-append-le, take_rest}
 use Rattle.std.proofs.Math.Seq.{take-add}
-use Rattle.ebml.specs.Vint.{AreBytes, number_of, marker, IsVint}
+use Rattle.ffv1_bits.specs.Parity.{AreBytes}
+use Rattle.ebml.specs.Vint.{number_of, marker, IsVint}
 use Rattle.ebml.specs.Head.{IsHead, HasHead, HeadsAreLocal}
 use Rattle.ebml.specs.Inner.Front.{HasVint}
 use Rattle.ebml.specs.declared.head.Head.{Head}

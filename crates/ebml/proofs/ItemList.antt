@@ -4,7 +4,8 @@ use Rattle.std.specs.Prelude.{◌↔◌, IsTrue, Option, Some, None, Contains}
 use Rattle.std.proofs.lemmas.Bool.{cases_lt}
 use Rattle.std.proofs.lemmas.List.{length-append, length-drop, take-append-drop, drop_at, drop-append-le, append_cancel_left, append_cancel_right, take_rest, drop-drop, drop-take, append-nil, append_assoc, take_all, drop_all}
 use Rattle.std.proofs.Math.Seq.{take-add}
-use Rattle.ebml.specs.Vint.{AreBytes, number_of}
+use Rattle.ffv1_bits.specs.Parity.{AreBytes}
+use Rattle.ebml.specs.Vint.{number_of}
 use Rattle.ebml.specs.Head.{HasHead}
 use Rattle.ebml.specs.Children.{AreChildren}
 use Rattle.ebml.specs.Items.{IsTop, IsHeaded, IsUnknown, IsItem, ItemValue, bytes_of, EachIsItem, AreItems, ItemsAreOne, WholeItemsAreLocal, BeginsKnown, cluster_ids, long_ids, segment_id}

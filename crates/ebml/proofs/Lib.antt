@@ -4,3 +4,8 @@ pub mod Elements
 pub mod ItemList
 pub mod Whole
 pub mod Vectors
+pub mod Turned
+pub mod Registers
+pub mod CrcElements
+pub mod Advances
+pub mod CrcVectors

@@ -5,7 +5,8 @@ use Rattle.std.proofs.lemmas.Int.Digits.{number_lt, number_after_lt}
 use Rattle.std.proofs.Math.Nat.{pow-le-pow_right, pow-suc}
 use Rattle.std.proofs.lemmas.Bool.{cases_lt}
 use Rattle.std.proofs.lemmas.List.{length-take-le, get_or-drop}
-use Rattle.ebml.specs.Vint.{AreBytes, number_of, marker, IsVint}
+use Rattle.ffv1_bits.specs.Parity.{AreBytes}
+use Rattle.ebml.specs.Vint.{number_of, marker, IsVint}
 use Rattle.ebml.specs.Inner.Front.{IsLengthBy}
 
 pub all_below : (xs : List ℕ) → AreBytes xs → AllBelowBase 256 xs

@@ -1,7 +1,7 @@
 -- No file that is an EBML and one Segment goes on after another.
 use Rattle.std.proofs.Common.{◌≡◌, ℕ, List, [], ◌∷◌, ◌++◌, length, take, drop, refl, sym, ap, ◌∙◌, subst, arith, inl, ◌-◌, ◌<◌, Some, Option, length-take-le}
 use Rattle.std.proofs.lemmas.List.{length-append, append_assoc, append_cancel_left, take-append-drop, append-nil, drop_at}
-use Rattle.ebml.specs.Vint.{AreBytes}
+use Rattle.ffv1_bits.specs.Parity.{AreBytes}
 use Rattle.ebml.specs.Children.{IsElement}
 use Rattle.ebml.specs.Whole.{IsOneSegment, ebml_item, segment_item, OneSegmentHasItems, CutIsSeen}
 use Rattle.ebml.specs.Items.{ebml_id, segment_id, top_ids, IsTop, IsItem, ItemValue, bytes_of, AreItems}

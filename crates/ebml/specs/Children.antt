@@ -1,7 +1,7 @@
 -- Elements, and the children of a master (RFC 8794, sections 6 and 7).
 use Rattle.std.specs.Prelude.{ℕ, ◌-◌, ◌≡◌, List, ◌++◌, length, take, Some, Contains}
 use Rattle.std.specs.List.{AllByRecursion, concat}
-use Rattle.ebml.specs.Vint.{AreBytes}
+use Rattle.ffv1_bits.specs.Parity.{AreBytes}
 use Rattle.ebml.specs.Head.{HasHead}
 use Rattle.ebml.specs.declared.head.Head.{Head}
 

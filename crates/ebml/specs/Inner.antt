@@ -1,3 +1,4 @@
--- Definitions that no contract of a public call reaches: what private calls keep.
+-- Definitions that no contract of a public call reaches: what loops and private calls keep, so that those contracts can be proved.
 pub mod Front
 pub mod Passed
+pub mod Register

@@ -1,7 +1,8 @@
 -- The items of a Matroska file (RFC 9559): the elements at its top and those of its Segment, in one list, and what no element covers.
 use Rattle.std.specs.Prelude.{ℕ, ◌+◌, ◌-◌, ◌≤◌, ◌<◌, ◌≡◌, ◌≢◌, ◌⊎◌, List, [], ◌∷◌, ◌++◌, length, take, drop, min, Some, None, Contains}
 use Rattle.std.specs.List.{flat_map}
-use Rattle.ebml.specs.Vint.{AreBytes, number_of}
+use Rattle.ffv1_bits.specs.Parity.{AreBytes}
+use Rattle.ebml.specs.Vint.{number_of}
 use Rattle.ebml.specs.Head.{HasHead}
 use Rattle.ebml.specs.Children.{AreChildren}
 use Rattle.ebml.specs.declared.head.Head.{Head}

@@ -1,5 +1,5 @@
 -- Variable-Size Integers (RFC 8794, section 4).
-use Rattle.std.specs.Prelude.{ℕ, ◌-◌, ◌*◌, ◌^◌, ◌≤◌, ◌<◌, List, length, slice_index}
+use Rattle.std.specs.Prelude.{ℕ, ◌-◌, ◌*◌, ◌^◌, ◌≤◌, ◌<◌, List, length}
 use Rattle.std.specs.Int.Digits.{number_from_digits}
 
 -- bytes as a number, the highest first
@@ -18,6 +18,3 @@ pub record IsVint (bytes : List ℕ) : Type 0 where
 -- the number after the marker
 abbrev pub data_of : List ℕ → ℕ
 data_of bytes = number_of bytes - marker (length bytes)
-
-abbrev pub AreBytes : List ℕ → Type 0
-AreBytes bytes = (i : ℕ) → slice_index bytes i < 256

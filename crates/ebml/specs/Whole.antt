@@ -1,6 +1,6 @@
 -- Files that are an EBML element and one Segment, which ends with the file (RFC 8794, section 4: EBML Document; RFC 9559, section 4).
 use Rattle.std.specs.Prelude.{ℕ, ◌≡◌, List, [], ◌∷◌, ◌++◌, take}
-use Rattle.ebml.specs.Vint.{AreBytes}
+use Rattle.ffv1_bits.specs.Parity.{AreBytes}
 use Rattle.ebml.specs.Children.{IsElement}
 use Rattle.ebml.specs.Items.{ebml_id, segment_id, ItemValue, AreItems}
 use Rattle.ebml.specs.declared.head.Head.{Head}

@@ -1,13 +1,19 @@
-//! Elements of EBML files (RFC 8794): their heads, the children of a master, and the items of a Matroska file.
+//! Elements of EBML files (RFC 8794): their heads, the children of a master, the items of a Matroska file, and the CRC-32 with which an
+//! element may begin.
 #![tactic(auto)]
 
 mod children;
+mod crc;
+mod crc_element;
 mod head;
 mod items;
 mod laws;
+mod table;
 mod vint;
 
 pub use children::{Element, children_are_one, children_end, is_among, next_child, read_element};
+pub use crc::crc32;
+pub use crc_element::{burst_seen_by_crc32, element_left, passes_crc32};
 pub use head::{Head, read_head, read_head_at};
 pub use items::{Item, Kind, count_items, next_item};
 pub use laws::{

@@ -1,7 +1,7 @@
 //! What the calls are made on: a recorded frame of 48 x 32 gray samples in four tiles, and two copies of it in each
 //! of which the slices of two tiles are damaged.
 use crate::buffer::Buffer;
-use ebml_crc::crc32;
+use ebml::crc32;
 use ffv1_hold::{FromWrite, Holding, write_hold};
 use ffv1_range::Recorded;
 use ffv1_test_frames::{RECORDED, RECORDED_RECORD};

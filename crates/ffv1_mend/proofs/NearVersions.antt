@@ -4,7 +4,7 @@ use Rattle.std.specs.Prelude.{Contains}
 use Rattle.ffv1_bits.specs.Bits.{bits_of}
 use Rattle.ffv1_bits.specs.Parity.{AreBytes, DifferWithin32, remainder_of}
 use Rattle.ffv1_bits.proofs.Burst.{burst, same_bits, same_bytes, length-bits}
-use Rattle.ebml_crc.proofs.Elements.{burst_seen}
+use Rattle.ebml.proofs.CrcElements.{burst_seen}
 use Rattle.flac_frame.proofs.Checks as flac
 use Rattle.ffv1_slice.specs.Members.{IsOnly, IsOfTwo}
 use Rattle.ffv1_weave.specs.Checks.{PassesBy, CanWeave}

@@ -1,7 +1,7 @@
 -- Laws of what becomes of a stretch.
 use Rattle.std.specs.Prelude.{ℕ, ◌<◌, ◌≤◌, ◌≡◌, ◌⊎◌, true, List, All, Contains, length}
 use Rattle.ffv1_bits.specs.Parity.{AreBytes, DifferWithin32}
-use Rattle.ebml_crc.specs.Element.{PassesCrc32, DivideWithin32}
+use Rattle.ebml.specs.CrcElement.{PassesCrc32, DivideWithin32}
 use Rattle.flac_frame.specs.Frame.{PassesFlac, DifferWithin16}
 use Rattle.ffv1_slice.specs.Chain.{IsLinkOf}
 use Rattle.ffv1_slice.specs.Members.{HasSameMembers, IsOnly, IsOfTwo}

@@ -7,8 +7,8 @@ pub mod Inner
 -- what the clauses cite of the crates below
 pub use Rattle.ffv1_bits.specs.Bits
 pub use Rattle.ffv1_bits.specs.Parity
-pub use Rattle.ebml_crc.specs.Crc
-pub use Rattle.ebml_crc.specs.Element
+pub use Rattle.ebml.specs.Crc
+pub use Rattle.ebml.specs.CrcElement
 pub use Rattle.flac_frame.specs.Frame
 pub use Rattle.ffv1_slice.specs.Chain
 pub use Rattle.ffv1_slice.specs.Members

@@ -1,5 +1,5 @@
 //! Configuration Records and frames of FLAC, and such frames as parts of elements.
-use ebml_crc::crc32;
+use ebml::crc32;
 use ffv1_bits::remainder;
 use ffv1_mend::{Kind, Mended, MendedPart, Part, Sort, State, mend};
 use ffv1_test_frames::{LATER_SILENCE, ONE_TILE, SILENCE};

@@ -1,6 +1,6 @@
 //! CRC-32, and elements that begin with it.
 use crate::element::{OTHER, changed};
-use ebml_crc::{crc32, element_left, passes_crc32};
+use ebml::{crc32, element_left, passes_crc32};
 
 #[test]
 fn crc32_of_known_bytes(rt: HostRuntime) {

@@ -1,6 +1,6 @@
 //! An element of 80 bytes: its CRC-32, 8 bytes, the frame of 22 bytes from byte 14 on, 14 bytes, a frame of FLAC of 12 bytes, and 18 bytes
 //! more.
-use ebml_crc::crc32;
+use ebml::crc32;
 use ffv1_test_frames::{FRAME, SILENCE};
 
 /// A byte of what follows the CRC-32, by its place in the element.

@@ -20,7 +20,7 @@ pub use Rattle.std.specs.List.{IsAnyAnswer, flat_map, fold}
 pub use Rattle.std.specs.Prelude.{All, Contains, IfOk, MatchBool, MatchOption, bit_xor, slice_index, slice_range, sum, ◌↔◌, ◌⊎◌}
 pub use Rattle.std.specs.Str.{bytes_eq}
 pub use Rattle.std.specs.declared.alloc.AllocError.{AllocError}
-pub use Rattle.ebml_crc.proofs.Elements.{element_changes, right_leaves_none}
+pub use Rattle.ebml.proofs.CrcElements.{element_changes, right_leaves_none}
 pub use Rattle.ffv1_bits.proofs.Burst.{length-bits}
 pub use Rattle.ffv1_bits.proofs.Division.{divided-xor, divided_low, fold_injective, reduced_low, remainder_is_fold}
 unfoldable pub use Rattle.ffv1_bits.proofs.Division.{shifted}

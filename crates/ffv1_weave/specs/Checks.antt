@@ -1,7 +1,7 @@
 -- The tests that distinguish bytes which were not damaged.
 use Rattle.std.specs.Prelude.{ℕ, ◌≢◌, List, Any}
 use Rattle.ffv1_bits.specs.Parity.{PassesParity, RecordPassesParity}
-use Rattle.ebml_crc.specs.Element.{PassesCrc32}
+use Rattle.ebml.specs.CrcElement.{PassesCrc32}
 use Rattle.flac_frame.specs.Frame.{PassesFlac}
 use Rattle.ffv1_slice.specs.Chain.{IsFramed}
 use Rattle.ffv1_weave.specs.declared.check.Check.{Check}

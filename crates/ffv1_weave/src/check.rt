@@ -4,7 +4,7 @@ ghost use Rattle.ffv1_bits.specs.Parity.{RecordPassesParity};
 ghost use Rattle.ffv1_weave.specs.Checks.{PassesBy, CanWeave};
 ghost use Rattle.ffv1_weave.specs.Inner.Changes.{remainder_in};
 
-use ebml_crc::{element_left, passes_crc32};
+use ebml::{element_left, passes_crc32};
 use ffv1_bits::{passes, remainder};
 use ffv1_slice::is_framed;
 use flac_frame::passes_flac;

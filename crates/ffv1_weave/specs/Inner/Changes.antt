@@ -2,7 +2,7 @@
 use Rattle.std.specs.Prelude.{ℕ, ◌/◌, ◌%◌, List, [], ◌∷◌, map, length, slice_index, bit_xor}
 use Rattle.ffv1_bits.specs.Bits.{bits_of}
 use Rattle.ffv1_bits.specs.Parity.{remainder_of}
-use Rattle.ebml_crc.specs.Element.{element_left}
+use Rattle.ebml.specs.CrcElement.{element_left}
 use Rattle.ffv1_weave.specs.Inner.Parts.{Part}
 use Rattle.ffv1_weave.specs.Parts.{written}
 use Rattle.ffv1_weave.specs.declared.check.Check.{Check}

@@ -1,6 +1,7 @@
 use Rattle.std.proofs.Common.{ℕ, ◌≡◌, ◌≤◌, List, arith, ap, sym, ◌∙◌, inl, inr}
 use Rattle.std.specs.Prelude.{Some, slice_index, take}
-use Rattle.ebml.specs.Vint.{AreBytes, number_of}
+use Rattle.ffv1_bits.specs.Parity.{AreBytes}
+use Rattle.ebml.specs.Vint.{number_of}
 use Rattle.ebml.specs.Inner.Front.{HasVint, IsLengthBy}
 use Rattle.ebml.specs.declared.vint.Vint.{Vint}
 use Rattle.ebml.proofs.Numbers.{length_of_vint, vint_of_length}

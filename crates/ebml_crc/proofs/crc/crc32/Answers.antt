@@ -1,6 +1,0 @@
-use Rattle.std.proofs.Common.{[]}
-use Rattle.ebml_crc.proofs.Advances.{START_is, complement_is}
-use Rattle.ebml_crc.proofs.crc.crc32.Goals as goal
-
-pub returns : goal.returns
-returns c = complement_is c.advanced.result c.args.bytes.now (c.advanced.ensures [] START_is)

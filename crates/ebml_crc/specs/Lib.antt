@@ -1,6 +1,0 @@
-pub mod Crc
-pub mod Element
-pub mod Inner
--- what the clauses cite of the crate below
-pub use Rattle.ffv1_bits.specs.Bits
-pub use Rattle.ffv1_bits.specs.Parity
