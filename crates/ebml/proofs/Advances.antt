@@ -301,3 +301,15 @@ rest_advanced r front rest i register next within now then =
     let more : front ++ take (i + 1) rest ≡ (front ++ take i rest) ++ b ∷ [] =
     ap (λ xs. front ++ xs) (take_more rest i 0 within) ∙ sym (append_assoc front (take i rest) (b ∷ [])) in
     subst (λ (xs : List ℕ). Advances r xs next) (sym more) (Advances-trans r register next (front ++ take i rest) (b ∷ []) now then)
+
+-- the CRC-32 of no bytes
+pub crc32_of_none : crc32_of [] ≡ 0
+crc32_of_none = sym (complement_is START [] START_is)
+
+-- the CRC-32 complemented is the register
+pub register_is : (crc : ℕ) (bytes : List ℕ) → crc ≡ crc32_of bytes → bit_not w32 crc ≡ register_of bytes
+unfolding register_of
+register_is crc bytes is =
+    let same = complement_is (register_of bytes) bytes refl in
+    let small : register_of bytes < 2 ^ 32 = reversed_small 32 (crc_remainder bytes) in
+    omega (arith, is, same, small)

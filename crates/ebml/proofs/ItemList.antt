@@ -8,7 +8,8 @@ use Rattle.ffv1_bits.specs.Parity.{AreBytes}
 use Rattle.ebml.specs.Vint.{number_of}
 use Rattle.ebml.specs.Head.{HasHead}
 use Rattle.ebml.specs.Children.{AreChildren}
-use Rattle.ebml.specs.Items.{IsTop, IsHeaded, IsUnknown, IsItem, ItemValue, bytes_of, EachIsItem, AreItems, ItemsAreOne, WholeItemsAreLocal, BeginsKnown, cluster_ids, long_ids, segment_id}
+use Rattle.ebml.specs.Masters.{cluster_ids, segment_id}
+use Rattle.ebml.specs.Items.{IsTop, IsHeaded, IsUnknown, IsItem, ItemValue, bytes_of, EachIsItem, AreItems, ItemsAreOne, WholeItemsAreLocal, BeginsKnown, long_ids}
 use Rattle.ebml.specs.declared.head.Head.{Head}
 use Rattle.ebml.specs.declared.items.Kind.{Kind}
 use Rattle.ebml.specs.declared.items.Kind.TheVariants.{Segment, Element, Endless, Unknown}

@@ -4,7 +4,8 @@ use Rattle.std.proofs.lemmas.List.{length-append, append_assoc, append_cancel_le
 use Rattle.ffv1_bits.specs.Parity.{AreBytes}
 use Rattle.ebml.specs.Children.{IsElement}
 use Rattle.ebml.specs.Whole.{IsOneSegment, ebml_item, segment_item, OneSegmentHasItems, CutIsSeen}
-use Rattle.ebml.specs.Items.{ebml_id, segment_id, top_ids, IsTop, IsItem, ItemValue, bytes_of, AreItems}
+use Rattle.ebml.specs.Masters.{ebml_id, segment_id}
+use Rattle.ebml.specs.Items.{top_ids, IsTop, IsItem, ItemValue, bytes_of, AreItems}
 use Rattle.ebml.specs.declared.head.Head.{Head}
 use Rattle.ebml.specs.declared.items.Kind.TheVariants.{Segment, Element}
 use Rattle.std.specs.Prelude.{Contains, None}

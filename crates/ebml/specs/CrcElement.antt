@@ -1,9 +1,13 @@
 -- Elements whose first child is a CRC-32 element (RFC 8794, section 11.3.1): its ID BF, its size 4 as 84, and the CRC-32 of all that
 -- follows it in its parent, the lowest byte first.
-use Rattle.std.specs.Prelude.{ℕ, ◌+◌, ◌≡◌, List, ◌∷◌, ◌++◌, length, take, drop, bit_xor}
+use Rattle.std.specs.Prelude.{ℕ, ◌+◌, ◌≡◌, ◌≤◌, List, [], ◌∷◌, ◌++◌, length, take, drop, bit_xor}
 use Rattle.std.specs.Int.{w32, to_le_bytes}
 use Rattle.ffv1_bits.specs.Parity.{AreBytes}
 use Rattle.ebml.specs.Crc.{sent_bits, crc_remainder, crc32_of}
+
+-- the content of an element begins with a CRC-32 element, be it right or not
+abbrev pub HasCrc32 : List ℕ → Type 0
+HasCrc32 content = (6 ≤ length content) × (take 2 content ≡ 0xBF ∷ 0x84 ∷ [])
 
 -- the content of an element begins with a CRC-32 that is right
 abbrev pub PassesCrc32 : List ℕ → Type 0

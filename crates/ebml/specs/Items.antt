@@ -5,18 +5,10 @@ use Rattle.ffv1_bits.specs.Parity.{AreBytes}
 use Rattle.ebml.specs.Vint.{number_of}
 use Rattle.ebml.specs.Head.{HasHead}
 use Rattle.ebml.specs.Children.{AreChildren}
+use Rattle.ebml.specs.Masters.{segment_id, cluster_id, cluster_ids}
 use Rattle.ebml.specs.declared.head.Head.{Head}
 use Rattle.ebml.specs.declared.items.Kind.{Kind}
 use Rattle.ebml.specs.declared.items.Kind.TheVariants.{Segment, Element, Endless, Unknown}
-
-abbrev pub ebml_id : ℕ
-ebml_id = 0x1A45DFA3
-
-abbrev pub segment_id : ℕ
-segment_id = 0x18538067
-
-abbrev pub cluster_id : ℕ
-cluster_id = 0x1F43B675
 
 -- the known IDs of four octets: EBML, Segment, SeekHead, Info, Tracks, Cues, Cluster, Attachments, Chapters, Tags
 abbrev pub long_ids : List ℕ
@@ -26,10 +18,6 @@ long_ids =
 -- and all: Void too
 abbrev pub top_ids : List ℕ
 top_ids = 0xEC ∷ long_ids
-
--- what a Cluster has: Timestamp, Position, PrevSize, SimpleBlock, BlockGroup, SilentTracks, and Void and CRC-32
-abbrev pub cluster_ids : List ℕ
-cluster_ids = 0xE7 ∷ 0xA7 ∷ 0xAB ∷ 0xA3 ∷ 0xA0 ∷ 0x5854 ∷ 0xEC ∷ 0xBF ∷ []
 
 -- The size of a head is known, or it is a Segment's or a Cluster's.
 abbrev pub IsSized : Head → Type 0

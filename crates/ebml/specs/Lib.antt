@@ -1,6 +1,7 @@
 pub mod Vint
 pub mod Head
 pub mod Children
+pub mod Masters
 pub mod Items
 pub mod Whole
 pub mod Crc

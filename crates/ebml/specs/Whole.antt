@@ -2,7 +2,8 @@
 use Rattle.std.specs.Prelude.{ℕ, ◌≡◌, List, [], ◌∷◌, ◌++◌, take}
 use Rattle.ffv1_bits.specs.Parity.{AreBytes}
 use Rattle.ebml.specs.Children.{IsElement}
-use Rattle.ebml.specs.Items.{ebml_id, segment_id, ItemValue, AreItems}
+use Rattle.ebml.specs.Masters.{ebml_id, segment_id}
+use Rattle.ebml.specs.Items.{ItemValue, AreItems}
 use Rattle.ebml.specs.declared.head.Head.{Head}
 use Rattle.ebml.specs.declared.items.Kind.TheVariants.{Segment, Element}
 

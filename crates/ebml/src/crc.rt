@@ -1,7 +1,7 @@
 //! The CRC-32 of bytes, sixteen at once. It is the remainder by which slices are judged, of bits that stand in another order: each
 //! byte's lowest comes first. The register is held in that order too, with the bit of x ^ 31 as the lowest, so bytes go into it as they
 //! are.
-ghost use Rattle.std.specs.Prelude.{◌≡◌, ◌+◌, ◌*◌, ◌≤◌, [], ◌∷◌};
+ghost use Rattle.std.specs.Prelude.{ℕ, ◌≡◌, ◌+◌, ◌*◌, ◌≤◌, List, [], ◌∷◌, ◌++◌};
 ghost use Rattle.std.specs.Int.{w64, to_le_bytes};
 ghost use Rattle.std.specs.List.{concat};
 ghost use Rattle.ebml.specs.Crc.{crc32_of};
@@ -16,7 +16,15 @@ pub(crate) const START: u32 = 0xFFFFFFFF;
 pub fn crc32(bytes: &[u8]) -> u32
     ensures { result ≡ crc32_of bytes.now }
 {
-    !advanced(START, bytes)
+    crc32_after(0, bytes)
+}
+
+/// The CRC-32 of bytes that follow others, by the CRC-32 of those others: 0 where none stand before. So it is taken of bytes that come in
+/// pieces.
+pub fn crc32_after(crc: u32, bytes: &[u8]) -> u32
+    ensures { (front : List ℕ) → crc ≡ crc32_of front → result ≡ crc32_of (front ++ bytes.now) }
+{
+    !advanced(!crc, bytes)
 }
 
 /// The register of some bytes and these after them.

@@ -7,27 +7,39 @@ ghost use Rattle.ebml.specs.declared.head.Head.{Head};
 
 use crate::children::{children_end, is_among};
 use crate::head::{Head, read_head};
-
-const SEGMENT: u32 = 0x18538067;
-
-const CLUSTER: u32 = 0x1F43B675;
-
-const VOID: u32 = 0xEC;
+use crate::masters::{
+    ATTACHMENTS, CHAPTERS, CLUSTER, CLUSTER_IDS, CUES, EBML, INFO, SEEK_HEAD, SEGMENT, TAGS,
+    TRACKS, VOID,
+};
 
 /// The known IDs: Void, EBML, Segment, SeekHead, Info, Tracks, Cues, Cluster, Attachments, Chapters, Tags.
 const TOP_IDS: [u32; 11] = [
-    VOID, 0x1A45DFA3, SEGMENT, 0x114D9B74, 0x1549A966, 0x1654AE6B, 0x1C53BB6B, CLUSTER, 0x1941A469,
-    0x1043A770, 0x1254C367,
+    VOID,
+    EBML,
+    SEGMENT,
+    SEEK_HEAD,
+    INFO,
+    TRACKS,
+    CUES,
+    CLUSTER,
+    ATTACHMENTS,
+    CHAPTERS,
+    TAGS,
 ];
 
 /// Those of four octets.
 const LONG_IDS: [u32; 10] = [
-    0x1A45DFA3, SEGMENT, 0x114D9B74, 0x1549A966, 0x1654AE6B, 0x1C53BB6B, CLUSTER, 0x1941A469,
-    0x1043A770, 0x1254C367,
+    EBML,
+    SEGMENT,
+    SEEK_HEAD,
+    INFO,
+    TRACKS,
+    CUES,
+    CLUSTER,
+    ATTACHMENTS,
+    CHAPTERS,
+    TAGS,
 ];
-
-/// Those of a Cluster's children: Timestamp, Position, PrevSize, SimpleBlock, BlockGroup, SilentTracks, Void, CRC-32.
-const CLUSTER_IDS: [u32; 8] = [0xE7, 0xA7, 0xAB, 0xA3, 0xA0, 0x5854, VOID, 0xBF];
 
 /// What an item is.
 #[derive(Clone, Copy, Debug, PartialEq, Eq)]

@@ -8,14 +8,16 @@ mod crc_element;
 mod head;
 mod items;
 mod laws;
+mod masters;
 mod table;
 mod vint;
 
 pub use children::{Element, children_are_one, children_end, is_among, next_child, read_element};
-pub use crc::crc32;
-pub use crc_element::{burst_seen_by_crc32, element_left, passes_crc32};
+pub use crc::{crc32, crc32_after};
+pub use crc_element::{burst_seen_by_crc32, crc32_element, element_left, has_crc32, passes_crc32};
 pub use head::{Head, read_head, read_head_at};
 pub use items::{Item, Kind, count_items, next_item};
 pub use laws::{
     cut_is_seen, heads_are_local, items_are_one, one_segment_has_items, whole_items_are_local,
 };
+pub use masters::child_ids;
