@@ -4,11 +4,12 @@ use Rattle.std.specs.Prelude.{◌==◌, if◌then◌else◌, Option, Some, None}
 use Rattle.std.proofs.lemmas.List.{length-take-le, length-append, length-drop, take-take, take_at, drop_at, drop-take, take-append-le, take_rest}
 use Rattle.std.proofs.Math.Seq.{take-add}
 use Rattle.ffv1_bits.specs.Parity.{AreBytes}
-use Rattle.ebml.specs.Vint.{number_of, marker, IsVint}
+use Rattle.ebml.specs.Vint.{number_of, marker, IsVint, HasData}
 use Rattle.ebml.specs.Head.{IsHead, HasHead, HeadsAreLocal}
 use Rattle.ebml.specs.Inner.Front.{HasVint}
 use Rattle.ebml.specs.declared.head.Head.{Head}
 use Rattle.ebml.specs.declared.vint.Vint.{Vint}
+use Rattle.ebml.specs.declared.vint.VintData.{VintData}
 use Rattle.ebml.proofs.Numbers.{one_vint, bytes_drop}
 
 pub same_vint : (vint : Vint) (number long : ℕ) → number ≡ vint.number → long ≡ vint.length
@@ -170,3 +171,21 @@ heads_are_local front more head = (
   λ long has. let p = parts_of (front ++ more) head has in
       let id = p.id_is.short in let size = p.size_is.short in head_shorter front more head (omega (arith, long, id, size, p.length_same)) has,
 )
+
+-- what a Variable-Size Integer gives without its marker
+pub vint_with : (xs : List ℕ) (found : VintData) → HasData xs found
+    → HasVint xs 8 record { number = number_of (take found.length xs); length = found.length }
+vint_with xs found has = record { short = has.short; room = has.room; is = has.is; number = refl }
+
+pub same_data : (xs : List ℕ) (found : VintData) (vint : Vint) (value : ℕ) → HasData xs found
+    → vint ≡ record { number = number_of (take found.length xs); length = found.length } → value ≡ vint.number - marker vint.length
+    → ◌≡◌ {A = VintData} record { value = value; length = vint.length } found
+same_data xs found vint value has same is =
+    let long : length (take found.length xs) ≡ found.length = length-take-le found.length xs has.room in
+    let number : vint.number ≡ number_of (take found.length xs) = ap (λ v. v.number) same in
+    let length_same : vint.length ≡ found.length = ap (λ v. v.length) same in
+    let values : value ≡ found.value =
+    is ∙ ap (λ n. n - marker vint.length) number ∙ ap (λ n. number_of (take found.length xs) - marker n) (length_same ∙ sym long) ∙ sym has.value in
+    let one : ◌≡◌ {A = VintData} record { value = value; length = vint.length } record { value = found.value; length = vint.length } = ap (λ z. let v : VintData = record { value = z; length = vint.length } in v) values in
+    let other : ◌≡◌ {A = VintData} record { value = found.value; length = vint.length } found = ap (λ z. let v : VintData = record { value = found.value; length = z } in v) length_same in
+    one ∙ other

@@ -1,6 +1,7 @@
 pub mod Numbers
 pub mod Heads
 pub mod Elements
+pub mod ContentList
 pub mod ItemList
 pub mod Whole
 pub mod Vectors

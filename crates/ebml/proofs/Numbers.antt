@@ -1,8 +1,8 @@
 -- Bytes as numbers, and by which first octet a Variable-Size Integer begins.
-use Rattle.std.proofs.Common.{◌≡◌, ℕ, suc, zero, ◌+◌, ◌-◌, ◌*◌, ◌^◌, ◌<◌, ◌≤◌, List, [], ◌∷◌, length, take, drop, get_or, sym, ap, subst, arith, inl, inr}
+use Rattle.std.proofs.Common.{◌≡◌, ℕ, suc, zero, ◌+◌, ◌-◌, ◌*◌, ◌^◌, ◌%◌, ◌∙◌, ◌<◌, ◌≤◌, List, [], ◌∷◌, length, take, drop, get_or, sym, ap, subst, arith, inl, inr}
 use Rattle.std.specs.Int.Digits.{number_from_digits_after, AllBelowBase}
 use Rattle.std.proofs.lemmas.Int.Digits.{number_lt, number_after_lt}
-use Rattle.std.proofs.Math.Nat.{pow-le-pow_right, pow-suc}
+use Rattle.std.proofs.Math.Nat.{pow-le-pow_right, pow-suc, mod-eq_of_lt}
 use Rattle.std.proofs.lemmas.Bool.{cases_lt}
 use Rattle.std.proofs.lemmas.List.{length-take-le, get_or-drop}
 use Rattle.ffv1_bits.specs.Parity.{AreBytes}
@@ -143,3 +143,11 @@ one_vint xs n m bytes short_n short_m room_n room_m is_n is_m =
 
 pub bytes_drop : (n : ℕ) (xs : List ℕ) → AreBytes xs → AreBytes (drop n xs)
 bytes_drop n xs bytes i = let h = bytes (n + i) in subst (λ z. z < 256) (sym (get_or-drop n xs i 0)) h
+
+-- the marker as it is shifted into its place
+pub shifted_marker : (n : ℕ) → n ≤ 8 → 1 * 2 ^ (7 * n) % 18446744073709551616 ≡ marker n
+shifted_marker n few =
+    let most : 7 * n ≤ 56 = omega arith in
+    let small : 2 ^ (7 * n) ≤ 2 ^ 56 = pow-le-pow_right (omega arith) most in
+    let within : 1 * 2 ^ (7 * n) < 18446744073709551616 = omega (arith, small) in
+    mod-eq_of_lt within ∙ omega arith

@@ -2,6 +2,7 @@ pub mod Vint
 pub mod Head
 pub mod Children
 pub mod Masters
+pub mod Contents
 pub mod Items
 pub mod Whole
 pub mod Crc

@@ -3,6 +3,7 @@
 #![tactic(auto)]
 
 mod children;
+mod contents;
 mod crc;
 mod crc_element;
 mod head;
@@ -13,6 +14,7 @@ mod table;
 mod vint;
 
 pub use children::{Element, children_are_one, children_end, is_among, next_child, read_element};
+pub use contents::{Content, contents_are_one, last_content, next_content};
 pub use crc::{crc32, crc32_after};
 pub use crc_element::{burst_seen_by_crc32, crc32_element, element_left, has_crc32, passes_crc32};
 pub use head::{Head, read_head, read_head_at};
@@ -21,3 +23,4 @@ pub use laws::{
     cut_is_seen, heads_are_local, items_are_one, one_segment_has_items, whole_items_are_local,
 };
 pub use masters::child_ids;
+pub use vint::{VintData, read_vint_data, unsigned};

@@ -1,0 +1,46 @@
+-- Elements that follow each other, and the contents of those with one ID (RFC 8794, sections 6 and 11.1).
+use Rattle.std.specs.Prelude.{ℕ, ◌≡◌, ◌==◌, nat_le, if◌then◌else◌, List, ◌++◌, length, map, filter, take, drop, Option, Some, None}
+use Rattle.std.specs.List.{AllByRecursion, flat_map, fold}
+use Rattle.ffv1_bits.specs.Parity.{AreBytes}
+use Rattle.ebml.specs.Vint.{number_of}
+use Rattle.ebml.specs.Children.{IsElement}
+use Rattle.ebml.specs.declared.head.Head.{Head}
+
+-- an element: its head, and all its bytes
+pub record ElementValue : Type 0 where
+  pub head : Head
+  pub bytes : List ℕ
+
+-- Elements, of whatever IDs, follow each other from the start of bytes; then come bytes that no element begins.
+pub record AreElements (bytes : List ℕ) (elements : List ElementValue) : Type 0 where
+  pub rest : List ℕ
+  pub joined : bytes ≡ flat_map (λ element. element.bytes) elements ++ rest
+  pub each : AllByRecursion (λ element. IsElement element.head element.bytes) elements
+  pub last : (n : ℕ) (head : Head) → IsElement head (take n rest) → ⊥
+
+-- the contents of those with this ID
+abbrev pub contents_with : ℕ → List ElementValue → List (List ℕ)
+contents_with id elements = map (λ element. drop element.head.length element.bytes) (filter (λ element. element.head.id == id) elements)
+
+-- these are the contents, in order, of the elements with this ID that follow each other from the start of bytes
+abbrev pub AreContents : ℕ → List ℕ → List (List ℕ) → Type 0
+AreContents id bytes contents = (elements : List ElementValue) × AreElements bytes elements × (contents ≡ contents_with id elements)
+
+-- the last of some, if there is one
+abbrev pub last_of : {X : Type 0} → List X → Option X
+last_of xs = fold (λ _ x. Some x) None xs
+
+-- this holds of the content of the last element with this ID, if there is one
+abbrev pub OfLast : ℕ → List ℕ → (Option (List ℕ) → Type 0) → Type 0
+OfLast id bytes P = (contents : List (List ℕ)) × AreContents id bytes contents × P (last_of contents)
+
+-- the value of an Unsigned Integer Element (RFC 8794, section 7.2): 0 where it has more than 8 octets
+abbrev pub unsigned_of : List ℕ → ℕ
+unsigned_of content = if nat_le (length content) 8 then number_of content else 0
+
+-- ---- laws
+
+-- The contents of the elements with one ID are one list.
+abbrev pub ContentsAreOne : Type 0
+ContentsAreOne =
+    (id : ℕ) (bytes : List ℕ) (contents others : List (List ℕ)) → AreBytes bytes → AreContents id bytes contents → AreContents id bytes others → contents ≡ others

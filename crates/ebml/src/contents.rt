@@ -1,0 +1,51 @@
+//! The contents of elements that follow each other, by ID.
+ghost use Rattle.std.specs.Prelude.{ℕ, ◌≡◌, ◌<◌, List, [], ◌∷◌, length, IfSome, IfNone};
+ghost use Rattle.std.specs.Option.{option_copied};
+ghost use Rattle.ebml.specs.Contents.{AreContents, OfLast, ContentsAreOne};
+
+use crate::children::read_element;
+
+/// What an element has after its head, and the bytes that follow the element.
+#[derive(Clone, Copy, Debug)]
+pub struct Content<'a> {
+    pub bytes: &'a [u8],
+    pub rest: &'a [u8],
+}
+
+/// The content of the first element with this ID, among the elements that follow each other from the start of the bytes. `None` where none
+/// of them has it.
+pub fn next_content<'a>(id: u32, bytes: &'a [u8]) -> Option<Content<'a>>
+    ensures found { IfSome result (λ found. (contents : List (List ℕ)) → AreContents id found.rest.now contents
+        → AreContents id bytes.now (found.bytes.now ∷ contents)) }
+    ensures shorter { IfSome result (λ found. length found.rest.now < length bytes.now) }
+    ensures none { IfNone result (AreContents id bytes.now []) }
+{
+    let mut left = bytes;
+    while let Some(element) = read_element(left) {
+        let (front, rest) = left.split_at(element.length);
+        if element.head.id == id {
+            let bytes = &front[element.head.length..];
+            return Some(Content { bytes, rest });
+        }
+        left = rest;
+    }
+    None
+}
+
+/// The content of the last element with this ID, among those that follow each other from the start of the bytes.
+pub fn last_content<'a>(id: u32, bytes: &'a [u8]) -> Option<&'a [u8]>
+    ensures { OfLast id bytes.now (λ last. option_copied result ≡ last) }
+{
+    let mut last = None;
+    let mut left = bytes;
+    while let Some(content) = next_content(id, left) {
+        last = Some(content.bytes);
+        left = content.rest;
+    }
+    last
+}
+
+/// The contents of the elements with one ID are one list.
+pub fn contents_are_one()
+    ensures { ContentsAreOne }
+{}
