@@ -1,0 +1,104 @@
+//! Tracks, as a TrackEntry describes each (RFC 9559, section 5.1.4).
+ghost use Rattle.std.specs.Prelude.{◌≡◌, ◌↔◌, IsTrue, IsSome, IfOk};
+ghost use Rattle.ebml.specs.Contents.{OfLast};
+ghost use Rattle.matroska.specs.Tracks.{number_in, bytes_in, IsTextOf, IsTrackOf, AreTracksOf};
+
+use ebml::{last_content, next_content, unsigned};
+use ffv1_texts::split_at_byte;
+use std::alloc::{AllocError, Global};
+
+const TRACK_ENTRY: u32 = 0xAE;
+
+const TRACK_NUMBER: u32 = 0xD7;
+
+const TRACK_TYPE: u32 = 0x83;
+
+const CODEC_ID: u32 = 0x86;
+
+const CODEC_PRIVATE: u32 = 0x63A2;
+
+const CONTENT_ENCODINGS: u32 = 0x6D80;
+
+const VIDEO: u32 = 0xE0;
+
+const PIXEL_WIDTH: u32 = 0xB0;
+
+const PIXEL_HEIGHT: u32 = 0xBA;
+
+/// What a TrackEntry says of its track. Of each field the last element counts. A number is 0 where it is missing, or has more than 8 bytes.
+#[derive(Clone, Copy, Debug)]
+pub struct Track<'a> {
+    /// TrackNumber, by which blocks name their track.
+    pub number: u64,
+    /// TrackType: 1 of video, 2 of sound.
+    pub kind: u64,
+    /// CodecID, up to its first zero byte.
+    pub codec: &'a [u8],
+    /// CodecPrivate.
+    pub private: &'a [u8],
+    /// Whether it has ContentEncodings: its frames are compressed once more, or encrypted.
+    pub is_encoded: bool,
+    /// PixelWidth of its Video, in samples.
+    pub width: u64,
+    /// PixelHeight.
+    pub height: u64,
+}
+
+/// The tracks that the content of a Tracks element describes: one for each TrackEntry, in order. It fails only if an allocation fails.
+pub fn read_tracks<'a>(alloc: Global, content: &'a [u8]) -> Result<Vec<Track<'a>>, AllocError>
+    ensures { IfOk result (λ tracks. AreTracksOf content.now tracks.items) }
+{
+    let mut tracks = Vec::new(alloc);
+    let mut left = content;
+    while let Some(entry) = next_content(TRACK_ENTRY, left) {
+        tracks.push(read_track(entry.bytes))?;
+        left = entry.rest;
+    }
+    Ok(tracks)
+}
+
+/// The track that the content of a TrackEntry describes.
+pub fn read_track<'a>(entry: &'a [u8]) -> Track<'a>
+    ensures { IsTrackOf entry.now result }
+{
+    let video = bytes_with(VIDEO, entry);
+    Track {
+        number: number_with(TRACK_NUMBER, entry),
+        kind: number_with(TRACK_TYPE, entry),
+        codec: text_of(bytes_with(CODEC_ID, entry)),
+        private: bytes_with(CODEC_PRIVATE, entry),
+        is_encoded: last_content(CONTENT_ENCODINGS, entry).is_some(),
+        width: number_with(PIXEL_WIDTH, video),
+        height: number_with(PIXEL_HEIGHT, video),
+    }
+}
+
+/// The value of the last element with this ID.
+fn number_with(id: u32, bytes: &[u8]) -> u64
+    ensures { OfLast id bytes.now (λ found. result ≡ number_in found) }
+{
+    match last_content(id, bytes) {
+        Some(content) => unsigned(content),
+        None => 0,
+    }
+}
+
+/// The content of the last element with this ID; no bytes where there is none.
+fn bytes_with<'a>(id: u32, bytes: &'a [u8]) -> &'a [u8]
+    ensures { OfLast id bytes.now (λ found. result.now ≡ bytes_in found) }
+{
+    match last_content(id, bytes) {
+        Some(content) => content,
+        None => &[],
+    }
+}
+
+/// What stands before the first zero byte, or all.
+fn text_of<'a>(content: &'a [u8]) -> &'a [u8]
+    ensures { IsTextOf content.now result.now }
+{
+    match split_at_byte(content, 0) {
+        Some((text, _)) => text,
+        None => content,
+    }
+}
