@@ -1,2 +1,4 @@
 pub mod BlockSteps
 pub mod TrackSteps
+pub mod SizeSteps
+pub mod LaceSteps

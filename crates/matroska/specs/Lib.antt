@@ -1,2 +1,4 @@
 pub mod Blocks
 pub mod Tracks
+pub mod Laces
+pub mod Inner
