@@ -1,12 +1,12 @@
 -- Elements that follow each other, and the contents of those with one ID.
-use Rattle.std.proofs.Common.{◌≡◌, ℕ, ◌+◌, ◌-◌, ◌<◌, ◌≤◌, Bool, true, false, cond, eqb, List, [], ◌∷◌, ◌++◌, length, map, take, drop, refl, sym, ap, ◌∙◌, subst, arith, inl, inr}
-use Rattle.std.specs.Prelude.{filter, Option, Some, None}
-use Rattle.std.specs.List.{AllByRecursion, flat_map, fold}
+use Rattle.std.proofs.Common.{◌≡◌, ℕ, true, false, cond, eqb, List, [], ◌∷◌, ◌++◌, length, map, take, drop, refl, sym, ap, ◌∙◌, subst}
+use Rattle.std.specs.Prelude.{filter, Option, Some}
+use Rattle.std.specs.List.{flat_map, fold}
 use Rattle.std.proofs.lemmas.Bool.{eqb-true, eq-eqb}
 use Rattle.std.proofs.lemmas.List.{take-append-drop, append_assoc, drop_at, take_rest, append_cancel_left}
 use Rattle.ffv1_bits.specs.Parity.{AreBytes}
 use Rattle.ebml.specs.Children.{IsElement}
-use Rattle.ebml.specs.Contents.{ElementValue, AreElements, contents_with, AreContents, last_of, OfLast, ContentsAreOne}
+use Rattle.ebml.specs.Contents.{ElementValue, AreElements, contents_with, AreContents, OfLast, ContentsAreOne}
 use Rattle.ebml.specs.declared.head.Head.{Head}
 use Rattle.ebml.proofs.Numbers.{bytes_drop}
 use Rattle.ebml.proofs.Heads.{after}

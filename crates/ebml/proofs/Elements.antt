@@ -1,12 +1,12 @@
 -- Elements that begin bytes, and the children of a content.
-use Rattle.std.proofs.Common.{◌≡◌, ℕ, zero, suc, ◌+◌, ◌-◌, ◌≤◌, List, [], ◌∷◌, ◌++◌, length, take, drop, refl, sym, ap, ◌∙◌, subst, arith}
+use Rattle.std.proofs.Common.{◌≡◌, ℕ, ◌+◌, ◌-◌, ◌≤◌, List, [], ◌∷◌, ◌++◌, length, take, drop, refl, sym, ap, ◌∙◌, subst, arith}
 use Rattle.std.specs.Prelude.{Some, Contains}
 use Rattle.std.specs.List.{AllByRecursion, concat}
 use Rattle.std.proofs.lemmas.List.{length-take-le, length-take, length-append, take-append-drop, take_at, drop_at, append_assoc, append_cancel_left, append-nil, length-drop, take_rest}
 use Rattle.std.proofs.Math.Seq.{take-add}
 use Rattle.ffv1_bits.specs.Parity.{AreBytes}
 use Rattle.ebml.specs.Head.{HasHead}
-use Rattle.ebml.specs.Children.{IsElement, IsChild, BeginsNoChild, AreChildren}
+use Rattle.ebml.specs.Children.{IsElement, IsChild, AreChildren}
 use Rattle.ebml.specs.declared.head.Head.{Head}
 use Rattle.ebml.proofs.Numbers.{bytes_drop, some_octets}
 use Rattle.ebml.proofs.Heads.{parts_of, one_head, head_longer, head_shorter, after}
@@ -43,15 +43,6 @@ one_element xs a b n m bytes room_n room_m is_a is_b =
     (same, omega (arith, sizes, lengths, in_a, in_b, length-take-le n xs room_n, length-take-le m xs room_m))
 
 -- ---- children
-
-pub child_element : (ids xs : List ℕ) (n : ℕ) → IsChild ids (take n xs) → (m : ℕ) × (m ≤ length xs) × IsChild ids (take m xs)
-child_element ids xs n is = (length (take n xs), omega (arith, length-take n xs), subst (IsChild ids) (take_back xs n) is)
-  where
-    take_back : (xs : List ℕ) (n : ℕ) → take n xs ≡ take (length (take n xs)) xs
-    take_back [] zero = refl
-    take_back [] (suc n) = refl
-    take_back (x ∷ xs) zero = refl
-    take_back (x ∷ xs) (suc n) = ap (λ z. x ∷ z) (take_back xs n)
 
 pub front_is : (a b xs : List ℕ) → xs ≡ a ++ b → take (length a) xs ≡ a
 front_is a b xs same = ap (take (length a)) same ∙ take_at a b (length a) refl
@@ -99,9 +90,6 @@ pub record SoFar (ids content : List ℕ) (place : ℕ) : Type 0 where
   pub joined : take place content ≡ concat children
   pub each : AllByRecursion (IsChild ids) children
 
-pub none_so_far : (ids content : List ℕ) → SoFar ids content 0
-none_so_far ids content = record { within = omega arith; children = []; joined = refl; each = tt }
-
 concat_snoc : (kids : List (List ℕ)) (kid : List ℕ) → concat (kids ++ kid ∷ []) ≡ concat kids ++ kid
 concat_snoc [] kid = append-nil kid
 concat_snoc (k ∷ ks) kid = ap (λ z. k ++ z) (concat_snoc ks kid) ∙ sym (append_assoc k (concat ks) kid)
@@ -119,11 +107,6 @@ one_more ids content place n so_far room is =
       joined = take-add place n content ∙ ap (λ z. z ++ take n (drop place content)) so_far.joined ∙ sym (concat_snoc so_far.children (take n (drop place content)));
       each = each_snoc ids so_far.children (take n (drop place content)) so_far.each is;
     }
-
-pub all_there : (ids content : List ℕ) (place : ℕ) → SoFar ids content place → BeginsNoChild ids (drop place content)
-    → (children : List (List ℕ)) × AreChildren ids content children (drop place content)
-all_there ids content place so_far last =
-    (so_far.children, record { joined = sym (take-append-drop place content) ∙ ap (λ z. z ++ drop place content) so_far.joined; each = so_far.each; last = last })
 
 pub one_more_after : (ids content : List ℕ) (place n : ℕ) (head : Head) → SoFar ids content place → n ≤ length (after content place)
     → IsElement head (take n (after content place)) → Contains ids head.id → SoFar ids content (place + n)

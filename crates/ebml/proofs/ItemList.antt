@@ -9,7 +9,7 @@ use Rattle.ebml.specs.Vint.{number_of}
 use Rattle.ebml.specs.Head.{HasHead}
 use Rattle.ebml.specs.Children.{AreChildren}
 use Rattle.ebml.specs.Masters.{cluster_ids, segment_id}
-use Rattle.ebml.specs.Items.{IsTop, IsHeaded, IsUnknown, IsItem, ItemValue, bytes_of, EachIsItem, AreItems, ItemsAreOne, WholeItemsAreLocal, BeginsKnown, long_ids}
+use Rattle.ebml.specs.Items.{IsTop, IsHeaded, IsUnknown, IsItem, ItemValue, bytes_of_items, EachIsItem, AreItems, ItemsAreOne, WholeItemsAreLocal, BeginsKnown, long_ids}
 use Rattle.ebml.specs.declared.head.Head.{Head}
 use Rattle.ebml.specs.declared.items.Kind.{Kind}
 use Rattle.ebml.specs.declared.items.Kind.TheVariants.{Segment, Element, Endless, Unknown}
@@ -134,17 +134,17 @@ same_item a b k s =
 pub items_are_one : ItemsAreOne
 items_are_one file [] [] bytes is others = refl
 items_are_one file [] (b ∷ bs) bytes is others =
-    let some = some_bytes b.kind b.bytes (bytes_of bs) others.each.0 in
-    let long = ap length (sym is.joined ∙ others.joined) in absurd (omega (arith, some, long, length-append b.bytes (bytes_of bs)))
+    let some = some_bytes b.kind b.bytes (bytes_of_items bs) others.each.0 in
+    let long = ap length (sym is.joined ∙ others.joined) in absurd (omega (arith, some, long, length-append b.bytes (bytes_of_items bs)))
 items_are_one file (a ∷ xs) [] bytes is others =
-    let some = some_bytes a.kind a.bytes (bytes_of xs) is.each.0 in
-    let long = ap length (sym others.joined ∙ is.joined) in absurd (omega (arith, some, long, length-append a.bytes (bytes_of xs)))
+    let some = some_bytes a.kind a.bytes (bytes_of_items xs) is.each.0 in
+    let long = ap length (sym others.joined ∙ is.joined) in absurd (omega (arith, some, long, length-append a.bytes (bytes_of_items xs)))
 items_are_one file (a ∷ xs) (b ∷ bs) bytes is others =
-    let first = one_item file a.bytes (bytes_of xs) b.bytes (bytes_of bs) a.kind b.kind bytes is.joined others.joined is.each.0 others.each.0 in
+    let first = one_item file a.bytes (bytes_of_items xs) b.bytes (bytes_of_items bs) a.kind b.kind bytes is.joined others.joined is.each.0 others.each.0 in
     let same : a ≡ b = same_item a b first.0 first.1 in
-    let rests : bytes_of xs ≡ bytes_of bs = append_cancel_left b.bytes (bytes_of xs) (bytes_of bs) (ap (λ z. z ++ bytes_of xs) (sym first.1) ∙ sym is.joined ∙ others.joined) in
-    let left : AreBytes (bytes_of xs) = subst AreBytes (ap (drop (length a.bytes)) is.joined ∙ drop_at a.bytes (bytes_of xs) (length a.bytes) refl) (bytes_drop (length a.bytes) file bytes) in
-    let more = items_are_one (bytes_of xs) xs bs left record { joined = refl; each = is.each.1 } record { joined = rests; each = others.each.1 } in
+    let rests : bytes_of_items xs ≡ bytes_of_items bs = append_cancel_left b.bytes (bytes_of_items xs) (bytes_of_items bs) (ap (λ z. z ++ bytes_of_items xs) (sym first.1) ∙ sym is.joined ∙ others.joined) in
+    let left : AreBytes (bytes_of_items xs) = subst AreBytes (ap (drop (length a.bytes)) is.joined ∙ drop_at a.bytes (bytes_of_items xs) (length a.bytes) refl) (bytes_drop (length a.bytes) file bytes) in
+    let more = items_are_one (bytes_of_items xs) xs bs left record { joined = refl; each = is.each.1 } record { joined = rests; each = others.each.1 } in
     ap (λ z. z ∷ xs) same ∙ ap (λ z. b ∷ z) more
 
 -- ---- what the code finds
@@ -186,24 +186,21 @@ only_item xs kind n bytes is other item following joined is_other =
 
 -- ---- a pass over the file
 
-bytes_of_snoc : (items : List ItemValue) (item : ItemValue) → bytes_of (items ++ item ∷ []) ≡ bytes_of items ++ item.bytes
+bytes_of_snoc : (items : List ItemValue) (item : ItemValue) → bytes_of_items (items ++ item ∷ []) ≡ bytes_of_items items ++ item.bytes
 bytes_of_snoc [] item = append-nil item.bytes
-bytes_of_snoc (x ∷ xs) item = ap (λ z. x.bytes ++ z) (bytes_of_snoc xs item) ∙ sym (append_assoc x.bytes (bytes_of xs) item.bytes)
+bytes_of_snoc (x ∷ xs) item = ap (λ z. x.bytes ++ z) (bytes_of_snoc xs item) ∙ sym (append_assoc x.bytes (bytes_of_items xs) item.bytes)
 
 each_snoc : (items : List ItemValue) (item : ItemValue) (rest : List ℕ) → EachBefore items (item.bytes ++ rest) → IsItem item.kind item.bytes rest
     → EachBefore (items ++ item ∷ []) rest
 each_snoc [] item rest each is = (is, tt)
 each_snoc (x ∷ xs) item rest each is =
-    let follows : bytes_of (xs ++ item ∷ []) ++ rest ≡ bytes_of xs ++ (item.bytes ++ rest) =
-    ap (λ z. z ++ rest) (bytes_of_snoc xs item) ∙ append_assoc (bytes_of xs) item.bytes rest in
+    let follows : bytes_of_items (xs ++ item ∷ []) ++ rest ≡ bytes_of_items xs ++ (item.bytes ++ rest) =
+    ap (λ z. z ++ rest) (bytes_of_snoc xs item) ∙ append_assoc (bytes_of_items xs) item.bytes rest in
     (subst (IsItem x.kind x.bytes) (sym follows) each.0, each_snoc xs item rest each.1 is)
 
 each_to_end : (items : List ItemValue) → EachBefore items [] → EachIsItem items
 each_to_end [] each = tt
-each_to_end (x ∷ xs) each = (subst (IsItem x.kind x.bytes) (append-nil (bytes_of xs)) each.0, each_to_end xs each.1)
-
-pub none_passed : (file : List ℕ) → Passed file 0 0
-none_passed file = record { within = omega arith; items = []; counted = refl; few = omega arith; joined = refl; each = tt }
+each_to_end (x ∷ xs) each = (subst (IsItem x.kind x.bytes) (append-nil (bytes_of_items xs)) each.0, each_to_end xs each.1)
 
 pub one_passed : (file : List ℕ) (place count n : ℕ) (kind : Kind) → Passed file place count → 0 < n → n ≤ length (after file place)
     → IsItem kind (take n (after file place)) (drop n (after file place)) → Passed file (place + n) (count + 1)

@@ -5,7 +5,7 @@ use Rattle.ffv1_bits.specs.Parity.{AreBytes}
 use Rattle.ebml.specs.Children.{IsElement}
 use Rattle.ebml.specs.Whole.{IsOneSegment, ebml_item, segment_item, OneSegmentHasItems, CutIsSeen}
 use Rattle.ebml.specs.Masters.{ebml_id, segment_id}
-use Rattle.ebml.specs.Items.{top_ids, IsTop, IsItem, ItemValue, bytes_of, AreItems}
+use Rattle.ebml.specs.Items.{top_ids, IsTop, IsItem, ItemValue, bytes_of_items, AreItems}
 use Rattle.ebml.specs.declared.head.Head.{Head}
 use Rattle.ebml.specs.declared.items.Kind.TheVariants.{Segment, Element}
 use Rattle.std.specs.Prelude.{Contains, None}
@@ -72,13 +72,13 @@ segment_there file one = (
   length-take-le one.segment_head.length one.segment one.segment_is.has.room,
 )
 
-after_ebml : (segment : List ℕ) (head : Head) (items : List ItemValue) (item : ItemValue) → AreBytes segment → segment ≡ bytes_of items
+after_ebml : (segment : List ℕ) (head : Head) (items : List ItemValue) (item : ItemValue) → AreBytes segment → segment ≡ bytes_of_items items
     → item.kind ≡ Segment head → item.bytes ≡ take head.length segment → 0 < length segment
     → IsItem (Segment head) (take head.length segment) (drop head.length segment) → AreItems segment items
     → (more : List ItemValue) × (items ≡ item ∷ more)
 after_ebml segment head [] item bytes joined kind same some is are = absurd (omega (arith, some, ap length joined))
 after_ebml segment head (x ∷ xs) item bytes joined kind same some is are =
-    let first = one_item segment (take head.length segment) (drop head.length segment) x.bytes (bytes_of xs) (Segment head) x.kind bytes
+    let first = one_item segment (take head.length segment) (drop head.length segment) x.bytes (bytes_of_items xs) (Segment head) x.kind bytes
     (sym (take-append-drop head.length segment)) joined is are.each.0 in
     (xs, ap (λ z. z ∷ xs) (same_item x item (sym first.0 ∙ sym kind) (sym first.1 ∙ sym same)))
 
@@ -87,10 +87,10 @@ one_segment_has_items file [] bytes one are =
     let some = some_bytes (Element one.ebml_head) one.ebml one.segment (ebml_there file one) in
     let long = ap length (sym one.joined ∙ are.joined) in absurd (omega (arith, some, long, length-append one.ebml one.segment))
 one_segment_has_items file (x ∷ xs) bytes one are =
-    let first = one_item file one.ebml one.segment x.bytes (bytes_of xs) (Element one.ebml_head) x.kind bytes one.joined are.joined (ebml_there file one) are.each.0 in
+    let first = one_item file one.ebml one.segment x.bytes (bytes_of_items xs) (Element one.ebml_head) x.kind bytes one.joined are.joined (ebml_there file one) are.each.0 in
     let same : x ≡ ebml_item one = same_item x (ebml_item one) (sym first.0) (sym first.1) in
-    let rest : one.segment ≡ bytes_of xs =
-    append_cancel_left one.ebml one.segment (bytes_of xs) (sym one.joined ∙ are.joined ∙ ap (λ z. z ++ bytes_of xs) (sym first.1)) in
+    let rest : one.segment ≡ bytes_of_items xs =
+    append_cancel_left one.ebml one.segment (bytes_of_items xs) (sym one.joined ∙ are.joined ∙ ap (λ z. z ++ bytes_of_items xs) (sym first.1)) in
     let left : AreBytes one.segment =
     subst AreBytes (ap (drop (length one.ebml)) one.joined ∙ drop_at one.ebml one.segment (length one.ebml) refl) (bytes_drop (length one.ebml) file bytes) in
     let room = one.segment_is.has.room in let long = long_head one.segment one.segment_head one.segment_is.has in

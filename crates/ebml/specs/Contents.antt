@@ -27,12 +27,12 @@ abbrev pub AreContents : ℕ → List ℕ → List (List ℕ) → Type 0
 AreContents id bytes contents = (elements : List ElementValue) × AreElements bytes elements × (contents ≡ contents_with id elements)
 
 -- the last of some, if there is one
-abbrev pub last_of : {X : Type 0} → List X → Option X
-last_of xs = fold (λ _ x. Some x) None xs
+abbrev pub last_among : {X : Type 0} → List X → Option X
+last_among xs = fold (λ _ x. Some x) None xs
 
 -- this holds of the content of the last element with this ID, if there is one
 abbrev pub OfLast : ℕ → List ℕ → (Option (List ℕ) → Type 0) → Type 0
-OfLast id bytes P = (contents : List (List ℕ)) × AreContents id bytes contents × P (last_of contents)
+OfLast id bytes P = (contents : List (List ℕ)) × AreContents id bytes contents × P (last_among contents)
 
 -- the value of an Unsigned Integer Element (RFC 8794, section 7.2): 0 where it has more than 8 octets
 abbrev pub unsigned_of : List ℕ → ℕ

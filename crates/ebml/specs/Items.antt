@@ -60,16 +60,16 @@ pub record ItemValue : Type 0 where
   pub kind : Kind
   pub bytes : List ℕ
 
-abbrev pub bytes_of : List ItemValue → List ℕ
-bytes_of items = flat_map (λ item. item.bytes) items
+abbrev pub bytes_of_items : List ItemValue → List ℕ
+bytes_of_items items = flat_map (λ item. item.bytes) items
 
 abbrev pub EachIsItem : List ItemValue → Type 0
 EachIsItem [] = Unit {0}
-EachIsItem (item ∷ items) = IsItem item.kind item.bytes (bytes_of items) × EachIsItem items
+EachIsItem (item ∷ items) = IsItem item.kind item.bytes (bytes_of_items items) × EachIsItem items
 
 -- The items of a file: they cover it, and each is one by what follows it.
 pub record AreItems (file : List ℕ) (items : List ItemValue) : Type 0 where
-  pub joined : file ≡ bytes_of items
+  pub joined : file ≡ bytes_of_items items
   pub each : EachIsItem items
 
 -- ---- laws

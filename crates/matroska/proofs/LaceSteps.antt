@@ -1,7 +1,9 @@
 -- Frames that are cut from a payload, and that they are one list.
-use Rattle.std.proofs.Common.{◌≡◌, ℕ, ◌+◌, ◌*◌, ◌/◌, ◌<◌, ◌≤◌, List, [], ◌∷◌, ◌++◌, length, get_or, map, take, drop, replicate, refl, sym, ap, ◌∙◌, subst, arith, append-nil}
-use Rattle.std.specs.Prelude.{Option, Some, None, Result, Ok, Err, IfOk, MatchOption, sum}
-use Rattle.std.specs.List.{concat, flat_map, fold}
+use Rattle.std.proofs.Common.{◌≡◌, ℕ, zero, suc, ◌+◌, ◌*◌, ◌/◌, ◌<◌, ◌≤◌, List, [], ◌∷◌, ◌++◌, length, get_or, map, take, drop, replicate, refl, sym, ap, ◌∙◌, subst, arith, append-nil}
+use Rattle.std.specs.Prelude.{◌↔◌, IsTrue, Bool, Option, Some, None, Result, Ok, Err, IfOk, MatchOption, sum}
+use Rattle.std.specs.List.{AllByRecursion, concat, flat_map, fold}
+use Rattle.flac_frame.specs.Frame.{PassesFlac}
+use Rattle.matroska.specs.Sound.{IsRightFlac}
 use Rattle.std.proofs.Math.Nat.{mul-div_cancel_left}
 use Rattle.std.proofs.lemmas.List.{append_assoc, length-append, take_at, drop_at, take_more, take_all, map-append, take-append-drop, take_rest}
 use Rattle.std.proofs.lemmas.List.Folds.{concat-append}
@@ -10,7 +12,7 @@ use Rattle.std.proofs.lemmas.List.Sums.{sum_by_more_le}
 use Rattle.ffv1_bits.specs.Parity.{AreBytes}
 use Rattle.ebml.proofs.Numbers.{bytes_drop}
 use Rattle.ebml.proofs.Heads.{after}
-use Rattle.matroska.specs.Laces.{SizesFollow, GiveSizes, AreCutBy, AreLaced, FramesAreOne}
+use Rattle.matroska.specs.Laces.{AreFrames, SizesFollow, GiveSizes, AreCutBy, AreLaced, FramesAreOne}
 use Rattle.matroska.specs.Inner.Sizes.{FitIn, NoneGiven}
 use Rattle.matroska.specs.declared.block.Lacing.{Lacing}
 use Rattle.matroska.specs.declared.block.Lacing.TheVariants.{Unlaced, Xiph, Fixed, Ebml}
@@ -34,9 +36,6 @@ length-concat xs = ap length (concat_is xs) ∙ length-flat_map (λ x. x) xs ∙
 pub record CutSoFar (sizes bytes : List ℕ) (i : ℕ) (frames : List (List ℕ)) (left : List ℕ) : Type 0 where
   pub of_sizes : map length frames ≡ take i sizes
   pub joined : bytes ≡ concat frames ++ left
-
-pub none_cut : (sizes bytes : List ℕ) → CutSoFar sizes bytes 0 [] bytes
-none_cut sizes bytes = record { of_sizes = refl; joined = refl }
 
 pub one_frame_more : (sizes bytes : List ℕ) (i : ℕ) (frames grown : List (List ℕ)) (left frame more : List ℕ) → CutSoFar sizes bytes i frames left → i < length sizes
     → frame ≡ take (get_or sizes i 0) left → more ≡ drop (get_or sizes i 0) left → length frame ≡ get_or sizes i 0 → grown ≡ frames ++ frame ∷ []
@@ -202,3 +201,19 @@ pub cut_result : {V E : Type 0} (view : V → List (List ℕ)) (P : List (List �
 cut_result view P Short Cut (Ok None) none some is = none is
 cut_result view P Short Cut (Ok (Some frames)) none some is = some (view frames) is
 cut_result view P Short Cut (Err e) none some is = tt
+
+-- ---- frames that pass
+
+pub at_index : {X : Type 0} (P : List ℕ → Type 0) (view : X → List ℕ) (xs : List X) (i : ℕ) (d : X) → i < length xs → AllByRecursion P (map view xs)
+    → P (view (get_or xs i d))
+at_index P view [] i d within all = absurd (omega (arith, within))
+at_index P view (x ∷ xs) zero d within all = all.0
+at_index P view (x ∷ xs) (suc i) d within all = at_index P view xs i d (omega (arith, within)) all.1
+
+-- the frames of a payload pass exactly if those that were found do
+pub found_pass : (lacing : Lacing) (payload : List ℕ) (frames : List (List ℕ)) (right : Bool) → AreBytes payload → AreFrames lacing payload frames
+    → (IsTrue right ↔ AllByRecursion PassesFlac frames) → (IsTrue right ↔ IsRightFlac lacing payload)
+found_pass lacing payload frames right are_bytes are passes = (
+  λ is. (frames, are, passes.0 is),
+  λ found. passes.1 (subst (AllByRecursion PassesFlac) (frames_are_one lacing payload found.0 frames are_bytes found.1 are) found.2),
+)

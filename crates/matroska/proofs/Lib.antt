@@ -2,3 +2,4 @@ pub mod BlockSteps
 pub mod TrackSteps
 pub mod SizeSteps
 pub mod LaceSteps
+pub mod Vectors

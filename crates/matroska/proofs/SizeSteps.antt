@@ -3,14 +3,14 @@ use Rattle.std.proofs.Common.{◌≡◌, ℕ, zero, suc, ◌+◌, ◌-◌, ◌*�
 use Rattle.std.specs.Prelude.{Option, Some, None}
 use Rattle.std.proofs.Math.Nat.{pow-le-pow_right, mul-mod_right}
 use Rattle.std.proofs.Math.Seq.{drop-cons}
-use Rattle.std.proofs.lemmas.List.{take-append-drop, append_assoc, append_cancel_left, length-append, drop_all, take_more, replicate_more, length-take-le, take_rest, drop_at}
+use Rattle.std.proofs.lemmas.List.{take-append-drop, append_assoc, append_cancel_left, length-append, take_more, length-take-le, take_rest, drop_at}
 use Rattle.ebml.specs.Vint.{data_of, IsVint, HasData}
 use Rattle.ebml.specs.declared.vint.VintData.{VintData}
 use Rattle.ffv1_bits.specs.Parity.{AreBytes}
 use Rattle.ebml.proofs.Elements.{front_is, within_is}
 use Rattle.ebml.proofs.Numbers.{one_vint, bytes_drop}
 use Rattle.ebml.proofs.Heads.{none_there, same_there, after}
-use Rattle.matroska.specs.Laces.{IsXiphSize, IsSize, SizesFollow}
+use Rattle.matroska.specs.Laces.{IsXiphSize, IsFrameSize, SizesFollow}
 use Rattle.matroska.specs.Inner.Sizes.{ReadsSize, GivesSize, FitIn, NoneGiven, NoneFollow}
 use Rattle.matroska.specs.declared.block.Lacing.{Lacing}
 use Rattle.matroska.specs.declared.block.Lacing.TheVariants.{Unlaced, Xiph, Fixed, Ebml}
@@ -41,13 +41,6 @@ next_byte : (k last : ℕ) (byte : ℕ) (more rest : List ℕ) → byte ∷ more
 next_byte zero last byte more rest same = inl (refl, cc)
 next_byte (suc k) last byte more rest same = inr (omega arith, cc)
 
-pub no_size_left : (bytes : List ℕ) (i : ℕ) → take i bytes ≡ replicate i 255 → length bytes ≤ i → ReadsSize IsXiphSize bytes None
-no_size_left bytes i full all = λ front rest size at is fits.
-    let back = (passed bytes front rest i size full at is).1 in
-    let none : drop i bytes ≡ [] = drop_all i bytes all in
-    let lengths = ap length (sym none ∙ back) in
-    absurd (omega (arith, lengths, length-append (replicate (is.full - i) 255) (is.last ∷ rest)))
-
 pub too_long : (bytes : List ℕ) (i byte : ℕ) → i < length bytes → byte ≡ get_or bytes i 0 → take i bytes ≡ replicate i 255 → length bytes < 255 * i + byte
     → ReadsSize IsXiphSize bytes None
 too_long bytes i byte within at_i full long = λ front rest size at is fits.
@@ -68,11 +61,6 @@ size_there bytes i byte size within at_i full below sum = (
   record { full = i; last = byte; below = below; joined = refl; sum = sum },
 )
 
-pub one_more_full : (bytes : List ℕ) (i byte : ℕ) → i < length bytes → byte ≡ get_or bytes i 0 → take i bytes ≡ replicate i 255 → byte ≡ 255
-    → take (i + 1) bytes ≡ replicate (i + 1) 255
-one_more_full bytes i byte within at_i full is =
-    take_more bytes i 0 within ∙ ap (λ z. z ++ get_or bytes i 0 ∷ []) full ∙ ap (λ z. replicate i 255 ++ z ∷ []) (sym at_i ∙ is) ∙ replicate_more i 255
-
 -- ---- EBML lacing
 
 pub value_small : (bytes : List ℕ) (found : VintData) → HasData bytes found → found.value < 2 ^ 56
@@ -83,13 +71,13 @@ value_small bytes found has =
     let small : 2 ^ (7 * length (take found.length bytes)) ≤ 2 ^ 56 = pow-le-pow_right (omega arith) most in
     let first = has.is.first in let value = has.value in omega (arith, small, first, value)
 
-pub vint_of : (before : Option ℕ) (front : List ℕ) (size : ℕ) → IsSize Ebml before front size
+pub vint_of : (before : Option ℕ) (front : List ℕ) (size : ℕ) → IsFrameSize Ebml before front size
     → IsVint front × (length front ≤ 8) × GivesSize before (data_of front) (length front) size
 vint_of None front size is = (is.is_vint, is.short, is.value)
 vint_of (Some before) front size is = (is.is_vint, is.short, is.value)
 
 pub size_of_vint : (before : Option ℕ) (front : List ℕ) (size : ℕ) → IsVint front → length front ≤ 8 → GivesSize before (data_of front) (length front) size
-    → IsSize Ebml before front size
+    → IsFrameSize Ebml before front size
 size_of_vint None front size is short value = record { is_vint = is; short = short; value = value }
 size_of_vint (Some before) front size is short value = record { is_vint = is; short = short; value = value }
 
@@ -103,7 +91,7 @@ vint_there bytes front rest at is short = record {
 }
 
 pub no_vint : (bytes : List ℕ) (before : Option ℕ) (result : Option VintData) → result ≡ None → ((found : VintData) → HasData bytes found → result ≡ Some found)
-    → ReadsSize (IsSize Ebml before) bytes None
+    → ReadsSize (IsFrameSize Ebml before) bytes None
 no_vint bytes before result none only = λ front rest size at is fits.
     let vint = vint_of before front size is in
     absurd (none_there (HasData bytes) result none only _ (vint_there bytes front rest at vint.0 vint.1))
@@ -111,14 +99,14 @@ no_vint bytes before result none only = λ front rest size at is fits.
 -- what was read gives the size of any front that is one
 pub same_size : (bytes : List ℕ) (before : Option ℕ) (result : Option VintData) (found : VintData) → result ≡ Some found
     → ((found : VintData) → HasData bytes found → result ≡ Some found) → (front rest : List ℕ) (size : ℕ) → bytes ≡ front ++ rest
-    → IsSize Ebml before front size → GivesSize before found.value found.length size
+    → IsFrameSize Ebml before front size → GivesSize before found.value found.length size
 same_size bytes before result found some only front rest size at is =
     let vint = vint_of before front size is in
     let same = same_there (HasData bytes) result found some only _ (vint_there bytes front rest at vint.0 vint.1) in
     subst (λ (v : VintData). GivesSize before v.value v.length size) (sym same) vint.2
 
 pub vint_size_there : (bytes : List ℕ) (before : Option ℕ) (found : VintData) (size : ℕ) → HasData bytes found → GivesSize before found.value found.length size
-    → (front : List ℕ) × (bytes ≡ front ++ after bytes found.length) × IsSize Ebml before front size
+    → (front : List ℕ) × (bytes ≡ front ++ after bytes found.length) × IsFrameSize Ebml before front size
 vint_size_there bytes before found size has gives =
     let long : length (take found.length bytes) ≡ found.length = length-take-le found.length bytes has.room in
     let short = has.short in (
@@ -150,7 +138,7 @@ xiph_sizes_same bytes front rest other other_rest a b at at_other is is_other =
     (omega (arith, lasts, one.0, two.0, sum, sum_other), cc)
 
 ebml_sizes_same : (bytes front rest other other_rest : List ℕ) (before : Option ℕ) (a b : ℕ) → AreBytes bytes → bytes ≡ front ++ rest → bytes ≡ other ++ other_rest
-    → IsSize Ebml before front a → IsSize Ebml before other b → (a ≡ b) × (rest ≡ other_rest)
+    → IsFrameSize Ebml before front a → IsFrameSize Ebml before other b → (a ≡ b) × (rest ≡ other_rest)
 ebml_sizes_same bytes front rest other other_rest before a b are_bytes at at_other is is_other =
     let v = vint_of before front a is in
     let w = vint_of before other b is_other in
@@ -164,7 +152,7 @@ ebml_sizes_same bytes front rest other other_rest before a b are_bytes at at_oth
 
 -- of one lacing, one size begins bytes
 pub sizes_same : (lacing : Lacing) (bytes front rest other other_rest : List ℕ) (before : Option ℕ) (a b : ℕ) → AreBytes bytes → bytes ≡ front ++ rest
-    → bytes ≡ other ++ other_rest → IsSize lacing before front a → IsSize lacing before other b → (a ≡ b) × (rest ≡ other_rest)
+    → bytes ≡ other ++ other_rest → IsFrameSize lacing before front a → IsFrameSize lacing before other b → (a ≡ b) × (rest ≡ other_rest)
 sizes_same Unlaced bytes front rest other other_rest before a b are_bytes at at_other is is_other = absurd is
 sizes_same Xiph bytes front rest other other_rest before a b are_bytes at at_other is is_other =
     xiph_sizes_same bytes front rest other other_rest a b at at_other is is_other
@@ -187,17 +175,9 @@ pub record SizesSoFar (lacing : Lacing) (bytes found : List ℕ) (before : Optio
   pub only : (sizes rest : List ℕ) → SizesFollow lacing None bytes sizes rest → FitIn rest sizes → length found ≤ length sizes
       → (tail : List ℕ) × (sizes ≡ found ++ tail) × SizesFollow lacing before left tail rest × FitIn rest tail
 
-pub no_sizes_so_far : (lacing : Lacing) (bytes : List ℕ) → SizesSoFar lacing bytes [] None bytes
-no_sizes_so_far lacing bytes = record {
-  front = [];
-  suffix = refl;
-  more = λ sizes rest follow. follow;
-  only = λ sizes rest follow fit few. (sizes, refl, follow, fit);
-}
-
 -- one more size was found
 module _ (lacing : Lacing) (bytes found grown left : List ℕ) (before : Option ℕ) (size : ℕ) (front rest : List ℕ) (are_bytes : AreBytes bytes)
-    (so_far : SizesSoFar lacing bytes found before left) (at : left ≡ front ++ rest) (is : IsSize lacing before front size) (same : grown ≡ found ++ size ∷ []) where
+    (so_far : SizesSoFar lacing bytes found before left) (at : left ≡ front ++ rest) (is : IsFrameSize lacing before front size) (same : grown ≡ found ++ size ∷ []) where
   fewer : (sizes : List ℕ) → length grown ≤ length sizes → length found ≤ length sizes
   fewer sizes few = let long = ap length same in omega (arith, few, long, length-append found (size ∷ []))
 
@@ -230,7 +210,7 @@ module _ (lacing : Lacing) (bytes found grown left : List ℕ) (before : Option 
   }
 
 -- no size begins what is left
-ends_early : (lacing : Lacing) (found left : List ℕ) (before : Option ℕ) (count : ℕ) → length found < count → ReadsSize (IsSize lacing before) left None
+ends_early : (lacing : Lacing) (found left : List ℕ) (before : Option ℕ) (count : ℕ) → length found < count → ReadsSize (IsFrameSize lacing before) left None
     → (sizes rest tail : List ℕ) → length sizes ≡ count → sizes ≡ found ++ tail → SizesFollow lacing before left tail rest → FitIn rest tail → ⊥
 ends_early lacing found left before count few none sizes rest [] counted all follow fit =
     let whole = ap length all in absurd (omega (arith, counted, few, whole, length-append found []))
@@ -240,7 +220,7 @@ ends_early lacing found left before count few none sizes rest (s ∷ tail) count
     none follow.0 follow.1 s follow.2 follow.3 (omega (arith, fit.0, shorter, long, length-append follow.0 follow.1))
 
 pub none_left : (lacing : Lacing) (bytes found left : List ℕ) (before : Option ℕ) (count : ℕ) → SizesSoFar lacing bytes found before left → length found < count
-    → ReadsSize (IsSize lacing before) left None → NoneFollow lacing count bytes
+    → ReadsSize (IsFrameSize lacing before) left None → NoneFollow lacing count bytes
 none_left lacing bytes found left before count so_far few none = λ sizes rest counted follow fit.
     let old = so_far.only sizes rest follow fit (omega (arith, counted, few)) in
     ends_early lacing found left before count few none sizes rest old.0 counted old.1 old.2 old.3

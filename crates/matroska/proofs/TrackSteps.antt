@@ -15,9 +15,6 @@ pub record TracksSoFar (content left : List ℕ) (tracks : List Track) : Type 0 
   pub each : EachIsTrack entries tracks
   pub more : (contents : List (List ℕ)) → AreContents 0xAE left contents → AreContents 0xAE content (entries ++ contents)
 
-pub no_tracks_so_far : (content : List ℕ) → TracksSoFar content content []
-no_tracks_so_far content = record { entries = []; each = tt; more = λ contents are. are }
-
 each_snoc : (entries : List (List ℕ)) (tracks : List Track) (entry : List ℕ) (track : Track) → EachIsTrack entries tracks → IsTrackOf entry track
     → EachIsTrack (entries ++ entry ∷ []) (tracks ++ track ∷ [])
 each_snoc [] [] entry track each is = (is, tt)

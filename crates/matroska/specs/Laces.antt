@@ -31,18 +31,18 @@ pub record IsLaterSize (before : ℕ) (bytes : List ℕ) (size : ℕ) : Type 0 w
   pub value : size + most_difference (length bytes) ≡ before + data_of bytes
 
 -- the bytes are a size, by the one before where there is one
-abbrev pub IsSize : Lacing → Option ℕ → List ℕ → ℕ → Type 0
-IsSize Unlaced before bytes size = ⊥
-IsSize Xiph before bytes size = IsXiphSize bytes size
-IsSize Fixed before bytes size = ⊥
-IsSize Ebml None bytes size = IsFirstSize bytes size
-IsSize Ebml (Some before) bytes size = IsLaterSize before bytes size
+abbrev pub IsFrameSize : Lacing → Option ℕ → List ℕ → ℕ → Type 0
+IsFrameSize Unlaced before bytes size = ⊥
+IsFrameSize Xiph before bytes size = IsXiphSize bytes size
+IsFrameSize Fixed before bytes size = ⊥
+IsFrameSize Ebml None bytes size = IsFirstSize bytes size
+IsFrameSize Ebml (Some before) bytes size = IsLaterSize before bytes size
 
 -- the bytes begin with these sizes, one after the other, and this is the rest
 abbrev pub SizesFollow : Lacing → Option ℕ → List ℕ → List ℕ → List ℕ → Type 0
 SizesFollow lacing before bytes [] rest = bytes ≡ rest
 SizesFollow lacing before bytes (size ∷ sizes) rest =
-    (front : List ℕ) × (more : List ℕ) × (bytes ≡ front ++ more) × IsSize lacing before front size × SizesFollow lacing (Some size) more sizes rest
+    (front : List ℕ) × (more : List ℕ) × (bytes ≡ front ++ more) × IsFrameSize lacing before front size × SizesFollow lacing (Some size) more sizes rest
 
 -- The bytes give these sizes of frames but the last, and the frames are in the rest. Of fixed lacing (10.3.4) no sizes stand there: all frames
 -- are of one.

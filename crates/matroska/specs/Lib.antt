@@ -1,4 +1,5 @@
 pub mod Blocks
 pub mod Tracks
 pub mod Laces
+pub mod Sound
 pub mod Inner

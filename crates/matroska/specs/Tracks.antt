@@ -7,30 +7,30 @@ use Rattle.ffv1_range.specs.Setup.{RecordingValue, IsRecordingOf}
 use Rattle.matroska.specs.declared.track.Track.{Track}
 
 -- the value of an Unsigned Integer Element; 0 where there is none
-abbrev pub number_in : Option (List ℕ) → ℕ
-number_in None = 0
-number_in (Some content) = unsigned_of content
+abbrev pub number_found : Option (List ℕ) → ℕ
+number_found None = 0
+number_found (Some content) = unsigned_of content
 
 -- the bytes of an element; none where there is none
-abbrev pub bytes_in : Option (List ℕ) → List ℕ
-bytes_in None = []
-bytes_in (Some content) = content
+abbrev pub bytes_found : Option (List ℕ) → List ℕ
+bytes_found None = []
+bytes_found (Some content) = content
 
 -- The text of a String Element (RFC 8794, section 7.4): what stands before its first zero byte, or all of it.
-pub record IsTextOf (content text : List ℕ) : Type 0 where
+pub record IsStringOf (content text : List ℕ) : Type 0 where
   pub no_zero : AllByRecursion (λ byte. byte ≢ 0) text
   pub ends : (content ≡ text) ⊎ ((rest : List ℕ) × (content ≡ text ++ 0 ∷ rest))
 
 -- The track that the content of a TrackEntry describes: of each field the last element counts, TrackNumber, TrackType, CodecID, CodecPrivate,
 -- ContentEncodings, and in Video PixelWidth and PixelHeight.
 pub record IsTrackOf (entry : List ℕ) (track : Track) : Type 0 where
-  pub number : OfLast 0xD7 entry (λ found. track.number ≡ number_in found)
-  pub kind : OfLast 0x83 entry (λ found. track.kind ≡ number_in found)
-  pub codec : OfLast 0x86 entry (λ found. IsTextOf (bytes_in found) track.codec.now)
-  pub private : OfLast 0x63A2 entry (λ found. track.private.now ≡ bytes_in found)
+  pub number : OfLast 0xD7 entry (λ found. track.number ≡ number_found found)
+  pub kind : OfLast 0x83 entry (λ found. track.kind ≡ number_found found)
+  pub codec : OfLast 0x86 entry (λ found. IsStringOf (bytes_found found) track.codec.now)
+  pub private : OfLast 0x63A2 entry (λ found. track.private.now ≡ bytes_found found)
   pub encoded : OfLast 0x6D80 entry (λ found. IsTrue track.is_encoded ↔ IsSome found)
-  pub width : OfLast 0xE0 entry (λ video. OfLast 0xB0 (bytes_in video) (λ found. track.width ≡ number_in found))
-  pub height : OfLast 0xE0 entry (λ video. OfLast 0xBA (bytes_in video) (λ found. track.height ≡ number_in found))
+  pub width : OfLast 0xE0 entry (λ video. OfLast 0xB0 (bytes_found video) (λ found. track.width ≡ number_found found))
+  pub height : OfLast 0xE0 entry (λ video. OfLast 0xBA (bytes_found video) (λ found. track.height ≡ number_found found))
 
 -- each track is that of its TrackEntry
 abbrev pub EachIsTrack : List (List ℕ) → List Track → Type 0
@@ -46,8 +46,8 @@ pub record AreTracksOf (content : List ℕ) (tracks : List Track) : Type 0 where
   pub each : EachIsTrack entries tracks
 
 -- how many bytes a BITMAPINFOHEADER has
-abbrev pub header_length : ℕ
-header_length = 40
+abbrev pub bitmap_header_length : ℕ
+bitmap_header_length = 40
 
 -- the compression of a BITMAPINFOHEADER is FFV1
 abbrev pub IsFfv1Header : List ℕ → Type 0
@@ -58,7 +58,7 @@ IsFfv1Header bytes = slice_range bytes 16 20 ≡ codes "FFV1"
 abbrev pub HasRecord : Track → List ℕ → Type 0
 HasRecord track record' =
     ((track.codec.now ≡ codes "V_FFV1") × (record' ≡ track.private.now))
-    ⊎ ((track.codec.now ≡ codes "V_MS/VFW/FOURCC") × IsFfv1Header track.private.now × (record' ≡ drop header_length track.private.now))
+    ⊎ ((track.codec.now ≡ codes "V_MS/VFW/FOURCC") × IsFfv1Header track.private.now × (record' ≡ drop bitmap_header_length track.private.now))
 
 -- its record is wrong: it has bytes, and fails its parity
 abbrev pub IsRecordWrong : Track → Type 0

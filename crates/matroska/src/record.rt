@@ -1,6 +1,6 @@
 //! The Configuration Records of tracks of FFV1, and what can be judged of a track's frames.
 ghost use Rattle.std.specs.Prelude.{List, ℕ, ◌≡◌, ◌↔◌, IsTrue, IfOk, MatchOption, drop};
-ghost use Rattle.matroska.specs.Tracks.{IsFfv1Header, header_length, HasRecord, IsRecordWrong, SaysParities, HasParities, IsFlac, RecordIsOne};
+ghost use Rattle.matroska.specs.Tracks.{IsFfv1Header, bitmap_header_length, HasRecord, IsRecordWrong, SaysParities, HasParities, IsFlac, RecordIsOne};
 ghost use Rattle.ffv1_bits.specs.Parity.{RecordPassesParity};
 
 use crate::track::Track;
@@ -40,7 +40,7 @@ fn has_codec(track: &Track<'_>, codec: &[u8]) -> bool
 
 /// What follows a BITMAPINFOHEADER; no bytes where there are not so many.
 fn after_header<'a>(private: &'a [u8]) -> &'a [u8]
-    ensures { result.now ≡ drop header_length private.now }
+    ensures { result.now ≡ drop bitmap_header_length private.now }
 {
     &private[private.len().min(HEADER_LENGTH)..]
 }

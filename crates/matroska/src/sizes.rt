@@ -1,6 +1,6 @@
 //! Sizes of frames that are laced (RFC 9559, section 10.3).
 ghost use Rattle.std.specs.Prelude.{ℕ, ◌≡◌, ◌<◌, ◌≤◌, ◌^◌, IfOk, IfSome, MatchOption, None, vec_len};
-ghost use Rattle.matroska.specs.Laces.{IsXiphSize, IsSize, SizesFollow, GiveSizes};
+ghost use Rattle.matroska.specs.Laces.{IsXiphSize, IsFrameSize, SizesFollow, GiveSizes};
 ghost use Rattle.matroska.specs.Inner.Sizes.{ReadsSize, NoneGiven, NoneFollow, GivesSize};
 ghost use Rattle.matroska.specs.declared.block.Lacing.TheVariants.{Fixed, Ebml};
 
@@ -85,7 +85,7 @@ fn fixed_sizes<'a>(
 /// The size that begins the bytes, by the one before where there is one.
 fn next_size<'a>(lacing: Lacing, before: Option<usize>, bytes: &'a [u8]) -> Option<SizeAt<'a>>
     requires { IfSome before (λ size. size < 2 ^ 63) }
-    ensures { ReadsSize (IsSize lacing before) bytes.now result }
+    ensures { ReadsSize (IsFrameSize lacing before) bytes.now result }
 {
     match lacing {
         Lacing::Xiph => xiph_size(bytes),
@@ -115,7 +115,7 @@ fn xiph_size<'a>(bytes: &'a [u8]) -> Option<SizeAt<'a>>
 /// The size of EBML lacing that begins the bytes.
 fn ebml_size<'a>(before: Option<usize>, bytes: &'a [u8]) -> Option<SizeAt<'a>>
     requires { IfSome before (λ size. size < 2 ^ 63) }
-    ensures { ReadsSize (IsSize Ebml before) bytes.now result }
+    ensures { ReadsSize (IsFrameSize Ebml before) bytes.now result }
 {
     let Some(found) = read_vint_data(bytes) else {
         return None;

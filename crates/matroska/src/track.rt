@@ -1,7 +1,7 @@
 //! Tracks, as a TrackEntry describes each (RFC 9559, section 5.1.4).
 ghost use Rattle.std.specs.Prelude.{◌≡◌, ◌↔◌, IsTrue, IsSome, IfOk};
 ghost use Rattle.ebml.specs.Contents.{OfLast};
-ghost use Rattle.matroska.specs.Tracks.{number_in, bytes_in, IsTextOf, IsTrackOf, AreTracksOf};
+ghost use Rattle.matroska.specs.Tracks.{number_found, bytes_found, IsStringOf, IsTrackOf, AreTracksOf};
 
 use ebml::{last_content, next_content, unsigned};
 use ffv1_texts::split_at_byte;
@@ -75,7 +75,7 @@ pub fn read_track<'a>(entry: &'a [u8]) -> Track<'a>
 
 /// The value of the last element with this ID.
 fn number_with(id: u32, bytes: &[u8]) -> u64
-    ensures { OfLast id bytes.now (λ found. result ≡ number_in found) }
+    ensures { OfLast id bytes.now (λ found. result ≡ number_found found) }
 {
     match last_content(id, bytes) {
         Some(content) => unsigned(content),
@@ -85,7 +85,7 @@ fn number_with(id: u32, bytes: &[u8]) -> u64
 
 /// The content of the last element with this ID; no bytes where there is none.
 fn bytes_with<'a>(id: u32, bytes: &'a [u8]) -> &'a [u8]
-    ensures { OfLast id bytes.now (λ found. result.now ≡ bytes_in found) }
+    ensures { OfLast id bytes.now (λ found. result.now ≡ bytes_found found) }
 {
     match last_content(id, bytes) {
         Some(content) => content,
@@ -95,7 +95,7 @@ fn bytes_with<'a>(id: u32, bytes: &'a [u8]) -> &'a [u8]
 
 /// What stands before the first zero byte, or all.
 fn text_of<'a>(content: &'a [u8]) -> &'a [u8]
-    ensures { IsTextOf content.now result.now }
+    ensures { IsStringOf content.now result.now }
 {
     match split_at_byte(content, 0) {
         Some((text, _)) => text,

@@ -1,16 +1,16 @@
 -- The items that a pass over a file has gone past.
 use Rattle.std.specs.Prelude.{ℕ, ◌≡◌, ◌≤◌, List, [], ◌∷◌, ◌++◌, length, take, drop}
-use Rattle.ebml.specs.Items.{ItemValue, IsItem, bytes_of}
+use Rattle.ebml.specs.Items.{ItemValue, IsItem, bytes_of_items}
 
 -- each is one by what follows it, which ends with the rest of the file
 abbrev pub EachBefore : List ItemValue → List ℕ → Type 0
 EachBefore [] rest = Unit {0}
-EachBefore (item ∷ items) rest = IsItem item.kind item.bytes (bytes_of items ++ rest) × EachBefore items rest
+EachBefore (item ∷ items) rest = IsItem item.kind item.bytes (bytes_of_items items ++ rest) × EachBefore items rest
 
 pub record Passed (file : List ℕ) (place count : ℕ) : Type 0 where
   pub within : place ≤ length file
   pub items : List ItemValue
   pub counted : count ≡ length items
   pub few : count ≤ place
-  pub joined : take place file ≡ bytes_of items
+  pub joined : take place file ≡ bytes_of_items items
   pub each : EachBefore items (drop place file)

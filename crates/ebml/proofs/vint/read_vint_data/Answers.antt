@@ -1,6 +1,5 @@
-use Rattle.std.proofs.Common.{ℕ, ◌≡◌, ◌-◌, ap, arith}
+use Rattle.std.proofs.Common.{◌-◌, ap}
 use Rattle.std.specs.Prelude.{Some}
-use Rattle.ebml.specs.Vint.{marker}
 use Rattle.ebml.specs.Inner.Front.{HasVint}
 use Rattle.ebml.proofs.Numbers.{shifted_marker}
 use Rattle.ebml.proofs.Heads.{none_there, same_there, vint_with, same_data}
