@@ -1,0 +1,2 @@
+pub mod TopElements
+pub mod Findings

@@ -1,0 +1,12 @@
+//! Tests of what is read of a Matroska file: its elements, items, tracks and blocks, each call once and in its rows. The file is FFmpeg's, and the
+//! CRC-32 values are zlib's.
+#![tactic(auto)]
+
+#[cfg(test)]
+mod blocks;
+#[cfg(test)]
+mod elements;
+#[cfg(test)]
+mod made;
+#[cfg(test)]
+mod tracks;
