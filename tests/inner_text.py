@@ -12,22 +12,38 @@ import specs_text
 
 # A definition: the path of its file below crates/, and its name.
 Name = typing.Tuple[str, str]
-BEGINS = re.compile(r"^(?:(abbrev|unfoldable|module) )?(?:pub )?(?:(?:data|record) )?(\S+)(?= |$)")
+BEGINS = re.compile(r"^(?:(?:abbrev|unfoldable) )?(?:pub )?(?:(?:data|record) )?(\S+)(?= |$)")
 PARTS = ("use ", "pub use ", "pub mod ", "infix", "unfolding", "--", " ", "}")
+# By how many spaces what stands in a module is indented.
+STEP = 2
 
 
 def definitions(text: str) -> typing.Dict[str, str]:
-    """What a file of specs defines: each name with the lines that define it. What stands in a module within the file is one definition,
-    under the name of the module."""
+    """What a file of specs defines: each name with the lines that define it. What stands in a module within the file, `module _ ..`, has
+    the head of the module before it, as the module's parameters are also its own."""
     found: typing.Dict[str, typing.List[str]] = {}
+    heads: typing.List[str] = []
     name = ""
     for line in text.splitlines():
-        begins = BEGINS.match(line) if line and not line.startswith(PARTS) else None
-        if begins and (re.match(r"(?:abbrev|unfoldable|module|pub) ", line) or re.match(r"\S+ : ", line)):
-            name = begins.group(2)
-        if name and not line.lstrip().startswith("--") and not line.startswith(("use ", "pub use ", "infix")):
-            found.setdefault(name, []).append(line)
+        if line.strip():
+            heads = heads[: (len(line) - len(line.lstrip())) // STEP]
+        here = line[STEP * len(heads) :]
+        if here.startswith("module _ "):
+            heads.append(line)
+            name = ""
+            continue
+        begins = BEGINS.match(here) if here and not here.startswith(PARTS) else None
+        if begins and (re.match(r"(?:abbrev|unfoldable|pub) ", here) or re.match(r"\S+ : ", here)):
+            name = begins.group(1)
+            found.setdefault(name, list(heads))
+        if name and not here.lstrip().startswith("--") and not here.startswith(("use ", "pub use ", "infix")):
+            found[name].append(line)
     return {name: "\n".join(lines) for name, lines in found.items()}
+
+
+def line_count(body: str) -> int:
+    """How many lines define a name, without the heads of the modules around it."""
+    return sum(not line.lstrip().startswith("module _ ") for line in body.splitlines())
 
 
 def cited_in(path: str, text: str, body: str) -> typing.Iterator[Name]:
@@ -65,26 +81,39 @@ def faults() -> typing.Iterator[str]:
             yield from (f"a contract of a public call reaches {name} in {path}" for name in public_in(path) if (path, name) in believed)
 
 
-# The theorems of docs/PROMISES.md for which it lists what to read, each with its mark and the calls whose contracts state it.
+# The theorems of docs/PROMISES.md for which it lists what to read, each with its mark and the calls whose contracts state it: a function by its
+# crate and its name, with its type where it is one of a type's own.
 THEOREMS = {
-    "H": ["same_copies_make_one_file", "commands_restore_the_original"],
-    "S": ["same_copies_make_one_splice", "splice_gives_the_original", "splice_weaves_the_original"],
-    "M": ["any_order_makes_one_file", "mend_claims_what_is_vouched", "mend_gives_the_original"],
-    "R": ["one_reading", "one_fault"],
-    "D": ["burst_seen", "near_found"],
+    "H": ["ffv1_commands.same_copies_make_one_file", "ffv1_commands.commands_restore_the_original"],
+    "S": ["ffv1_commands.same_copies_make_one_splice", "ffv1_commands.splice_gives_the_original", "ffv1_commands.splice_weaves_the_original"],
+    "M": ["ffv1_commands.any_order_makes_one_file", "ffv1_commands.mend_claims_what_is_vouched", "ffv1_commands.mend_gives_the_original"],
+    "R": ["ffv1_plane.one_reading", "ffv1_plane.one_fault"],
+    "A": ["ffv1_player.Player::decode", "ffv1_samples.tile_is_slice", "ffv1_player.frame_is_played"],
+    "D": ["ffv1_bits.burst_seen", "ffv1_slice.near_found"],
 }
-NAMES = {"H": "holdings", "S": "splicing", "M": "files", "R": "one reading", "D": "small damage"}
+NAMES = {"H": "holdings", "S": "splicing", "M": "files", "R": "one reading", "A": "one reading of any recording", "D": "small damage"}
 MADE = re.compile(r"(?<=<!-- made -->\n).*?(?=<!-- /made -->)", re.S)
+
+
+def head_of(text: str, kind: str, name: str) -> str:
+    """The head of a public function of the text of a file of code, of a type's own where a type is named; empty if it has none."""
+    if kind:
+        own = re.search(rf"^impl {kind} \{{\n.*?^\}}", text, re.S | re.M)
+        text = own.group() if own else ""
+    found = re.search(rf"^{'    ' if kind else ''}pub fn {name}\b.*?^ *\{{", text, re.S | re.M)
+    return found.group() if found else ""
 
 
 def statement(call: str) -> typing.Tuple[str, str]:
     """The text of the file of code in which a public function stands, without comments, and the function's head."""
-    for path in sorted(specs_text.TOP.glob("crates/*/src/*.rt")):
-        text = re.sub(r"^ *//.*\n", "", path.read_text(), flags=re.M)
-        found = re.search(rf"^pub fn {call}\b.*?^\{{", text, re.S | re.M)
-        if found:
-            return text, found.group()
-    raise KeyError(call)
+    crate, _, path = call.partition(".")
+    kind, _, name = path.rpartition("::")
+    sources = sorted((specs_text.TOP / "crates" / crate / "src").glob("*.rt"))
+    texts = [re.sub(r"^ *//.*\n", "", source.read_text(), flags=re.M) for source in sources]
+    found = [(text, head) for text, head in ((text, head_of(text, kind, name)) for text in texts) if head]
+    if len(found) != 1:
+        raise KeyError(call)
+    return found[0]
 
 
 def rests_on(calls: typing.Iterable[str]) -> typing.Set[Name]:
@@ -96,7 +125,7 @@ def rests_on(calls: typing.Iterable[str]) -> typing.Set[Name]:
 def reading_list() -> str:
     """For each theorem how many lines are to be read, and a row for each file with the definitions that some theorem reaches."""
     reach = {mark: rests_on(calls) for mark, calls in THEOREMS.items()}
-    lines = {path: {name: len(body.splitlines()) for name, body in definitions(specs_text.source(path)).items()} for path in specs_text.files()}
+    lines = {path: {name: line_count(body) for name, body in definitions(specs_text.source(path)).items()} for path in specs_text.files()}
     sums = {mark: sum(lines[path][name] for path, name in names) for mark, names in reach.items()}
     page = "".join(f"- {mark}, {NAMES[mark]}: {len(reach[mark])} definitions, {sums[mark]} lines\n" for mark in THEOREMS)
     page += "\n| File | Definitions, with their lines | For |\n|---|---|---|\n"

@@ -27,9 +27,24 @@ a +++ b = a
 pub record Reading : Type 0 where
   pub place : N
 
-module _ (size : N) where
+abbrev pub Size : Type 0
+Size = N
+
+module _ (size : Size) where
   abbrev pub within : N
   within = size
+
+  -- twice that
+  abbrev pub twice : N
+  twice =
+      within + within
+
+  module _ (depth : N) where
+    unfoldable pub deeper : N
+    deeper = twice
+
+  pub law-of-twice : twice ≡ twice
+  law-of-twice = refl
 
 unfoldable pub alone : N
 alone = 1
@@ -49,16 +64,29 @@ sum = 1 +++ 1
 class Inner(unittest.TestCase):
     def test_definitions(self) -> None:
         found = inner_text.definitions(FILES[LOW])
-        self.assertEqual(list(found), ["bits_of", "flat", "◌+++◌", "Reading", "_", "alone"])
+        self.assertEqual(list(found), ["bits_of", "flat", "◌+++◌", "Reading", "Size", "within", "twice", "deeper", "law-of-twice", "alone"])
         self.assertEqual(found["flat"].strip(), "flat : List N -> List Bool\nflat [] = []\nflat (x : xs) = x")
         self.assertIn("pub place : N", found["Reading"])
-        self.assertIn("within = size", found["_"])
+        self.assertEqual(found["alone"].strip(), "unfoldable pub alone : N\nalone = 1")
         self.assertEqual(found["◌+++◌"].strip(), "abbrev pub ◌+++◌ : N -> N -> N\na +++ b = a")
+
+    def test_definitions_within_modules(self) -> None:
+        found = inner_text.definitions(FILES[LOW])
+        head = "module _ (size : Size) where\n"
+        self.assertEqual(found["within"].strip(), f"{head}  abbrev pub within : N\n  within = size")
+        self.assertEqual(found["twice"].strip(), f"{head}  abbrev pub twice : N\n  twice =\n      within + within")
+        self.assertEqual(found["deeper"].strip(),
+                         f"{head}  module _ (depth : N) where\n    unfoldable pub deeper : N\n    deeper = twice")
+        self.assertEqual([inner_text.line_count(found[name].strip()) for name in ("within", "twice", "deeper", "alone")], [2, 3, 2, 2])
 
     def test_reached(self) -> None:
         self.assertEqual(inner_text.reached(FILES.__getitem__, [(HIGH, "Passes")]), {(HIGH, "Passes"), (LOW, "bits_of"), (LOW, "flat")})
         self.assertIn((LOW, "◌+++◌"), inner_text.reached(FILES.__getitem__, [(HIGH, "sum")]))
         self.assertEqual(inner_text.reached(FILES.__getitem__, [(LOW, "alone")]), {(LOW, "alone")})
+
+    def test_reached_within_modules(self) -> None:
+        self.assertEqual(inner_text.reached(FILES.__getitem__, [(LOW, "deeper")]),
+                         {(LOW, "deeper"), (LOW, "twice"), (LOW, "within"), (LOW, "Size")})
 
     def test_laws_are_no_definitions(self) -> None:
         names = inner_text.public_in("ffv1_holding/specs/Sets.antt")
@@ -69,16 +97,46 @@ class Inner(unittest.TestCase):
 
 class ReadingList(unittest.TestCase):
     def test_statement(self) -> None:
-        text, head = inner_text.statement("burst_seen")
+        text, head = inner_text.statement("ffv1_bits.burst_seen")
         self.assertIn("BurstIsSeen", head)
         self.assertIn(head, text)
-        self.assertRaises(KeyError, inner_text.statement, "no_such_call")
+        self.assertRaises(KeyError, inner_text.statement, "ffv1_bits.no_such_call")
+        self.assertRaises(KeyError, inner_text.statement, "ffv1_bits.near_found")
+
+    def test_statement_of_one_crate(self) -> None:
+        # two crates have a law of this name
+        self.assertIn("StuckIsOne", inner_text.statement("ffv1_plane.one_fault")[1])
+        self.assertIn("OneShownFault", inner_text.statement("ffv1_hold.one_fault")[1])
+
+    def test_statement_of_a_type(self) -> None:
+        head = inner_text.head_of("impl A {\n    pub fn f()\n        ensures { Of }\n    {\n    }\n}\n\npub fn f()\n    ensures { Own }\n{\n}\n", "", "f")
+        self.assertEqual(head, "pub fn f()\n    ensures { Own }\n{")
+        text, head = inner_text.statement("ffv1_player.Player::decode")
+        self.assertIn("IsPlayedFrame", head)
+        self.assertNotIn("IsRecordingOf", head)
+        self.assertIn("impl Player {", text)
+        self.assertRaises(KeyError, inner_text.statement, "ffv1_player.Samples::decode")
 
     def test_rests_on(self) -> None:
-        found = inner_text.rests_on(["burst_seen"])
+        found = inner_text.rests_on(["ffv1_bits.burst_seen"])
         self.assertIn(("ffv1_bits/specs/Parity.antt", "BurstIsSeen"), found)
         self.assertIn(("ffv1_bits/specs/Bits.antt", "bits_of"), found)
         self.assertNotIn(("ffv1_slice/specs/Near.antt", "NearFound"), found)
+
+    def test_rests_on_names_within_a_module(self) -> None:
+        found = inner_text.rests_on(["ffv1_commands.same_copies_make_one_file"])
+        self.assertIn(("ffv1_holding/specs/Sets.antt", "union"), found)
+        self.assertIn(("ffv1_holding/specs/Sets.antt", "from_list"), found)
+        self.assertNotIn(("ffv1_holding/specs/Sets.antt", "union_comm"), found)
+
+    def test_one_reading_is_no_law_of_files(self) -> None:
+        files = {path for path, _ in inner_text.rests_on(inner_text.THEOREMS["R"])}
+        self.assertIn("ffv1_plane/specs/StuckLaws.antt", files)
+        self.assertNotIn("ffv1_hold/specs/FileFaults.antt", files)
+
+    def test_rows_on_any_recording(self) -> None:
+        files = {path for path, _ in inner_text.rests_on(inner_text.THEOREMS["A"])}
+        self.assertTrue({"ffv1_samples/specs/Slices.antt", "ffv1_player/specs/Frames.antt"} <= files, files)
 
     def test_reading_list(self) -> None:
         page = inner_text.reading_list()
