@@ -1,7 +1,8 @@
 """How long the documents are, how long their sentences, and words that are not to be used.
 
-tests/ceilings has a line for each document: how many words it may have. The part of a document between the lines `<!-- made -->` and
-`<!-- /made -->` is made by a script and checked elsewhere: its words are not counted.
+tests/ceilings says how many words the documents may have together. A word has a letter or a digit: bars of tables and dashes are none. What is made
+by a script or checked elsewhere is not counted: the part of a document between the lines `<!-- made -->` and `<!-- /made -->`, and what is
+indented or fenced, as programs, commands, what these print, and pictures.
 """
 from __future__ import annotations
 
@@ -52,18 +53,31 @@ def sentences(block: str) -> typing.List[str]:
     return re.split(r"(?<=[.?!])\s+(?=[A-Z`*\"(])", plain)
 
 
-def ceilings(text: str) -> typing.Dict[str, int]:
-    rows = (line.split() for line in text.splitlines() if line and not line.startswith("#"))
-    return {path: int(most) for path, most in rows}
+def word_count(page: str) -> int:
+    """How many words of text a document has, with those of its headings."""
+    page = re.sub(r"^ *```.*?^ *```$|^ {4}[^\n]*$", "", written(page), flags=re.S | re.M)
+    return sum(re.search(r"[^\W_]", word) is not None for word in page.split())
 
 
-def faults_of(path: str, page: str, most: int) -> typing.Iterator[str]:
-    """What is wrong with a document that may have so many words."""
-    page = written(page)
-    count = len(page.split())
-    if count > most:
-        yield f"{path} has {count} words: at most {most}, by tests/ceilings"
-    for sentence in (sentence for block in blocks(page) for sentence in sentences(block)):
+def ceiling(text: str) -> int:
+    """How many words the documents may have together: the only number in the lines that are no comments."""
+    number, = (line for line in text.splitlines() if line and not line.startswith("#"))
+    return int(number)
+
+
+def faults_of_all(pages: typing.Dict[str, str], most: int) -> typing.Iterator[str]:
+    """What is wrong with documents that may have so many words together."""
+    counts = {path: word_count(page) for path, page in pages.items()}
+    if sum(counts.values()) > most:
+        each = ", ".join(f"{path} {count}" for path, count in counts.items())
+        yield f"the documents have {sum(counts.values())} words: at most {most}, by tests/ceilings ({each})"
+    for path, page in pages.items():
+        yield from faults_of(path, page)
+
+
+def faults_of(path: str, page: str) -> typing.Iterator[str]:
+    """What is wrong with the sentences of a document."""
+    for sentence in (sentence for block in blocks(written(page)) for sentence in sentences(block)):
         if len(sentence.split()) > LONGEST:
             yield f"{path} has a sentence of {len(sentence.split())} words: {sentence[:70]} .."
         yield from (f"{path}: not '{word}' but {better}: {sentence[:70]} .." for word, better in BANNED.items()
@@ -78,10 +92,8 @@ def banned_in_code(text: str) -> typing.Iterator[str]:
 
 
 def faults() -> typing.Iterator[str]:
-    listed = ceilings((TOP / "tests/ceilings").read_text())
-    pages = {"README.md", "CONTRIBUTING.md", "CHANGELOG.md", *(f"docs/{path.name}" for path in TOP.glob("docs/*.md"))}
-    yield from (f"tests/ceilings says nothing of {path}" for path in sorted(pages - set(listed)))
-    for path, most in listed.items():
-        yield from faults_of(path, (TOP / path).read_text(), most)
+    paths = ["README.md", "CONTRIBUTING.md", "CHANGELOG.md", *(f"docs/{path.name}" for path in sorted(TOP.glob("docs/*.md")))]
+    pages = {path: (TOP / path).read_text() for path in paths}
+    yield from faults_of_all(pages, ceiling((TOP / "tests/ceilings").read_text()))
     for path in sorted([*TOP.glob("crates/*/src/**/*.rt"), *TOP.glob("crates/*/specs/**/*.antt")]):
         yield from (f"{path.relative_to(TOP)}: not '{word}' but {BANNED[word]}" for word in banned_in_code(path.read_text()))

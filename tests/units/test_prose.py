@@ -35,14 +35,34 @@ class Sentences(unittest.TestCase):
         self.assertEqual(prose.sentences(block), ["A first sentence.", "A second one goes on: Code.", "A link too."])
 
 
-class Faults(unittest.TestCase):
-    def faults(self, page: str, most: int = 100) -> list[str]:
-        return list(prose.faults_of("page", page, most))
+class Ceiling(unittest.TestCase):
+    def faults(self, most: int, *pages: str) -> list[str]:
+        return list(prose.faults_of_all({f"page {number}": page for number, page in enumerate(pages)}, most))
 
-    def test_length(self) -> None:
-        self.assertEqual(self.faults("one two three", 3), [])
-        self.assertEqual(self.faults("one two three four", 3), ["page has 4 words: at most 3, by tests/ceilings"])
-        self.assertEqual(self.faults("one\n<!-- made -->\ntwo three four\n<!-- /made -->\n", 3), [])
+    def test_all_documents_together(self) -> None:
+        self.assertEqual(self.faults(5, "one two three", "four five"), [])
+        self.assertEqual(self.faults(4, "one two three", "four five"),
+                         ["the documents have 5 words: at most 4, by tests/ceilings (page 0 3, page 1 2)"])
+        self.assertEqual(self.faults(1, "one\n<!-- made -->\ntwo three four\n<!-- /made -->\n"), [])
+
+    def test_sentences_of_each(self) -> None:
+        self.assertEqual(len(self.faults(1000, "A hurt slice.", "word " * 36)), 2)
+
+    def test_words(self) -> None:
+        self.assertEqual(prose.word_count("# A heading - | 2 | a_b `c::d` |\n|---|---| `||` _ 1.5"), 6)
+
+    def test_programs_and_pictures_are_no_words(self) -> None:
+        self.assertEqual(prose.word_count("one\n\n    $ a command\n    printed\n\ntwo\n```mermaid\na --> b\n```\nthree\n"), 3)
+        self.assertEqual(prose.word_count("- one\n  two\n"), 2)
+
+    def test_number(self) -> None:
+        self.assertEqual(prose.ceiling("# how many\n# of all\n\n1200\n"), 1200)
+        self.assertRaises(ValueError, prose.ceiling, "# how many\n1200\n900\n")
+
+
+class Faults(unittest.TestCase):
+    def faults(self, page: str) -> list[str]:
+        return list(prose.faults_of("page", page))
 
     def test_sentence(self) -> None:
         self.assertEqual(self.faults("word " * 34 + "word. And " + "word " * 34), [])
@@ -56,6 +76,3 @@ class Faults(unittest.TestCase):
     def test_banned_in_code(self) -> None:
         self.assertEqual(list(prose.banned_in_code("let is_seam = IsHurtWithin32(take-append_boundary);")), ["hurt", "seam"])
         self.assertEqual(list(prose.banned_in_code("take-append_seam, legend, x.answer, Answers.antt, undertorn")), [])
-
-    def test_ceilings(self) -> None:
-        self.assertEqual(prose.ceilings("# how many\nREADME.md 1000\n\ndocs/MAP.md 900\n"), {"README.md": 1000, "docs/MAP.md": 900})
