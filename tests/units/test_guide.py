@@ -49,6 +49,16 @@ class GuideTest(unittest.TestCase):
         self.assertEqual(made[9:], ["    $ for n in 1 2; do", "        echo $n; done", "    1", "    2", "    $ printf '%s\\n' a \\", "        b", "    a", "    b",
                                     "    $ cd / | cat", "    $ x=7", "", "More text.", "", "    $ echo $x; pwd", "    7", "    /tmp/reels"])
 
+    def test_commands_before_a_page_are_run_and_not_shown(self):
+        with tempfile.NamedTemporaryFile() as program:
+            made = guide.with_printed(["    $ echo $y", "    old"], program.name, ["y=8; echo of those before", "echo twice"])
+        self.assertEqual(made, ["    $ echo $y", "    8"])
+
+    def test_the_first_part_of_a_page_ends_at_a_heading(self):
+        page = ["# A guide", "", "    $ echo 1", "### Small", "## One", "    $ echo 2"]
+        self.assertEqual(guide.commands_of(guide.first_part(page)), ["echo 1"])
+        self.assertEqual(guide.commands_of(guide.first_part(page[:4])), ["echo 1"])
+
 
 if __name__ == "__main__":
     unittest.main()
