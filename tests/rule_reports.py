@@ -20,7 +20,7 @@ from small_recordings import Recording
 WAIT = 10
 
 
-# ---- 16: no slip loses a recording
+# ---- 16: a mistyped command loses no recording
 
 
 @of_rule(16)
