@@ -337,7 +337,7 @@ def of_kind(numbers, folder, reel, name):
 
 def in_turn(numbers, folder, reel):
     """Two or three copies that lack pieces in turn: each byte is intact in one of them."""
-    count, size, first = numbers.randint(2, 3), numbers.choice([512, 2048, 4096, 16384]), numbers.choice([0, 0, 1000])
+    count, size, first = numbers.randint(2, 3), numbers.choice([2048, 4096, 4096, 16384]), numbers.choice([0, 0, 1000])
     made = [bytearray(reel.content) for _ in range(count)]
     for number, place in enumerate(range(first, len(reel.content), size)):
         for copy in (copy for at, copy in enumerate(made) if at != number % count):

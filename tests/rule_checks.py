@@ -176,6 +176,24 @@ def gives_file(desk: Desk, recording: Recording, copies: typing.Sequence[Recordi
 
 
 @of_rule(2)
+def heads_that_lead_nowhere(kit: Kit) -> Checks:
+    """Where heads are damaged in one copy and not in the undamaged one, and another container has the frames too."""
+    for name, other in (("matroska", "avi"), ("matroska-flac", "nut"), ("nut", "mov"), ("mov", "avi")):
+        recording, more = kit.recording(name), kit.again(name, other, "-an")
+        more = more.changed(small.inverted(more.content, small.places_in_frame(more, 6)["middle of slice 0"]))
+        content = recording.content
+        for frame in (2, 4):
+            place, _ = recording.frames[frame]
+            content = small.filled(content, place - 40, 52)
+        for order, found in small.orders(recording.content, content):
+            for at in range(3):
+                copies = [recording.changed(each) for each in found]
+                copies.insert(at, more)
+                yield Check(name, f"undamaged beside damaged heads, copies {order}, and {other} at {at}",
+                            partial(gives_file, recording=recording, copies=copies))
+
+
+@of_rule(2)
 def a_cluster_twice(kit: Kit) -> Checks:
     for recording in kit.some("matroska", "matroska-plain"):
         place, _, end = small.top(recording.content, small.CLUSTER)[1]

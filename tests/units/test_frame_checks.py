@@ -5,10 +5,10 @@ import stat
 import tempfile
 import unittest
 
-from mend_reel.containers.own_checks import has_only_sizes, passes, share_slice, slices
+from mend_reel.containers.own_checks import has_only_sizes, is_astray, passes, share_slice, slices
 from mend_reel.engine.frame_checks import Judged, Scan, part_overlaps, read_line
 from mend_reel.model import Fault
-from . import made  # noqa: F401
+from . import made
 from .framed import frame, judge, parity, slice_of
 
 
@@ -64,6 +64,29 @@ class ShareTest(unittest.TestCase):
         self.assertTrue(has_only_sizes(bytes(10) + b"\0\0\x0a" + b"x" * 300 + b"\0\x01\x2c"))
         self.assertFalse(has_only_sizes(frame(1)))
         self.assertFalse(has_only_sizes(b""))
+
+
+class AstrayTest(unittest.TestCase):
+    def test_a_damaged_version_is_none(self):
+        whole = frame(1, 30, 40)
+        for place in (3, 50, len(whole) - 6):
+            damaged = bytearray(whole)
+            damaged[place] ^= 1
+            self.assertFalse(is_astray(whole, bytes(damaged)), place)
+
+    def test_bytes_across_two_frames_are_astray(self):
+        two = frame(1, 30, 40) + frame(2, 30, 40)
+        self.assertTrue(is_astray(two[:86], two[38:124]))
+
+    def test_slices_of_a_frame_in_another_order_are_astray(self):
+        one, other = slice_of(made.noise(1, 30)), slice_of(made.noise(2, 40))
+        self.assertTrue(is_astray(one + other, other + one))
+
+    def test_another_frame_that_passes_is_a_version(self):
+        self.assertFalse(is_astray(frame(1, 30, 40), frame(2, 30, 40)))
+
+    def test_garbage_is_no_frame_astray(self):
+        self.assertFalse(is_astray(frame(1, 30, 40), made.noise(3, 86)))
 
 
 class ScanTest(unittest.TestCase):

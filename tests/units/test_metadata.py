@@ -25,6 +25,11 @@ class Metadata(unittest.TestCase):
         self.assertEqual([track.is_encoded for track in found], [False, False, False, False, True])
         self.assertEqual([(track.is_ffv1, track.record) for track in found[2:]], [(True, b"extra"), (False, header.replace(b"FFV1", b"HFYU")), (False, b"")])
 
+    def test_the_record_of_a_mov_file_that_was_taken_over(self) -> None:
+        head, atom = bytes(4) + b"FFV1" + bytes(30), (8 + 5).to_bytes(4, "big") + b"glblextra"
+        for private, record in ((head + atom + b"fiel", b"extra"), (head, b""), (head[:4] + b"HFYU" + atom, None)):
+            self.assertEqual(metadata.record_of("V_QUICKTIME", private), record)
+
     def test_what_a_file_claims(self) -> None:
         content = made.information(320), made.tracks(), made.cues((0, 1, 9), (80, 1, 10), (80, 2, 10))
         claims = read(*content).claims

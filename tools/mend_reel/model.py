@@ -248,7 +248,7 @@ class Copy:
     unread: Sequence[tuple[int, int]] = ()  # from where to where it could not be read, by a map
     filling: Sequence[tuple[int, int]] = ()  # what counts as unread too: long filling, where another copy has content
     runs: list[tuple[int, int]] | None = dataclasses.field(default=None, repr=False, compare=False)  # where it has one value over several sectors
-    is_broken: bool | None = None  # its parts do not hang together, once that was asked
+    is_disordered: bool | None = None  # its parts do not hang together, once that was asked
     watch: Callable[[int], None] = lambda place: None  # is called with each place that is read
     probed: Any = dataclasses.field(default=None, repr=False, compare=False)  # what ffprobe reported of it
     structure: Any = dataclasses.field(default=None, repr=False, compare=False)  # how its parts hang together

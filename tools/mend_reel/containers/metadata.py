@@ -18,6 +18,8 @@ POINT, POINT_TIME, POINT_TRACK_PLACES, POINT_TRACK = 0xBB, 0xB3, 0xB7, 0xF7
 TAG, TARGETS, TAG_UID, SIMPLE_TAG, TAG_NAME, TAG_TEXT = 0x7373, 0x63C0, 0x63C5, 0x67C8, 0x45A3, 0x4487
 NANOSECONDS = 1e9
 WINDOWS_CODEC, WINDOWS_HEADER = "V_MS/VFW/FOURCC", 40
+# The sample description of a MOV file, as mkvmerge takes it over: its record is in an atom of this name.
+QUICKTIME_CODEC, RECORD_ATOM = "V_QUICKTIME", b"glbl"
 MOST_TRACKS = 127
 BY_TYPE = {1: Content.VIDEO, 2: Content.SOUND, 0x11: Content.SUBTITLES}
 
@@ -49,13 +51,23 @@ def read(contents: Mapping[int, bytes]) -> Metadata:
 def read_track(entry: ebml.Fields) -> Track | None:
     """Returns the track of a TrackEntry. A track whose frames are stored in another form (compressed, encrypted) is no FFV1 track here."""
     number, codec, private, is_encoded = entry.number(TRACK_NUMBER), entry.text(CODEC), entry.get(PRIVATE, b""), ENCODINGS in entry
-    is_windows = codec == WINDOWS_CODEC and private[16:20].upper() == b"FFV1"
-    is_ffv1, video, sound = codec == "V_FFV1" or is_windows, entry.inside(VIDEO), entry.inside(SOUND)
+    record, video, sound = record_of(codec, private), entry.inside(VIDEO), entry.inside(SOUND)
+    is_ffv1 = record is not None
     rate = sound.real(RATE) * (sound.number(CHANNELS) or 1) * sound.number(BITS) / 8
     return Track(number, BY_TYPE.get(entry.number(TRACK_TYPE), Content.UNKNOWN), codec, is_ffv1 and not is_encoded, video.number(WIDTH),
-                 video.number(HEIGHT), private[WINDOWS_HEADER:] if is_windows else private, entry.number(STEP) / NANOSECONDS or None,
+                 video.number(HEIGHT), private if record is None else record, entry.number(STEP) / NANOSECONDS or None,
                  rate if codec.startswith("A_PCM") and 0 < rate < float("inf") else 0.0, is_ffv1 and is_encoded,
                  codec == "A_FLAC" and not is_encoded) if number else None
+
+
+def record_of(codec: str, private: bytes) -> bytes | None:
+    """The record of a track of FFV1, by its codec and what is private to that; None of another codec."""
+    if codec == WINDOWS_CODEC and private[16:20].upper() == b"FFV1":
+        return private[WINDOWS_HEADER:]
+    if codec == QUICKTIME_CODEC and private[4:8].upper() == b"FFV1":
+        at = private.find(RECORD_ATOM)
+        return private[at + 4 : at - 4 + int.from_bytes(private[at - 4 : at], "big")] if at >= 8 else b""
+    return private if codec == "V_FFV1" else None
 
 
 @functools.lru_cache(maxsize=8)

@@ -82,6 +82,14 @@ def share_slice(one: bytes, other: bytes) -> bool:
     return one == other or any(one[start:end] == other[start:end] and passes(one[start:end]) for start, end in alike)
 
 
+def is_astray(frame: bytes, version: bytes) -> bool:
+    """Whether what seems a version of a frame that passes was taken from other places: it has slices that pass and that the frame does not have
+    there. A version that passes as a whole may be another one, but where it has a slice of the frame at another place."""
+    own, found = ({(start, each[start:end]) for start, end in slices(each) if passes(each[start:end])} for each in (frame, version))
+    is_whole = sum(len(piece) for _, piece in found) == len(version)
+    return not found <= own and (not is_whole or not {piece for _, piece in found - own}.isdisjoint(piece for _, piece in own))
+
+
 def has_only_sizes(frame: bytes) -> bool:
     """Whether the slices of a frame are divided by sizes of three bytes alone, as those without parities are."""
     end, size = len(frame), 1

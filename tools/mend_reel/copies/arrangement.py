@@ -8,7 +8,7 @@ import os
 import pathlib
 from collections.abc import Callable, Iterator, Mapping, Sequence
 
-from ..containers import ebml, ffmpeg_files, ffprobe, files
+from ..containers import ebml, ffmpeg_files, ffprobe, files, own_checks
 from ..containers.files import describe
 from ..containers.frame_times import lasts
 from ..containers.known import structure_of
@@ -18,7 +18,7 @@ from ..judging.judgment import Judgment
 from ..judging.parities import lack_parities
 from ..model import Content, Copy, Fault, Kind, Layout
 from .alignment import Alignment, align
-from .filling import complement, filled
+from .filling import complement, filled, find_filling
 from .frame_pairing import Matched, Recording, complete, pair, pair_sound, share
 
 # How many places say nothing where copies have hardly any content in common.
@@ -252,6 +252,7 @@ def arrange(copies: Sequence[Copy], judge: Judge, judgment: JudgeCopy, work: pat
 
 def read_file(numbers: Sequence[int], copies: Sequence[Copy], judge: Judge, path: pathlib.Path) -> File:
     """A file over all its copies. Where no copy's parts lead through it, it is read again without their long filling."""
+    find_filling(copies)
     layout = describe(copies, judge)
     leads = not layout.gaps and layout.frames and any(not files.flaws_of(copy, copy.form, layout) for copy in copies)
     together = None if leads or len(copies) < 2 else filled(copies, layout, judge, path)
@@ -318,9 +319,23 @@ def relate(basis: File, other: File) -> Matched | None:
     return pairing if share(basis.recording, other.recording, pairing) else None
 
 
+def without_astray(places: Mapping[int, int], copy: Copy, basis: File) -> dict[int, int]:
+    """The places of frames in a copy of another file, but for those at which something else lies than the frame, which passes in the basis:
+    tables that are damaged lead there."""
+    passing = {at: own for number, own in zip(basis.numbers, basis.recording.copies) for at in basis.intact[number]}
+    sizes = [frame.size for frame in basis.layout.frames]
+
+    def is_astray(at: int, place: int) -> bool:
+        frame, version = passing[at].read(basis.layout.frames[at].place, sizes[at]), copy.read(place, sizes[at])
+        return frame != version and own_checks.is_astray(frame, version)
+
+    return {at: place for at, place in places.items() if at not in passing or not is_astray(at, place)}
+
+
 def matched(number: int, copy: Copy, layout: Layout, pairing: Matched, basis: File, judge: Judge) -> Matched:
     """How a copy of another file serves."""
-    places = {each: place for each, place in pairing.places.items() if place + basis.layout.frames[each].size <= copy.size}
+    found = {each: place for each, place in pairing.places.items() if place + basis.layout.frames[each].size <= copy.size}
+    places = without_astray(found, copy, basis)
     judged = judge(copy, [(frame.place, frame.size) for frame in pairing.contrary])
     sizes = {frame.size for frame in pairing.contrary}
     known = {own.read(frame.place, frame.size) for own in basis.recording.copies for frame in basis.layout.frames if frame.size in sizes}

@@ -3,15 +3,18 @@ from __future__ import annotations
 
 import dataclasses
 import pathlib
+import re
 from collections.abc import Iterator, Sequence
 
 from ..containers.files import describe, form_of
 from ..engine.frame_checks import Judge
 from ..judging.unread import spans_in
 from ..model import Copy, Layout, open_copy, or_fault
+from .differences import cut
 
 # Fewer sectors than this are no long filling, and not more of a file than its quarter stands against what copies have alike.
 SECTOR, FEWEST, PIECE, QUARTER = 512, 2, 1 << 20, 4
+ALIKE = re.compile(rb"(.)\1+", re.DOTALL)
 
 
 def runs(copy: Copy) -> list[tuple[int, int]]:
@@ -21,10 +24,10 @@ def runs(copy: Copy) -> list[tuple[int, int]]:
         for place in range(0, copy.size, PIECE):
             piece = copy.read(place, PIECE)
             firsts = piece[::SECTOR]
-            for number, value in enumerate(firsts):
-                # Most sectors are told by their first byte and that of a neighbour.
-                if value in firsts[max(number - 1, 0) : number] + firsts[number + 1 : number + 2] or number + 1 == len(firsts):
-                    add(found, place + SECTOR * number, piece[SECTOR * number : SECTOR * (number + 1)])
+            # Most sectors are told by their first byte and that of a neighbour.
+            alike = [number for match in ALIKE.finditer(firsts) for number in range(*match.span())]
+            for number in sorted({*alike, 0, max(len(firsts) - 1, 0)}):
+                add(found, place + SECTOR * number, piece[SECTOR * number : SECTOR * (number + 1)])
         copy.runs = [grown(copy, *run) for run in found if run[1] - run[0] >= FEWEST * SECTOR or run[1] == copy.size]
     return copy.runs
 
@@ -44,10 +47,30 @@ def grown(copy: Copy, start: int, end: int, value: bytes) -> tuple[int, int]:
     return start - len(before) + len(before.rstrip(value)), end + len(after) - len(after.lstrip(value))
 
 
+def hidden(copy: Copy, others: Sequence[Copy]) -> list[tuple[int, int]]:
+    """What of the runs of a copy some other one has content at."""
+    found: list[tuple[int, int]] = []
+    for first, last in sorted(part for run in runs(copy) for other in others if other is not copy for part in shown(other, *run)):
+        joins = bool(found) and first <= found[-1][1]
+        found[-1 if joins else len(found) :] = [(found[-1][0], max(last, found[-1][1])) if joins else (first, last)]
+    return found
+
+
 def filling(copy: Copy, others: Sequence[Copy]) -> list[tuple[int, int]]:
-    """The runs of a copy at which another one has content, from the first sector to the last: silence has the same value about what differs."""
-    return [(start, end) for start, end in runs(copy)
-            if any(has_content(other, start) and has_content(other, end - SECTOR) for other in others if other is not copy)]
+    """The runs of a copy at which others have content, one or one after the other, from the first sector to the last: silence has the same value
+    about what differs."""
+    spans = hidden(copy, others)
+    return [(start, end) for start, end in runs(copy) for found in [spans_in(spans, start, end)]
+            if found and found[0][0] < start + SECTOR and found[-1][1] > end - SECTOR and all(
+                after[0] < before[1] + SECTOR for before, after in zip(found, found[1:]))]
+
+
+def shown(other: Copy, start: int, end: int) -> Iterator[tuple[int, int]]:
+    """What of a range another copy has content at, and no long run."""
+    for first, last in [*spans_in(runs(other), start, end), (end, end)]:
+        if first - start >= SECTOR and has_content(other, start) and has_content(other, first - SECTOR):
+            yield start, first
+        start = last
 
 
 def has_content(copy: Copy, place: int) -> bool:
@@ -58,10 +81,14 @@ def has_content(copy: Copy, place: int) -> bool:
 
 def complement(one: Copy, other: Copy) -> bool:
     """Whether two copies of one length have content where the other has long filling, so that they may be of one file."""
-    ours, theirs = filling(one, [other]), filling(other, [one])
-    whole = sum(end - start for start, end in (*ours, *theirs))
-    both = sum(end - start for first, last in ours for start, end in spans_in(theirs, first, last))
-    return bool(ours and theirs) and one.size == other.size and QUARTER * whole >= one.size and QUARTER * both < whole
+    ours, theirs = (sum(last - first for first, last in hidden(copy, [there])) for copy, there in ((one, other), (other, one)))
+    return bool(ours and theirs) and one.size == other.size and QUARTER * (ours + theirs) >= one.size
+
+
+def find_filling(copies: Sequence[Copy]) -> None:
+    """Notes the long filling of copies of one file."""
+    for copy in copies:
+        copy.filling = filling(copy, copies)
 
 
 @dataclasses.dataclass
@@ -73,15 +100,13 @@ class Filled:
 
 
 def filled(copies: Sequence[Copy], layout: Layout, judge: Judge, path: pathlib.Path) -> Filled | None:
-    """A file as its copies have it together, which is written to a path: where a copy has filling another one counts. None if no copy has
-    any. What lies where in it is as it was known, if no more is found."""
-    spans = [filling(copy, copies) for copy in copies]
+    """A file as its copies have it together, which is written to a path: where a copy has a long run another one counts that has content. None if
+    no copy has any. What lies where in it is as it was known, if no more is found."""
+    spans = [hidden(copy, copies) for copy in copies]
     if not any(spans):
         return None
     with or_fault(f"cannot write {path}"), open(path, "wb") as file:
         file.writelines(pieces(copies, spans))
-    for copy, own in zip(copies, spans):
-        copy.filling = own
     made = open_copy(str(path))
     made.form = form_of(made)
     found = describe([made], judge)
@@ -89,12 +114,15 @@ def filled(copies: Sequence[Copy], layout: Layout, judge: Judge, path: pathlib.P
     return Filled(made, placed(found, copies) if is_more else layout)
 
 
-def placed(layout: Layout, copies: Sequence[Copy]) -> Layout:
-    """A layout with the places of its stretches in copies of the file, if it was made of one of them alone."""
+def placed(layout: Layout, copies: Sequence[Copy], own: int | None = None) -> Layout:
+    """A layout with the places of its stretches in copies of the file, if it was made of one file alone: of the copy with the number `own`, or of
+    none of them. What that file confirms no other copy does."""
     if all(len(stretch.places) == len(copies) for stretch in layout.stretches):
         return layout
     return dataclasses.replace(layout, stretches=[dataclasses.replace(
-        stretch, places=tuple(stretch.start if stretch.end <= copy.size else None for copy in copies)) for stretch in layout.stretches])
+        stretch, places=tuple(stretch.start if stretch.end <= copy.size else None for copy in copies),
+        vouched=frozenset() if own is None or not stretch.vouched else frozenset({own}))
+        for stretch in cut(layout.stretches, {copy.size for copy in copies})])
 
 
 def pieces(copies: Sequence[Copy], spans: Sequence[Sequence[tuple[int, int]]]) -> Iterator[bytes]:

@@ -65,7 +65,10 @@ def goes_on(stretch: Stretch, copies: Sequence[Copy], number: int, run: tuple[in
     """Whether a run of one value in a copy goes on in all copies beside a stretch, within the part that this was cut of: silence or padding.
     One that begins within a part and goes to its end is a lost sector."""
     place, whole = stretch.places[number] or 0, stretch.part_of or (stretch.start, stretch.end)
-    sides = ((max(run[0], place - stretch.start + whole[0]), place), (place + stretch.size, min(run[1], place - stretch.start + whole[1])))
+    first, last = (place - stretch.start + bound for bound in whole)
+    if first < run[0] < last <= run[1]:
+        return False
+    sides = ((max(run[0], first), place), (place + stretch.size, min(run[1], last)))
     return any(end - start >= FEWEST_LOST and all(copies[other].read(start + shift, end - start) == copies[number].read(start, end - start)
                                                   for other, shift in shifts) for start, end in sides)
 

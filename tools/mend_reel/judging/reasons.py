@@ -59,7 +59,7 @@ class Why(enum.Enum):
     LOST = "a sector of the sound there has one value all over, as where it was lost; a further copy may have it"
     BARE = "this has no checksum, though what lies beside it has one; its checksum may be lost"
     RECORD = "what describes its video to a decoder (the Configuration Record) fails its parity; a further copy may have it right"
-    ROTTEN = ("parts of {it} fail their own checks, though nothing else does: {it} was damaged before this file was written{spread}; "
+    ROTTEN = ("parts of {it} fail their own checks, though nothing else does: {they_were} damaged before this file was written{spread}; "
               "a copy of an earlier file may have {it}")
     UNCHECKED = "no frame has a checksum, so no damage in them can be found; a further copy may confirm them"
     CONTRARY = "copy {copy} has other intact frames at these times; see whether it is of the same recording"
@@ -138,7 +138,8 @@ class Reason:
         """The reason in a line, in which OUT has a name."""
         it = "them" if self.is_many() else "it"
         remedy = self.remedy or f"a further copy may have {it} whole"
-        why = self.why.value.format(it=it, spread=self.spread_text(it), remedy=remedy, source=one_more(self.source), copy=one_more(self.copy),
+        they_were = "they were" if self.is_many() else "it was"
+        why = self.why.value.format(it=it, they_were=they_were, spread=self.spread_text(it), remedy=remedy, source=one_more(self.source), copy=one_more(self.copy),
                                     because=self.because.value, out=out, has=self.has, count=self.count,
                                     amount=f"{self.count:,} byte{'s' if self.count != 1 else ''}")
         return f"{self.subject(out)}{self.where()}: {why}"

@@ -44,6 +44,7 @@ class Evidence:
     told: Sequence[Reason] = ()  # what is in doubt by the copies themselves: maps, and changes of shift
     is_alone: bool = False  # there is one copy, so that OUT is judged as a file that is checked
     is_good: bool = False  # OUT is an undamaged copy
+    disordered: Set[int] = frozenset()  # the copies whose own parts say that bytes were lost from them or put into them
 
 
 @dataclasses.dataclass
@@ -194,9 +195,10 @@ def find_lacks(evidence: Evidence, results: Results) -> Iterator[Reason]:
 
 def of_shifts(evidence: Evidence, results: Results) -> Iterator[Reason]:
     """Where a copy that lost or gained bytes begins to lie otherwise, if no checksum is over it in OUT. Of an undamaged copy those bytes alone
-    are in doubt that the other one lacks: what this has more is nothing that its own parts speak of."""
+    are in doubt that the other one lacks: what this has more is nothing that its own parts speak of. Where the other one's own parts say that
+    bytes were lost or put in, nothing is in doubt."""
     starts = [stretch.start for stretch in results.stretches]
-    for matched in (each for each in evidence.matched if each.alignment):
+    for matched in (each for each in evidence.matched if each.alignment and not (evidence.is_good and each.number in evidence.disordered)):
         for before, after in zip(matched.alignment.spans, matched.alignment.spans[1:]):
             place = min(before.end, evidence.layout.size - 1)
             at = bisect.bisect_right(starts, place) - 1

@@ -42,6 +42,8 @@ PIECE = 1 << 20
 # How many frames a report shows.
 MOST_SHOWN = 200
 WRITERS = {"report": page.write, "json": json_document.write}
+# What is wrong with a file of which the parts that are there lie where they should.
+NO_DISORDER = frozenset({Flaw.LOST, Flaw.CUT, Flaw.AFTER_END})
 
 
 @dataclasses.dataclass
@@ -73,7 +75,8 @@ class Attempt:
     def is_copy(self, number: int) -> bool:
         """Whether OUT is byte for byte one of the copies of its file."""
         at, file = self.inputs.numbers.index(number), self.inputs.files[self.inputs.numbers.index(number)]
-        return not self.layout.gaps and self.layout.size == file.size and all(each.marks[at] == "1" for each in self.made.outcomes)
+        has_all = all(stretch.places[at] is not None for stretch in self.made.stretches)
+        return has_all and not self.layout.gaps and self.layout.size == file.size and all(each.marks[at] == "1" for each in self.made.outcomes)
 
     def damaged(self) -> set[int]:
         """The copies of OUT's file in which a check fails, as OUT passes it and the bytes before it, which lead there, are OUT's."""
@@ -169,6 +172,7 @@ class Session:
         self.told: list[Reason] = []
         self.copies: list[Copy] = []
         self.judgments: dict[int, Judgment] = {}
+        self.layouts: dict[str, Layout] = {}
 
     def run(self) -> Summary:
         """Does the work."""
@@ -196,8 +200,14 @@ class Session:
     def judgment(self, number: int) -> Judgment:
         """The judgment of a copy, which is made once."""
         if number not in self.judgments:
-            self.judgments[number] = judge_file(self.copies[number], self.scan)
+            self.judgments[number] = judge_file(self.copies[number], self.scan, self.layout_of(self.copies[number]))
         return self.judgments[number]
+
+    def layout_of(self, copy: Copy) -> Layout:
+        """What lies where in a copy by itself alone."""
+        if copy.path not in self.layouts:
+            self.layouts[copy.path] = describe([copy], self.scan)
+        return self.layouts[copy.path]
 
     # ---- a file that is checked
 
@@ -255,7 +265,8 @@ class Session:
         verdict = judge(Evidence(
             layout, made.stretches, made.outcomes, made.out, claims, arrangement.matched, arrangement.left, inputs.numbers, others,
             bool(attempt.comparison.notes), made.decoded, self.compared(made.part, made.out), made.flaws, made.failing, alike, self.told,
-            len(self.copies) == 1, arrangement.good is not None))
+            len(self.copies) == 1, arrangement.good is not None,
+            {matched.number for matched in arrangement.matched if matched.alignment and self.lost_or_gained(self.copies[matched.number])}))
         self.keep_frames(layout, inputs, made.stretches, verdict)
         summary = self.summary(arrangement, layout, verdict, made.part)
         if self.outputs.out is not None:
@@ -273,26 +284,44 @@ class Session:
     def attempt(self, arrangement: Arrangement) -> Attempt:
         """Has OUT made of copies that are arranged so."""
         own = [self.copies[number] for number in arrangement.basis]
-        layout = placed(arrangement.layout, own)
+        layout = placed(arrangement.layout, own, None if arrangement.good is None else arrangement.basis.index(arrangement.good))
         layout = without_parts(layout) if lack_parities(layout, own) else layout
+        if arrangement.good is not None:
+            # What an undamaged copy has one value at may be what was recorded.
+            for copy in (self.copies[number] for number in arrangement.basis if self.copies[number].filling and is_good(self.judgment(number))):
+                copy.filling = ()
         inputs, layout = gather(arrangement, layout, self.copies, self.work)
         self.progress.begin("comparing the copies")
         comparison = compare(layout, inputs, self.progress.at)
         if arrangement.good is not None:
             at = inputs.numbers.index(arrangement.good)
             others = [number for number in range(inputs.own) if number != at and by_start(inputs.files[at])]
-            broken = set(filter(lambda number: self.is_broken(inputs.files[number]), others))
+            broken = {number for number in others if self.is_broken(inputs.files[number], arrangement.good)}
             comparison.layout.stretches = [dataclasses.replace(without_broken(stretch, broken), source=at, because=Because.GOOD)
                                            for stretch in comparison.layout.stretches]
         return Attempt(arrangement, layout, comparison, self.make(comparison, arrangement.good is not None))
 
-    def is_broken(self, copy: Copy) -> bool:
-        """Whether the parts of a copy do not hang together, so that where they lie differs from an undamaged copy is no doubt."""
-        if copy.is_broken is None:
-            layout = describe([copy], self.scan) if by_start(copy) else None
-            copy.is_broken = layout is None or bool(layout.gaps) or any(
-                found.flaw is not Flaw.LOST for found in flaws_of(copy, copy.form, layout))
-        return copy.is_broken
+    def is_disordered(self, copy: Copy) -> bool:
+        """Whether the parts of a copy do not hang together, so that where they lie is no doubt of an undamaged copy. It is asked once."""
+        if copy.is_disordered is None:
+            layout = self.layout_of(copy) if by_start(copy) else None
+            copy.is_disordered = layout is None or any(place < copy.size for place, _ in layout.gaps) or any(
+                found.flaw not in NO_DISORDER for found in flaws_of(copy, copy.form, layout))
+        return copy.is_disordered
+
+    def lost_or_gained(self, copy: Copy) -> bool:
+        """Whether a copy's own parts say that bytes were lost from it or put into it."""
+        return self.is_disordered(copy) or any(found.flaw is Flaw.CUT for found in flaws_of(copy, copy.form, self.layout_of(copy)))
+
+    def is_broken(self, copy: Copy, good: int) -> bool:
+        """Whether the parts of a copy do not hang together, or lead to other frames than those of an undamaged copy of its file."""
+        return self.is_disordered(copy) or any((one.place, one.size) != (other.place, other.size) for one, other in zip(
+            self.layout_of(copy).frames, self.layout_of(self.copies[good]).frames))
+
+    def has_broken(self, attempt: Attempt, good: int) -> bool:
+        """Whether something of OUT is open, and a copy is there that is broken: its versions may be all that says so."""
+        own = attempt.inputs.files[: attempt.inputs.own]
+        return any(each.state is State.OPEN for each in attempt.made.outcomes) and any(self.is_broken(copy, good) for copy in own)
 
     def better(self, attempt: Attempt) -> Arrangement | None:
         """Another way to arrange the copies, if OUT is none of the undamaged ones, or shows more of itself than they did; None if not."""
@@ -305,7 +334,9 @@ class Session:
             own = attempt.inputs.files[: attempt.inputs.own]
             votes = evidence.votes(attempt.made.stretches, attempt.made.outcomes, own) if len(undamaged) > 1 else {}
             made = with_good(arrangement, undamaged, self.judgments, {number: votes.get(at, 0) for at, number in enumerate(arrangement.basis)})
-            if attempt.is_copy(made.good or 0) and not made.editions:
+            good = made.good or 0
+            is_known = not made.editions and not any(self.copies[number].filling for number in undamaged) and not self.has_broken(attempt, good)
+            if is_known and attempt.is_copy(good):
                 arrangement.good, arrangement.differ = made.good, bool(attempt.made.outcomes or arrangement.matched)
                 return None
             return made

@@ -107,9 +107,11 @@ def times_of(times: Iterable[float | None]) -> list[float | None] | None:
 
 
 def listed(results: Results, shown: Mapping[int, Drawn] = NONE_SHOWN) -> Iterator[Made]:
-    """The stretches that are not whole in every copy. `shown` has the frames of which a picture was made, by their numbers in the layout."""
+    """The stretches that are not whole in every copy, or have a frame that is damaged in each. `shown` has the frames of which a picture was made,
+    by their numbers in the layout."""
+    damaged = {result.stretch for result in results.frames.values()}
     for number, state in enumerate(results.states):
-        if number in results.outcomes or not state.is_good():
+        if number in results.outcomes or number in damaged or not state.is_good():
             yield stretch_of(results, number, shown)
 
 
