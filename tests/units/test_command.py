@@ -345,6 +345,26 @@ class InterruptedTest(InFolder):
                 (self.folder / name).unlink(missing_ok=True)
 
 
+class InterruptedCheckTest(InFolder):
+    def test_what_was_judged_before_stands(self) -> None:
+        slow, reached = self.work.parent / "slow", self.work.parent / "reached"
+        slow.mkdir()
+        self.program = stand_in.make(slow, "import os, pathlib, time\n"
+                                           "if words[0] == 'scan' and os.path.realpath(words[2]).endswith('b.mkv'):\n"
+                                           f"    pathlib.Path({str(reached)!r}).touch()\n    time.sleep(60)")
+        words = [sys.executable, str(TOOL), "--json", "made.json", "--check", "a.mkv", "b.mkv", "a.mkv"]
+        child = subprocess.Popen(words, cwd=self.folder, env=self.environment(), stdout=subprocess.PIPE, stderr=subprocess.PIPE)
+        deadline = time.monotonic() + 60
+        while not reached.exists() and child.poll() is None and time.monotonic() < deadline:
+            time.sleep(0.01)
+        child.send_signal(signal.SIGTERM)
+        printed, said = (text.decode() for text in child.communicate())
+        self.assertEqual((child.returncode, said), (1, "mend-reel: interrupted: 2 of 3 files were not judged\n"))
+        self.assertTrue(printed.startswith("a.mkv: "), printed)
+        self.assertEqual([entry["copies"][0]["path"] for entry in json.loads((self.folder / "made.json").read_text())["files"]], ["a.mkv"])
+        self.assertEqual(list(self.work.iterdir()), [])
+
+
 class SlowTest(InFolder):
     """Calls beside one that mends for a minute, and after it was killed."""
 

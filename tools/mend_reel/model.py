@@ -23,6 +23,10 @@ class Fault(Exception):
     """What ends the work, in one line: status 1."""
 
 
+class Interrupted(BaseException):
+    """What ends the work because a signal came. Nothing that gets over a fault gets over this."""
+
+
 @contextlib.contextmanager
 def or_fault(what: str) -> Iterator[None]:
     """Makes a fault of what the system refuses, in a line that begins with what could not be done."""

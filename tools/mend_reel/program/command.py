@@ -9,17 +9,13 @@ import sys
 from collections.abc import Iterable
 from typing import Any, NoReturn, TextIO
 
-from ..model import Fault
+from ..model import Fault, Interrupted
 from . import options, session
 from .kept_frames import refuse_kept
 from .output_files import (INTERRUPTS, Files, WorkFolder, descriptor_of, holds_data, in_one_line, is_recording, is_same, is_written_to,
                            uninterrupted)
 from .progress import Progress
 from .session import Outputs
-
-
-class Interrupted(BaseException):
-    """What ends the work because a signal came. Nothing that gets over a fault gets over this."""
 
 
 def ignore_interrupts() -> None:

@@ -29,7 +29,7 @@ from ..judging.parities import NO_PARITIES, lack_parities, without_parts
 from ..judging.reasons import Reason, Why
 from ..judging.results import NO_COPY, VERIFIED, FrameResult, FrameState, NearEnd, Results
 from ..mending.verdict import Evidence, Verdict, judge, verdict_of_file
-from ..model import Because, Copy, Fault, Frame, Kind, Layout, Outcome, SliceReport, State, Stretch, Track, open_copy, or_fault
+from ..model import Because, Copy, Fault, Frame, Interrupted, Kind, Layout, Outcome, SliceReport, State, Stretch, Track, open_copy, or_fault
 from ..reports import json_document, page
 from ..reports.summary import CopySummary, Entry, Role, Summary, Unreadable, of_files
 from . import ddrescue_maps, output_files
@@ -115,10 +115,19 @@ class Outputs:
 
 def run(options: Options, work: pathlib.Path, outputs: Outputs, progress: Progress) -> tuple[list[str], int, list[Fault]]:
     """Makes OUT, or judges each file by itself. OUT has its place before anything else is written. Returns the lines to print, the exit
-    status, and what could not be judged or written."""
-    entries: Sequence[Entry] = ([Session(options, work, outputs, progress).run()] if options.out is not None
-                                else list(checked(options, work, outputs, progress)))
-    faults = [Fault(entry.fault) for entry in entries if isinstance(entry, Unreadable)] + outputs.write_reports(entries)
+    status, and what could not be judged or written. Where an interrupt ends a check, what was judged until then stands."""
+    entries: list[Entry] = []
+    faults: list[Fault] = []
+    try:
+        if options.out is not None:
+            entries.append(Session(options, work, outputs, progress).run())
+        for entry in () if options.out is not None else checked(options, work, outputs, progress):
+            entries.append(entry)
+    except Interrupted:
+        if not entries:
+            raise
+        faults.append(Fault(f"interrupted: {len(options.copies) - len(entries)} of {len(options.copies)} files were not judged"))
+    faults = [Fault(entry.fault) for entry in entries if isinstance(entry, Unreadable)] + faults + outputs.write_reports(entries)
     lines = [line for entry in entries for line in entry.lines()] + ([of_files(entries)] if len(entries) > 1 else [])
     return lines, max(entry.status for entry in entries), faults
 
