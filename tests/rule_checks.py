@@ -3,12 +3,13 @@ each order of the copies."""
 from __future__ import annotations
 
 import itertools
+import pathlib
 import re
 import typing
 from functools import partial
 
 import small_recordings as small
-from rule_desk import Check, Desk, Kit, dishonest, not_damaged, not_out, said_of_check
+from rule_desk import NOT_OF_CHECKS, Check, Desk, Kit, dishonest, not_damaged, not_out, said_of_check
 from small_recordings import SECTOR, Recording
 
 CONTAINERS = ("matroska", "matroska-plain", "avi", "nut", "mov")
@@ -91,8 +92,15 @@ def says_what_is(desk: Desk, recording: Recording) -> Problems:
     yield from not_damaged(found)
     if "mend-reel -o OUT" not in found.text:
         yield "it is not said what mend-reel -o OUT would do about it"
-    if not (desk.folder / "made.html").exists():
-        yield "there is no page"
+    yield from said_by_page(desk.folder / "made.html")
+
+
+def said_by_page(page: pathlib.Path) -> Problems:
+    """What a page of a check says that a check never says. What the program does about damage is named by its call alone."""
+    text = re.sub(r"<(style|script|code)\b.*?</\1>|<[^>]+>", " ", page.read_text(), flags=re.S) if page.exists() else ""
+    word = NOT_OF_CHECKS.search(text)
+    if word or not text:
+        yield f"the page says '{text[word.start() - 60 : word.end() + 60]}'" if word else "there is no page"
 
 
 def counts_files(desk: Desk, recording: Recording) -> Problems:

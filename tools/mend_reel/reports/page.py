@@ -22,12 +22,13 @@ STYLE = (pkgutil.get_data(__package__, "page.css") or b"").decode().replace("\n"
 SUMS = {"verified": "pass a checksum", "agreed": "have none, and several copies agree",
         "read": "have none, and only that copy could be read there", "alone": "have none, and one copy alone has them",
         "open": "are damaged, or differ and nothing decides"}
-HATCHED = ("Hatched: tiles of which the footers of the copies lead to no undamaged slice, or to several, or whose slice can't be decoded. "
+HATCHED = ("Hatched: tiles of which the footers lead to no undamaged slice, or to several, or whose slice can't be decoded. "
            "Of samples of more than 8 bits the upper 8 are shown, and alpha is not.")
 STANDS = {"missing": "not restored"}
 HOW = {"settled": "that of {many} {givers}", "woven": "woven from several copies, one of {count} combinations",
        "voted": "what most copies have, one of {count} combinations", "repaired": "one wrong bit inverted, one of {count} repairs",
        "disputed": "different ones pass", "missing": "none passes"}
+OF_CHECKS = {"missing": "the parity fails"}
 
 
 def text(words: Any) -> str:
@@ -79,7 +80,8 @@ def doubts(summary: Summary) -> str:
 
 
 def counts(summary: Summary) -> str:
-    sums, frames_of = summary.verdict.sums.named(), summary.verdict.counts.named()
+    sums, named = summary.verdict.sums.named(), summary.verdict.counts.named()
+    frames_of = {name: count for name, count in named.items() if summary.out or name in ("frames", "damaged")}
     first = "".join(f'<tr><th scope="row">{name}</th><td class="n">{count:,}</td></tr>' for name, count in frames_of.items())
     second = "".join(f'<tr><th scope="row">{name}</th><td class="n">{sums[name]:,}</td><td>{meaning}</td></tr>'
                      for name, meaning in SUMS.items())
@@ -89,26 +91,27 @@ def counts(summary: Summary) -> str:
 
 def copies(summary: Summary) -> str:
     """A table of the copies and OUT, and the tracks."""
-    heads = "".join(f"<th>{head}</th>" for head in ("", "File", "Container", "Bytes", "Verified", "Serves as"))
-    rows = "".join(copy_row(f"copy {number}", copy, copy.role.value + (f": {copy.why}" if copy.why else ""))
+    heads = "".join(f"<th>{head}</th>" for head in ("", "File", "Container", "Bytes", "Verified", *(("Serves as",) if summary.out else ())))
+    rows = "".join(copy_row(f"copy {number}", copy, copy.role.value + (f": {copy.why}" if copy.why else "") if summary.out else None)
                    for number, copy in enumerate(summary.copies, 1)) + (copy_row("OUT", summary.out, "") if summary.out else "")
     tracks = "".join(f'<li>track {track.number}: {track.content.value}, {text(track.codec)}'
                      + (f", {track.width} × {track.height}" if track.width else "") + "</li>" for track in summary.layout.tracks)
     return f'<h2>Files</h2><table class="wide"><thead><tr>{heads}</tr></thead><tbody>{rows}</tbody></table><ul>{tracks}</ul>'
 
 
-def copy_row(name: str, copy: CopySummary, role: str) -> str:
+def copy_row(name: str, copy: CopySummary, role: str | None) -> str:
+    """A row of a file; `role` is how it serves, if it is one of several."""
     digest = f'<br><code class="sha">SHA-256 {copy.sha256}</code>' if copy.sha256 else ""
     verified = "" if copy.verified is None else share_of(copy.verified, copy.size)
     return (f'<tr><th scope="row">{name}</th><td class="w">{text(copy.name())}{digest}</td><td>{text(copy.form or "unknown")}</td>'
-            f'<td class="n">{copy.size:,}</td><td class="n">{verified}</td><td>{text(role)}</td></tr>')
+            f'<td class="n">{copy.size:,}</td><td class="n">{verified}</td>' + ("" if role is None else f"<td>{text(role)}</td>") + "</tr>")
 
 
 def timeline(summary: Summary) -> str:
     drawn = Timeline(summary)
     more = f"<p>{drawn.more} further copies are not drawn.</p>" if drawn.more else ""
-    worst = f"{drawn.out[0].upper() + drawn.out[1:]}, the worst of each place"
-    return "<h2>Where the damage lies</h2>" + drawn.svg() + more + legend("Copies", OF_COPY) + legend(worst, OF_OUT)
+    of_out = legend("OUT, the worst of each place", OF_OUT) if summary.out else ""
+    return "<h2>Where the damage lies</h2>" + drawn.svg() + more + legend("Copies" if summary.out else "The file", OF_COPY) + of_out
 
 
 def legend(what: str, shades: Sequence[Shade]) -> str:
@@ -126,10 +129,11 @@ def frames(summary: Summary) -> str:
     if not damaged:
         return "<h2>Damaged frames</h2><p>No frame is damaged.</p>"
     several = sum(track.is_ffv1 for track in summary.layout.tracks) > 1
-    heads = ("Frame", *(("Track",) if several else ()), "Time", "Damaged in copy", "Mended",
-             "Damaged slices, by bytes of the frame, and how they are mended")
-    rows = "".join(frame_row(result, frame_of(result, results), several) for result in damaged[:MOST_ROWS])
-    return "<h2>Damaged frames</h2><p>Those that are not restored come first.</p>" + table(heads, rows, len(damaged))
+    heads = ("Frame", *(("Track",) if several else ()), "Time", *(("Damaged in copy", "Mended") if summary.out else ()),
+             "Damaged slices, by bytes of the frame" + (", and how they are mended" if summary.out else ""))
+    rows = "".join(frame_row(result, frame_of(result, results), several, summary.out is None) for result in damaged[:MOST_ROWS])
+    first = "<p>Those that are not restored come first.</p>" if summary.out else ""
+    return f"<h2>Damaged frames</h2>{first}" + table(heads, rows, len(damaged))
 
 
 def table(heads: Sequence[str], rows: str, count: int) -> str:
@@ -138,15 +142,16 @@ def table(heads: Sequence[str], rows: str, count: int) -> str:
     return f'{more}<table class="wide"><thead><tr>{cells}</tr></thead><tbody>{rows}</tbody></table>'
 
 
-def frame_row(result: FrameResult, frame: Made, several: bool) -> str:
-    """A row of a frame, which the document has so."""
+def frame_row(result: FrameResult, frame: Made, several: bool, is_check: bool) -> str:
+    """A row of a frame, which the document has so. Of a file that is checked it says what of the frame is damaged."""
     damaged = [place for each, place in zip(result.slices, frame["slices"]) if each.state != "settled" or "0" in each.marks]
     spans = [f"{', '.join('{} to {}'.format(*place['range_in_frame']) for place in group)}: {how}"
-             for how, group in itertools.groupby(damaged[:MOST_SLICES], key=how_slice)]
+             for how, group in itertools.groupby(damaged[:MOST_SLICES], key=functools.partial(how_slice, is_check=is_check))]
     spans += [f"and {len(damaged) - MOST_SLICES} more slices"] if len(damaged) > MOST_SLICES else []
     track = f'<td class="n">{frame["track"]}</td>' if several else ""
-    return (f'<tr><td class="n">{frame["frame"]}</td>{track}<td class="n">{time_code(frame["time"])}</td>'
-            f"<td>{numbers(frame['damaged_in'])}</td><td class=\"k\">{frame['state']}</td><td>{'<br>'.join(map(text, spans))}</td></tr>")
+    mended = "" if is_check else f"<td>{numbers(frame['damaged_in'])}</td><td class=\"k\">{frame['state']}</td>"
+    return (f'<tr><td class="n">{frame["frame"]}</td>{track}<td class="n">{time_code(frame["time"])}</td>{mended}'
+            f"<td>{'<br>'.join(map(text, spans))}</td></tr>")
 
 
 def pictures(summary: Summary) -> str:
@@ -158,7 +163,8 @@ def pictures(summary: Summary) -> str:
     figures = "".join(map(functools.partial(figure, results=summary.verdict.results, several=several), shown))
     lost = summary.verdict.counts.lost
     most = f" {len(shown):,} of {lost:,} are shown, those with the most lost tiles." if lost > len(shown) else ""
-    return f'<h2>What can be shown of frames that are not restored</h2><p>{HATCHED}{most}</p><div class="frames">{figures}</div>'
+    what = "frames that are not restored" if summary.out else "damaged frames"
+    return f'<h2>What can be shown of {what}</h2><p>{HATCHED}{most}</p><div class="frames">{figures}</div>'
 
 
 def figure(drawn: Drawn, results: Results, several: bool) -> str:
@@ -182,10 +188,10 @@ def captions(drawn: Drawn) -> Iterator[str]:
         yield f"{len(tiles.unclean)} shown, but their slices do not end as an encoder ends them"
 
 
-def how_slice(place: Made) -> str:
-    """What OUT has in place of a slice that is damaged in some copy."""
+def how_slice(place: Made, is_check: bool = False) -> str:
+    """What OUT has in place of a slice that is damaged in some copy; of a file that is checked, in what it is damaged."""
     many = "copies" if len(place["given_by"]) != 1 else "copy"
-    how = HOW.get(place["state"], "the footers do not lead there")
+    how = (OF_CHECKS if is_check else HOW).get(place["state"], "the footers do not lead there")
     return how.format(many=many, givers=numbers(place["given_by"]), count=place["combinations"])
 
 
@@ -196,18 +202,18 @@ def numbers(copies_of: Iterable[int]) -> str:
 def others(summary: Summary) -> str:
     """What else is damaged in some copy: sound, headers, index and so on."""
     damaged = (stretch for stretch in listed(summary.verdict.results) if stretch["checksum"] != Kind.FRAME.value and not stretch["frames"])
-    rows = list(map(other_row, itertools.islice(damaged, MOST_ROWS)))
+    rows = list(map(functools.partial(other_row, is_check=summary.out is None), itertools.islice(damaged, MOST_ROWS)))
     count = len(rows) + sum(1 for _ in damaged)
-    heads = ("What", "Time", "Bytes", "Damaged in copy", "Mended")
+    heads = ("What", "Time", "Bytes", *(("Damaged in copy", "Mended") if summary.out else ()))
     return "<h2>Other damage</h2>" + table(heads, "".join(rows), count) if rows else ""
 
 
-def other_row(stretch: Made) -> str:
+def other_row(stretch: Made, is_check: bool = False) -> str:
     track = "" if stretch["track"] is None else f" of track {stretch['track']}"
     start, end = stretch["times"] or (None, None)
     time = "" if start is None else span_of_times((start, start if end is None else end))
     other = sorted({place["copy"] for place in stretch["places"] if place["is_alike"] is False})
     first, last = stretch["range"]
-    return (f"<tr><td>{stretch['content']}{track}</td><td>{time}</td><td class=\"n\">{first:,} to {last:,}</td><td>{numbers(other)}</td>"
-            f"<td>{STANDS.get(stretch['state'], stretch['state'])}</td></tr>")
+    mended = "" if is_check else f"<td>{numbers(other)}</td><td>{STANDS.get(stretch['state'], stretch['state'])}</td>"
+    return f"<tr><td>{stretch['content']}{track}</td><td>{time}</td><td class=\"n\">{first:,} to {last:,}</td>{mended}</tr>"
 

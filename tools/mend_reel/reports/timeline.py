@@ -63,7 +63,7 @@ class Timeline:
 
     def __init__(self, summary: Summary) -> None:
         self.summary, self.results = summary, summary.verdict.results
-        self.size, self.out = max(summary.layout.size, 1), "OUT" if summary.out else "mended"
+        self.size = max(summary.layout.size, 1)
         shown = [number for number, copy in enumerate(summary.copies) if copy.role is not Role.LEFT]
         self.copies: list[int | None] = [*shown[:MOST_COPIES], None]
         self.more = len(shown) - len(shown[:MOST_COPIES])
@@ -128,8 +128,8 @@ class Timeline:
     def svg(self) -> str:
         """The picture as SVG."""
         parts, top = [], 0
-        for copy in self.copies:
-            name = self.out if copy is None else f"copy {copy + 1}"
+        for copy in self.copies if self.summary.out else self.copies[:-1]:
+            name = "OUT" if copy is None else f"copy {copy + 1}" if self.summary.out else "the file"
             for kind in self.kinds:
                 parts.append(self.row(copy, kind, name, top))
                 top += (BAR if kind == self.FRAMES else THIN) + 2
