@@ -61,6 +61,11 @@ class FillingTest(unittest.TestCase):
         self.assertEqual([filling(copy, copies) for copy in copies], [[], []])
         self.assertEqual(b"".join(pieces(copies, [hidden(copy, copies) for copy in copies])), padded)
 
+    def test_a_short_last_sector(self):
+        content, end = CONTENT[:16160], 15872
+        copies = self.opened(zeroed(content, (end, 16160)), zeroed(content, (8192, end)))
+        self.assertEqual([filling(copy, copies) for copy in copies], [[(end, 16160)], [(8192, end)]])
+
     def test_copies_of_other_lengths_do_not_complement_each_other(self):
         one, other = self.opened(zeroed(CONTENT, (0, 8192)), zeroed(CONTENT, (8192, SIZE))[:-1])
         self.assertFalse(complement(one, other))

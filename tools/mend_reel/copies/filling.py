@@ -66,9 +66,10 @@ def filling(copy: Copy, others: Sequence[Copy]) -> list[tuple[int, int]]:
 
 
 def shown(other: Copy, start: int, end: int) -> Iterator[tuple[int, int]]:
-    """What of a range another copy has content at, and no long run."""
+    """What of a run another copy has content at, and no long run: a sector or more, or all of a short run at the end."""
+    least = min(SECTOR, end - start)
     for first, last in [*spans_in(runs(other), start, end), (end, end)]:
-        if first - start >= SECTOR and has_content(other, start) and has_content(other, first - SECTOR):
+        if first - start >= least and has_content(other, start) and has_content(other, first - least):
             yield start, first
         start = last
 
