@@ -196,15 +196,17 @@ def find_lacks(evidence: Evidence, results: Results) -> Iterator[Reason]:
 def of_shifts(evidence: Evidence, results: Results) -> Iterator[Reason]:
     """Where a copy that lost or gained bytes begins to lie otherwise, if no checksum is over it in OUT. Of an undamaged copy those bytes alone
     are in doubt that the other one lacks: what this has more is nothing that its own parts speak of. Where the other one's own parts say that
-    bytes were lost or put in, nothing is in doubt."""
+    bytes were lost or put in, and it has all the others alike, nothing is in doubt."""
     starts = [stretch.start for stretch in results.stretches]
-    for matched in (each for each in evidence.matched if each.alignment and not (evidence.is_good and each.number in evidence.disordered)):
+    for matched in (each for each in evidence.matched if each.alignment):
+        is_told = evidence.is_good and matched.number in evidence.disordered
         for before, after in zip(matched.alignment.spans, matched.alignment.spans[1:]):
             place = min(before.end, evidence.layout.size - 1)
             at = bisect.bisect_right(starts, place) - 1
             is_lacking = after.start > before.end or not evidence.is_good
             is_in_frame = any(frame.place <= place < frame.end for frame in results.stretches[at].parts)
-            if is_lacking and results.states[at] not in VERIFIED and not is_in_frame:
+            is_known = is_told and (after.start == before.end or after.start + after.shift == before.end + before.shift)
+            if is_lacking and not is_known and results.states[at] not in VERIFIED and not is_in_frame:
                 yield Reason(Why.SHIFT, bytes=(place, max(after.start, place + 1)), source=results.source(results.stretches[at]))
 
 
