@@ -90,11 +90,11 @@ pub record SoFar (ids content : List ℕ) (place : ℕ) : Type 0 where
   pub joined : take place content ≡ concat children
   pub each : AllByRecursion (IsChild ids) children
 
-concat_snoc : (kids : List (List ℕ)) (kid : List ℕ) → concat (kids ++ kid ∷ []) ≡ concat kids ++ kid
+pub concat_snoc : (kids : List (List ℕ)) (kid : List ℕ) → concat (kids ++ kid ∷ []) ≡ concat kids ++ kid
 concat_snoc [] kid = append-nil kid
 concat_snoc (k ∷ ks) kid = ap (λ z. k ++ z) (concat_snoc ks kid) ∙ sym (append_assoc k (concat ks) kid)
 
-each_snoc : (ids : List ℕ) (kids : List (List ℕ)) (kid : List ℕ) → AllByRecursion (IsChild ids) kids → IsChild ids kid → AllByRecursion (IsChild ids) (kids ++ kid ∷ [])
+pub each_snoc : (ids : List ℕ) (kids : List (List ℕ)) (kid : List ℕ) → AllByRecursion (IsChild ids) kids → IsChild ids kid → AllByRecursion (IsChild ids) (kids ++ kid ∷ [])
 each_snoc ids [] kid each is = (is, tt)
 each_snoc ids (k ∷ ks) kid each is = (each.0, each_snoc ids ks kid each.1 is)
 

@@ -186,11 +186,11 @@ only_item xs kind n bytes is other item following joined is_other =
 
 -- ---- a pass over the file
 
-bytes_of_snoc : (items : List ItemValue) (item : ItemValue) → bytes_of_items (items ++ item ∷ []) ≡ bytes_of_items items ++ item.bytes
+pub bytes_of_snoc : (items : List ItemValue) (item : ItemValue) → bytes_of_items (items ++ item ∷ []) ≡ bytes_of_items items ++ item.bytes
 bytes_of_snoc [] item = append-nil item.bytes
 bytes_of_snoc (x ∷ xs) item = ap (λ z. x.bytes ++ z) (bytes_of_snoc xs item) ∙ sym (append_assoc x.bytes (bytes_of_items xs) item.bytes)
 
-each_snoc : (items : List ItemValue) (item : ItemValue) (rest : List ℕ) → EachBefore items (item.bytes ++ rest) → IsItem item.kind item.bytes rest
+pub each_snoc : (items : List ItemValue) (item : ItemValue) (rest : List ℕ) → EachBefore items (item.bytes ++ rest) → IsItem item.kind item.bytes rest
     → EachBefore (items ++ item ∷ []) rest
 each_snoc [] item rest each is = (is, tt)
 each_snoc (x ∷ xs) item rest each is =
@@ -198,7 +198,7 @@ each_snoc (x ∷ xs) item rest each is =
     ap (λ z. z ++ rest) (bytes_of_snoc xs item) ∙ append_assoc (bytes_of_items xs) item.bytes rest in
     (subst (IsItem x.kind x.bytes) (sym follows) each.0, each_snoc xs item rest each.1 is)
 
-each_to_end : (items : List ItemValue) → EachBefore items [] → EachIsItem items
+pub each_to_end : (items : List ItemValue) → EachBefore items [] → EachIsItem items
 each_to_end [] each = tt
 each_to_end (x ∷ xs) each = (subst (IsItem x.kind x.bytes) (append-nil (bytes_of_items xs)) each.0, each_to_end xs each.1)
 

@@ -2,7 +2,7 @@
 use Rattle.std.specs.Prelude.{ℕ, List, ◌++◌, codes}
 use Rattle.std.specs.Fmt.{decimal}
 use Rattle.ffv1_scan.specs.Verdicts.{end_words}
-use Rattle.ffv1_check.specs.TopElements.{name_of}
+use Rattle.matroska_parts.specs.TopElements.{name_of}
 use Rattle.ffv1_check.specs.declared.findings.Finding.{Finding}
 use Rattle.ffv1_check.specs.declared.findings.Finding.TheVariants as found
 use Rattle.ffv1_check.specs.declared.findings.Line.{Line}

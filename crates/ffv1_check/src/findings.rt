@@ -2,12 +2,12 @@
 ghost use Rattle.std.specs.Prelude.{◌≡◌, ◌++◌, OnOk, string_bytes, codes};
 ghost use Rattle.std.specs.Fmt.{decimal};
 ghost use Rattle.ffv1_scan.specs.Verdicts.{end_words};
-ghost use Rattle.ffv1_check.specs.TopElements.{name_of};
+ghost use Rattle.matroska_parts.specs.TopElements.{name_of};
 ghost use Rattle.ffv1_check.specs.Findings.{finding_text, line_text};
 
-use crate::top_elements::TopElement;
 use ffv1_scan::Verdict;
 use ffv1_slice::ChainEnd;
+use matroska_parts::TopElement;
 use std::alloc::AllocError;
 
 /// One thing that is wrong in a file. Sizes are in bytes; a size of an element counts its head.

@@ -1,8 +1,13 @@
 //! What a check of a Matroska file reports (own): a line for each thing that is wrong.
 #![tactic(auto)]
 
+mod check;
 mod findings;
-mod top_elements;
+mod progress;
+mod report;
+mod tops;
+mod track_states;
 
+pub use check::{check_file, cut_file_is_seen, small_damage_is_seen};
 pub use findings::{Finding, Line, push_line};
-pub use top_elements::{TopElement, top_element};
+pub use report::{Report, TrackCount};

@@ -3,3 +3,4 @@ pub mod TrackSteps
 pub mod SizeSteps
 pub mod LaceSteps
 pub mod Vectors
+pub mod NamedSteps

@@ -1,9 +1,11 @@
 -- Blocks and laces as they stand in files, computed.
-use Rattle.std.proofs.Common.{◌≡◌, [], ◌∷◌, Some, refl, lit<, lit≤}
+use Rattle.std.proofs.Common.{◌≡◌, ℕ, false, [], ◌∷◌, Some, refl, lit<, lit≤}
 use Rattle.std.specs.Prelude.{negsuc}
 use Rattle.matroska.specs.Blocks.{lacing_of, IsBlock}
 use Rattle.matroska.specs.Laces.{IsXiphSize, IsFirstSize, IsLaterSize, AreLaced}
 use Rattle.matroska.specs.Tracks.{number_found, IsFfv1Header}
+use Rattle.matroska.specs.NamedTracks.{named_tracks}
+use Rattle.matroska.specs.declared.track.Track.{Track}
 use Rattle.matroska.specs.declared.block.Lacing.TheVariants.{Unlaced, Xiph, Fixed, Ebml}
 
 -- the four values of the two bits, with others set beside them (RFC 9559, section 10.2)
@@ -79,3 +81,20 @@ number_too_long = refl
 -- the first 20 bytes of a BITMAPINFOHEADER of FFV1, as FFmpeg writes it
 ffv1_header : IsFfv1Header (42 ∷ 0 ∷ 0 ∷ 0 ∷ 208 ∷ 2 ∷ 0 ∷ 0 ∷ 64 ∷ 2 ∷ 0 ∷ 0 ∷ 1 ∷ 0 ∷ 24 ∷ 0 ∷ 70 ∷ 70 ∷ 86 ∷ 49 ∷ [])
 ffv1_header = refl
+
+-- ---- the tracks that blocks can name
+
+abbrev numbered : ℕ → ℕ → Track
+numbered number kind = record {
+  number = number;
+  kind = kind;
+  codec = record { ref_ptr = (0, 0); now = [] };
+  private = record { ref_ptr = (0, 0); now = [] };
+  is_encoded = false;
+  width = 0;
+  height = 0;
+}
+
+-- of each number the first counts, and 0 is none
+first_of_each : named_tracks (numbered 1 1 ∷ numbered 0 2 ∷ numbered 1 2 ∷ numbered 2 2 ∷ []) ≡ numbered 1 1 ∷ numbered 2 2 ∷ []
+first_of_each = refl

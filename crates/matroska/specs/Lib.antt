@@ -1,5 +1,6 @@
 pub mod Blocks
 pub mod Tracks
+pub mod NamedTracks
 pub mod Laces
 pub mod Sound
 pub mod Inner

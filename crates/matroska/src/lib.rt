@@ -3,6 +3,7 @@
 
 mod block;
 mod laces;
+mod named;
 mod record;
 mod sizes;
 mod sound;
@@ -10,6 +11,7 @@ mod track;
 
 pub use block::{Block, Lacing, block_is_one, read_block};
 pub use laces::{frames_are_one, frames_of};
+pub use named::NamedTracks;
 pub use record::{has_parities, is_flac, is_record_wrong, record_is_one, record_of};
 pub use sound::is_right_flac;
-pub use track::{Track, read_track, read_tracks};
+pub use track::{Track, read_track, read_tracks, text_of};

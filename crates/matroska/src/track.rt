@@ -93,8 +93,8 @@ fn bytes_with<'a>(id: u32, bytes: &'a [u8]) -> &'a [u8]
     }
 }
 
-/// What stands before the first zero byte, or all.
-fn text_of<'a>(content: &'a [u8]) -> &'a [u8]
+/// The text of a String Element with this content (RFC 8794, section 7.4): what stands before its first zero byte, or all.
+pub fn text_of<'a>(content: &'a [u8]) -> &'a [u8]
     ensures { IsStringOf content.now result.now }
 {
     match split_at_byte(content, 0) {

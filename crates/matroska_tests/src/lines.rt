@@ -1,7 +1,8 @@
 //! Lines that report what is wrong.
-use ffv1_check::{Finding, Line, TopElement, push_line, top_element};
+use ffv1_check::{Finding, Line, push_line};
 use ffv1_scan::Verdict;
 use ffv1_slice::ChainEnd;
+use matroska_parts::{TopElement, top_element};
 use std::test::Fail;
 
 /// A frame of which three of four links pass, with 96 bytes before them that are no slice.

@@ -1,6 +1,8 @@
 //! The tracks of the file.
 use crate::made::{TRACKS, file};
-use matroska::{has_parities, is_flac, is_record_wrong, read_track, read_tracks, record_of};
+use matroska::{
+    has_parities, is_flac, is_record_wrong, read_track, read_tracks, record_of, text_of,
+};
 use std::test::Fail;
 
 #[test]
@@ -11,6 +13,7 @@ fn tracks_are_those_of_the_file(rt: HostRuntime) -> Result<(), Fail> {
     let (video, sound) = (&tracks[0], &tracks[1]);
     assert!(rt; (video.number, video.kind, video.width, video.height) == (1, 1, 48, 32));
     assert!(rt; video.codec == b"V_MS/VFW/FOURCC".as_slice());
+    assert!(rt; text_of(b"V_FFV1\0\0").len() == 6);
     assert!(rt; (sound.number, sound.kind, sound.width, sound.private.len()) == (2, 2, 0, 42));
     assert!(rt; is_flac(sound) && !is_flac(video));
     Ok(())

@@ -1,6 +1,6 @@
 //! The elements of a file's top and of its Segment (RFC 9559, section 5.1), by name.
 ghost use Rattle.std.specs.Prelude.{◌≡◌};
-ghost use Rattle.ffv1_check.specs.TopElements.{top_element_of, name_of};
+ghost use Rattle.matroska_parts.specs.TopElements.{top_element_of, name_of, element_number};
 
 /// An element that may stand at the top of a file or in its Segment.
 #[derive(Clone, Copy, Debug, PartialEq, Eq)]
@@ -35,6 +35,25 @@ impl TopElement {
             TopElement::Chapters => "Chapters",
             TopElement::Tags => "Tags",
             TopElement::Void => "Void",
+        }
+    }
+
+    /// Which of the eleven it is, counted from 0.
+    pub fn number(&self) -> usize
+        ensures { result ≡ element_number self.now }
+    {
+        match self {
+            TopElement::Ebml => 0,
+            TopElement::Segment => 1,
+            TopElement::SeekHead => 2,
+            TopElement::Info => 3,
+            TopElement::Tracks => 4,
+            TopElement::Cues => 5,
+            TopElement::Cluster => 6,
+            TopElement::Attachments => 7,
+            TopElement::Chapters => 8,
+            TopElement::Tags => 9,
+            TopElement::Void => 10,
         }
     }
 }

@@ -1,7 +1,7 @@
 -- The elements of a file's top and of its Segment, by ID and by name (RFC 8794, section 11.2; RFC 9559, section 5.1).
 use Rattle.std.specs.Prelude.{ℕ, ◌==◌, if◌then◌else◌, List, Option, Some, None, codes}
-use Rattle.ffv1_check.specs.declared.top_elements.TopElement.{TopElement}
-use Rattle.ffv1_check.specs.declared.top_elements.TopElement.TheVariants.{Ebml, Segment, SeekHead, Info, Tracks, Cues, Cluster, Attachments, Chapters, Tags, Void}
+use Rattle.matroska_parts.specs.declared.top_elements.TopElement.{TopElement}
+use Rattle.matroska_parts.specs.declared.top_elements.TopElement.TheVariants.{Ebml, Segment, SeekHead, Info, Tracks, Cues, Cluster, Attachments, Chapters, Tags, Void}
 
 abbrev pub top_element_of : ℕ → Option TopElement
 top_element_of id =
@@ -30,3 +30,17 @@ name_of Attachments = codes "Attachments"
 name_of Chapters = codes "Chapters"
 name_of Tags = codes "Tags"
 name_of Void = codes "Void"
+
+-- which of the eleven it is
+abbrev pub element_number : TopElement → ℕ
+element_number Ebml = 0
+element_number Segment = 1
+element_number SeekHead = 2
+element_number Info = 3
+element_number Tracks = 4
+element_number Cues = 5
+element_number Cluster = 6
+element_number Attachments = 7
+element_number Chapters = 8
+element_number Tags = 9
+element_number Void = 10

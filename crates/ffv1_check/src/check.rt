@@ -1,0 +1,28 @@
+//! A whole file that lies in memory, judged.
+ghost use Rattle.std.specs.Prelude.{IfOk};
+ghost use Rattle.ffv1_check.specs.Checks.{IsCheckOf, CutFileIsSeen, SmallDamageIsSeen};
+
+use crate::report::{Report, report_of};
+use matroska_parts::file_parts;
+use std::alloc::{AllocError, Global};
+
+/// Judges a Matroska file, whatever its bytes are: the checksums in it, and how its parts hang together. It fails only if an allocation
+/// fails.
+pub fn check_file(alloc: Global, file: &[u8]) -> Result<Report, AllocError>
+    ensures { IfOk result (IsCheckOf file.now) }
+{
+    let found = file_parts(alloc, file)?;
+    let tracks = found.tracks.as_slice();
+    report_of(alloc, tracks, file.len() as u64, &found.parts)
+}
+
+/// No front of a whole file is whole, and nothing that goes on after one.
+pub fn cut_file_is_seen()
+    ensures { CutFileIsSeen }
+{}
+
+/// Small damage is seen: of a whole file no other is whole that differs from it only within the content of one element with a CRC-32, after
+/// that content's first two bytes, and there within 32 consecutive bits, in the order in which CRC-32 runs them.
+pub fn small_damage_is_seen()
+    ensures { SmallDamageIsSeen }
+{}

@@ -1,0 +1,186 @@
+//! What a check reports of a whole file.
+ghost use Rattle.std.specs.Prelude.{ℕ, ◌≡◌, ◌↔◌, [], ◌++◌, IsTrue, Some, IfOk, OnOk, length, map, slice_get, option_to_list};
+ghost use Rattle.std.specs.List.{AllByRecursion};
+ghost use Rattle.matroska.specs.declared.track.Track.{Track};
+ghost use Rattle.ffv1_check.specs.PartFindings.{lines_at, place_of};
+ghost use Rattle.ffv1_check.specs.Reports.{segment_findings, no_track_findings, IsReportOf, is_video};
+ghost use Rattle.ffv1_check.specs.Inner.Stands.{found_list, counted_in, IsChecked};
+ghost use Rattle.matroska_parts.specs.Named.{IsBelow};
+
+use crate::findings::{Finding, Line};
+use crate::progress::Progress;
+use crate::tops::Found;
+use crate::track_states::TrackState;
+use matroska::Track;
+use matroska_parts::{Opening, Part};
+use std::alloc::{AllocError, Global};
+
+/// The TrackType of video.
+const VIDEO: u64 = 1;
+
+/// How many blocks of a track a file has, and how many of them are checked: their own checks pass, or they have none and the CRC-32 of their
+/// Cluster passes.
+#[derive(Clone, Copy, Debug, PartialEq, Eq)]
+pub struct TrackCount {
+    pub blocks: u64,
+    pub checked: u64,
+}
+
+/// What a check reports of a file.
+#[derive(Drop)]
+pub struct Report {
+    /// A line for each thing that is wrong, in the order of the file.
+    pub lines: Vec<Line>,
+    /// A count for each track that blocks can name, in the order of the file's Tracks.
+    pub tracks: Vec<TrackCount>,
+    /// Whether there is no line, and each block of a video track is checked.
+    pub is_whole: bool,
+}
+
+/// The report of a file of this size, whose blocks can name these tracks, by its parts.
+pub(crate) fn report_of(
+    alloc: Global,
+    tracks: &[Track<'_>],
+    size: u64,
+    parts: &[Part],
+) -> Result<Report, AllocError>
+    requires { AllByRecursion (IsBelow (length tracks.now)) parts.now }
+    ensures { IfOk result (IsReportOf tracks.now size parts.now) }
+{
+    let mut progress = Progress::new(alloc, tracks.len())?;
+    let mut lines = Vec::new(alloc);
+    for part in parts {
+        let found = progress.found_at(part);
+        push_found(&mut lines, place_of(part), &found)?;
+        progress.pass(part);
+    }
+    push_found(
+        &mut lines,
+        size,
+        &found_at_end(size, &progress.tops.segment, tracks.len()),
+    )?;
+    let counts = counts_of(alloc, &progress.tracks)?;
+    let is_whole = is_whole(&lines, tracks, &counts);
+    Ok(Report {
+        lines,
+        tracks: counts,
+        is_whole,
+    })
+}
+
+/// What is wrong at the end of a file of this size.
+fn found_at_end(size: u64, segment: &Option<Opening>, tracks: usize) -> Found
+    ensures { found_list result ≡ segment_findings size segment.now ++ no_track_findings tracks }
+{
+    let second = if tracks == 0 {
+        Some(Finding::NoTracks)
+    } else {
+        None
+    };
+    Found {
+        first: segment_finding(size, segment),
+        second,
+    }
+}
+
+/// What is wrong with the Segment of a file of this size.
+fn segment_finding(size: u64, segment: &Option<Opening>) -> Option<Finding>
+    ensures { option_to_list result ≡ segment_findings size segment.now }
+{
+    let Some(opening) = segment else {
+        return Some(Finding::NoSegment);
+    };
+    let Some(end) = opening.end else {
+        return None;
+    };
+    if end == size {
+        return None;
+    }
+    Some(Finding::End(end))
+}
+
+/// Where a part begins.
+fn place_of(part: &Part) -> u64
+    ensures { result ≡ place_of part.now }
+{
+    match part {
+        Part::Unknown(span) => span.place,
+        Part::Begin(opening) => opening.place,
+        Part::Timestamp(_) => 0,
+        Part::Block(block) => block.place,
+        Part::Record(record) => record.place,
+        Part::NoMatroska(place) => *place,
+        Part::End(closing) => closing.place,
+    }
+}
+
+/// Adds a line for each thing that is wrong at a place.
+fn push_found(lines: &mut Vec<Line>, place: u64, found: &Found) -> Result<(), AllocError>
+    ensures { OnOk result (lines.new.items ≡ lines.old.items ++ lines_at place (found_list found.now)) }
+{
+    push_finding(lines, place, &found.first)?;
+    push_finding(lines, place, &found.second)
+}
+
+/// Adds a line, if there is one.
+fn push_finding(
+    lines: &mut Vec<Line>,
+    place: u64,
+    finding: &Option<Finding>,
+) -> Result<(), AllocError>
+    ensures { OnOk result (lines.new.items ≡ lines.old.items ++ lines_at place (option_to_list finding.now)) }
+{
+    if let Some(finding) = finding {
+        lines.push(Line {
+            place,
+            finding: *finding,
+        })?;
+    }
+    Ok(())
+}
+
+/// The counts of all tracks.
+fn counts_of(alloc: Global, states: &[TrackState]) -> Result<Vec<TrackCount>, AllocError>
+    ensures { IfOk result (λ counts. counts.items ≡ map counted_in states.now) }
+{
+    states.iter().map(count_of).collect(alloc)
+}
+
+/// The counts of one.
+fn count_of(state: &TrackState) -> TrackCount
+    ensures { result ≡ counted_in state.now }
+{
+    TrackCount {
+        blocks: state.blocks,
+        checked: state.checked,
+    }
+}
+
+/// Whether there is no line, and all blocks of each video track are checked.
+fn is_whole(lines: &[Line], tracks: &[Track<'_>], counts: &[TrackCount]) -> bool
+    requires { length counts.now ≡ length tracks.now }
+    ensures { IsTrue result ↔ (lines.now ≡ []) × ((index : ℕ) (track : Track) → slice_get tracks.now index ≡ Some track
+        → IsChecked track (slice_get counts.now index)) }
+{
+    lines.is_empty() && are_checked(tracks, counts)
+}
+
+/// Whether all blocks of each video track are checked.
+fn are_checked(tracks: &[Track<'_>], counts: &[TrackCount]) -> bool
+    requires { length counts.now ≡ length tracks.now }
+    ensures { IsTrue result ↔ ((index : ℕ) (track : Track) → slice_get tracks.now index ≡ Some track → IsChecked track (slice_get counts.now index)) }
+{
+    for (index, track) in tracks.iter().enumerate() {
+        if !is_checked(track, &counts[index]) {
+            return false;
+        }
+    }
+    true
+}
+
+/// Whether all blocks of a track are checked, or it is no video track.
+fn is_checked(track: &Track<'_>, count: &TrackCount) -> bool
+    ensures { IsTrue result ↔ IsChecked track.now (Some count.now) }
+{
+    track.kind != VIDEO || count.checked == count.blocks
+}

@@ -1,0 +1,10 @@
+pub mod FactSteps
+pub mod BlockSteps
+pub mod MasterSteps
+pub mod OpeningSteps
+pub mod RecordSteps
+pub mod ItemSteps
+pub mod FileSteps
+pub mod InnerSteps
+pub mod BelowSteps
+pub mod Vectors

@@ -1,0 +1,9 @@
+pub mod TopElements
+pub mod Payloads
+pub mod BlockParts
+pub mod MasterParts
+pub mod Openings
+pub mod RecordParts
+pub mod ItemParts
+pub mod Named
+pub mod Inner

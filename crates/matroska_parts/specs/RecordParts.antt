@@ -1,0 +1,29 @@
+-- The Configuration Records of a file's tracks as parts of it.
+use Rattle.std.specs.Prelude.{ℕ, ◌<◌, ◌≡◌, ◌⊎◌, ◌↔◌, IsTrue, List, [], ◌∷◌, ◌++◌, length}
+use Rattle.matroska.specs.Tracks.{HasRecord, IsRecordWrong}
+use Rattle.matroska.specs.declared.track.Track.{Track}
+use Rattle.matroska_parts.specs.declared.parts.Part.{Part}
+use Rattle.matroska_parts.specs.declared.parts.Part.TheVariants as part
+use Rattle.matroska_parts.specs.declared.parts.RecordPart.{RecordPart}
+
+-- The record of a track, which has bytes, in the Tracks that begins at this place.
+pub record IsRecordPart (place : ℕ) (track : Track) (found : RecordPart) : Type 0 where
+  pub bytes : List ℕ
+  pub has : HasRecord track bytes
+  pub some : 0 < length bytes
+  pub at : found.place ≡ place
+  pub size : found.size ≡ length bytes
+  pub named : found.track ≡ track.number
+  pub wrong : IsTrue found.is_wrong ↔ IsRecordWrong track
+
+-- a track has one such part, or none if it has no record, or an empty one
+abbrev pub AreRecordPartsOf : ℕ → Track → List Part → Type 0
+AreRecordPartsOf place track parts =
+    ((found : RecordPart) × IsRecordPart place track found × (parts ≡ part.Record found ∷ []))
+    ⊎ (((bytes : List ℕ) → HasRecord track bytes → bytes ≡ []) × (parts ≡ []))
+
+-- those of all tracks
+abbrev pub AreRecordParts : ℕ → List Track → List Part → Type 0
+AreRecordParts place [] parts = parts ≡ []
+AreRecordParts place (track ∷ tracks) parts =
+    (own : List Part) × (more : List Part) × (parts ≡ own ++ more) × AreRecordPartsOf place track own × AreRecordParts place tracks more

@@ -1,0 +1,20 @@
+//! The parts of a Matroska file (RFC 9559), in order, and what the checks that each has say of it.
+#![tactic(auto)]
+
+mod blocks;
+mod facts;
+mod file_tracks;
+mod files;
+mod items;
+mod masters;
+mod openings;
+mod parts;
+mod payloads;
+mod records;
+mod top_elements;
+
+pub use files::{FileParts, file_parts};
+pub use parts::{
+    BlockPart, Closing, Crc32, Opening, Part, Payload, RecordPart, Span, Standing, TrackBlock,
+};
+pub use top_elements::{TopElement, top_element};
