@@ -32,6 +32,7 @@ test:
 	tests/memory $(CALLS) $(PROGRAM)
 	tests/guide $(PROGRAM)
 	tests/rules $(PROGRAM) --short
+	tests/collection $(PROGRAM)
 	$(MAKE) rot
 
 # The unit tests in Python: of mend-reel, and of the scripts of tests/.
@@ -89,7 +90,8 @@ dist: $(PROGRAM)
 install: $(PROGRAM)
 	install -D $(PROGRAM) $(DESTDIR)$(PREFIX)/bin/ffv1restore
 	tools/make-one-file $(DESTDIR)$(PREFIX)/bin/mend-reel
-	install -D -m 644 -t $(DESTDIR)$(PREFIX)/share/man/man1 man/ffv1restore.1 man/mend-reel.1
+	tools/make-one-file $(DESTDIR)$(PREFIX)/bin/mend-collection
+	install -D -m 644 -t $(DESTDIR)$(PREFIX)/share/man/man1 man/ffv1restore.1 man/mend-reel.1 man/mend-collection.1
 	install -D -m 644 completions/ffv1restore.bash $(DESTDIR)$(PREFIX)/share/bash-completion/completions/ffv1restore
-	ln -sf ffv1restore $(DESTDIR)$(PREFIX)/share/bash-completion/completions/mend-reel
+	for name in mend-reel mend-collection; do ln -sf ffv1restore $(DESTDIR)$(PREFIX)/share/bash-completion/completions/$$name; done
 	install -D -m 644 -t $(DESTDIR)$(PREFIX)/share/zsh/site-functions completions/_ffv1restore

@@ -1,4 +1,4 @@
-# Completions of ffv1restore and mend-reel for bash.
+# Completions of ffv1restore, mend-reel and mend-collection for bash.
 _ffv1restore() {
     local word=${COMP_WORDS[COMP_CWORD]}
     if [ "$COMP_CWORD" -eq 1 ]; then
@@ -31,5 +31,18 @@ _mend_reel() {
             esac ;;
     esac
 }
+_mend_collection() {
+    local word=${COMP_WORDS[COMP_CWORD]}
+    case "${COMP_WORDS[COMP_CWORD - 1]}" in
+        --hosts) mapfile -t COMPREPLY < <(compgen -f -- "$word") ;;
+        --jobs | --memfree | --retries) COMPREPLY=() ;;
+        *)
+            case "$word" in
+                -*) mapfile -t COMPREPLY < <(compgen -W "-o --out --write --anew --hosts --jobs --memfree --retries --quiet --version --help" -- "$word") ;;
+                *) mapfile -t COMPREPLY < <(compgen -d -- "$word") ;;
+            esac ;;
+    esac
+}
 complete -o filenames -F _ffv1restore ffv1restore
 complete -o filenames -F _mend_reel mend-reel
+complete -o filenames -F _mend_collection mend-collection

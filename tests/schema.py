@@ -1,11 +1,12 @@
-"""Whether a document is as docs/mend-reel.schema.json says, by python3-jsonschema, which Debian's Python has."""
+"""Whether a document is as a schema in docs/ says, by python3-jsonschema, which Debian's Python has."""
 import functools
 import json
 import pathlib
 import subprocess
 import sys
 
-SCHEMA = pathlib.Path(__file__).resolve().parent.parent / "docs/mend-reel.schema.json"
+DOCS = pathlib.Path(__file__).resolve().parent.parent / "docs"
+SCHEMA, COLLECTION = DOCS / "mend-reel.schema.json", DOCS / "mend-collection.schema.json"
 INTERPRETERS = [sys.executable, "/usr/bin/python3"]
 VALIDATE = """import json, sys
 import jsonschema
@@ -26,9 +27,9 @@ def interpreter():
     raise RuntimeError("no Python here has jsonschema: apt-get install python3-jsonschema")
 
 
-def faults(document):
-    """What of a document is not as the schema says, a line each; nothing where it is."""
-    both = json.dumps([json.loads(SCHEMA.read_text()), document])
+def faults(document, path=SCHEMA):
+    """What of a document is not as a schema says, a line each; nothing where it is."""
+    both = json.dumps([json.loads(path.read_text()), document])
     done = subprocess.run([interpreter(), "-W", "ignore", "-c", VALIDATE], input=both.encode(), capture_output=True, check=False)
     if done.returncode:
         raise RuntimeError(f"the schema could not be asked: {done.stderr.decode()}")
