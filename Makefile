@@ -3,7 +3,7 @@ PROGRAM := crates/ffv1restore/out/ffv1restore
 CALLS := crates/ffv1_memory_tests/out/ffv1_memory_tests
 PREFIX ?= $(HOME)/.local
 
-.PHONY: all run test units cases rules rot fuzz ffmpeg reel bench install dist
+.PHONY: all run test units cases rules rot fuzz ffmpeg reel collection bench install dist
 
 all: $(PROGRAM)
 
@@ -77,6 +77,11 @@ REELS ?= 20
 FIRST ?= 0
 reel: $(PROGRAM)
 	tests/reel $(PROGRAM) $(REELS) $(FIRST)
+
+# A collection of COUNT reels, and one on two machines that are this one by ssh, of which one dies: OpenSSH's sshd has to be installed.
+COUNT ?= 10000
+collection: $(PROGRAM)
+	tests/large_collection $(PROGRAM) $(COUNT)
 
 # Times beside FFmpeg's decoder, zlib's crc32 and a plain copy.
 bench: $(PROGRAM)
