@@ -174,6 +174,10 @@ class VerdictTest(FolderTest):
     def test_undamaged_copies_that_are_alike_vouch_for_each_other(self):
         self.assertEqual(self.compared([b"a", b"a", b"b"], [UNDAMAGED, UNDAMAGED, DAMAGED]), (Verdict.UNDAMAGED, [0, 1], "", Counts(8, 1, 0, 0, 0)))
 
+    def test_one_file_in_two_folders_vouches_for_nothing(self):
+        (self.top / "1").symlink_to("0")
+        self.assertEqual(self.compared([b"a", b"a"], [UNDAMAGED, UNDAMAGED]), (Verdict.UNDAMAGED, [0, 1], "", Counts(8, 0, 0, 0, 144)))
+
     def test_one_undamaged_copy_has_bytes_that_nothing_checks(self):
         self.assertEqual(self.compared([b"a", b"b"], [DAMAGED, UNDAMAGED]), (Verdict.UNDAMAGED, [1], "", Counts(8, 1, 0, 0, 144)))
 
@@ -203,8 +207,8 @@ class TaskTest(FolderTest):
 
     def test_few_reels_have_a_task_each_and_small_ones_one_together(self):
         self.assertEqual(self.sizes(1, 2, 3), [[1], [2], [3]])
-        self.assertEqual([len(task) for task in self.sizes(*[1] * 130)], [2] * 65)
-        self.assertEqual({len(task) for task in self.sizes(*[1] * 16000)}, {16})
+        self.assertEqual([len(task) for task in self.sizes(*[1] * 130)], [4] * 32 + [2])
+        self.assertEqual({len(task) for task in self.sizes(*[1] * 16000)}, {64})
         self.assertEqual(self.sizes(), [])
 
     def test_large_reels_have_a_task_each(self):

@@ -19,6 +19,7 @@ from typing import NamedTuple, NoReturn, Optional, TextIO
 
 from mend_reel.judging import kept_digests
 from mend_reel.model import Fault, or_fault
+from mend_reel.program.output_files import is_held
 
 FOLDER = ".mend-collection"
 ENDINGS = (".mkv", ".avi", ".nut", ".mov", ".webm")
@@ -79,11 +80,11 @@ class Collection:
         """Makes that folder, or takes it over from a run that was stopped: its tasks end, and its working files go. Returns the lock."""
         with or_fault(f"cannot write {self.out}"):
             os.makedirs(self.place("results"), exist_ok=True)
+            if is_held(self.place("lock")):
+                raise Fault(f"another run works in {self.out} now")
             lock = os.open(self.place("lock"), os.O_RDWR | os.O_CREAT, 0o666)
-            try:
+            with contextlib.suppress(OSError):  # on some network disks no lock can be had
                 fcntl.flock(lock, fcntl.LOCK_EX | fcntl.LOCK_NB)
-            except BlockingIOError:
-                raise Fault(f"another run works in {self.out} now") from None
             for name in ("tasks", "work", "log", *(["results"] if is_anew else [])):
                 shutil.rmtree(self.place(name), ignore_errors=True)
                 os.makedirs(self.place(name), exist_ok=True)
@@ -160,7 +161,6 @@ def find(name: str) -> Folder:
     """Finds the reels of a folder, and the files of digests. Links are followed, but for those that lead back to a folder above them."""
     def fail(error: OSError) -> NoReturn:
         raise Fault(f"cannot read {error.filename}: {error.strerror}")
-
     folder = Folder(name)
     for above, names, files in os.walk(name, onerror=fail, followlinks=True):
         names[:] = [each for each in sorted(names) if not is_within(above, os.path.join(above, each))]

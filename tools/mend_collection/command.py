@@ -109,7 +109,7 @@ def run_tasks(asked: argparse.Namespace, collection: Collection, tasks: Sequence
             raise
         faults.seek(0)
         fault = (faults.read().decode(errors="replace").strip().splitlines() or [f"GNU parallel ended with status {child.returncode}"])[-1]
-    if not ended:
+    if not any(collection.read(reel) for reels in tasks for reel in reels):
         raise Fault(f"no task could be run: {fault}")
     return {reel.path: ended.get(number, fault) for number, reels in enumerate(tasks, 1) for reel in reels}
 
@@ -123,9 +123,8 @@ def read_log(path: str) -> dict[int, str]:
 
 def judge(asked: argparse.Namespace, progress: Progress) -> int:
     """Judges the collection, and writes its reports. Returns the exit status."""
-    with or_fault(f"cannot read {asked.hosts}"):
-        os.stat(asked.hosts or os.curdir)
-    refuse(asked.folders, asked.out)
+    with or_fault(f"cannot read {asked.hosts}"), open(asked.hosts or os.devnull, "rb"):
+        refuse(asked.folders, asked.out)
     find_mend_reel(), find_parallel(), find_ffv1restore()
     folders = [find(name) for name in asked.folders]
     lost, notes = read_judges(folders)

@@ -17,8 +17,7 @@ from mend_reel.model import Fault, or_fault
 
 from .collection import Collection, Copy, Counts, Reel, Result, State, Verdict, state_of
 
-MOST_REASONS = 3
-STATES = {0: State.UNDAMAGED, 3: State.DAMAGED}
+MOST_REASONS, STATES = 3, {0: State.UNDAMAGED, 3: State.DAMAGED}
 
 
 def find_mend_reel() -> str:
@@ -43,8 +42,7 @@ def mend_reel(words: Sequence[str], folder: str) -> tuple[list[dict[str, Any]], 
 
 
 def check(paths: Sequence[str]) -> list[Copy]:
-    """What `mend-reel --check` says of each of some files; another checker of a kind of files can take its place here. Where the call fails as a
-    whole, each file is checked by itself, so that what one costs is lost for that one."""
+    """What `mend-reel --check` says of some files: of all, or else of each alone. Another checker of a kind of files can take its place."""
     with tempfile.TemporaryDirectory() as folder:
         files, fault = mend_reel(["--check", "--", *paths], folder) if paths else ([], "")
     if len(files) == len(paths):
@@ -124,13 +122,14 @@ def verify(paths: Sequence[str], reel: Reel) -> None:
 
 
 def compare(result: Result, paths: Sequence[str], names: Sequence[str]) -> None:
-    """Compares the undamaged copies: if they are alike, they vouch for each other, and else the reel is in doubt."""
+    """Compares the undamaged copies: if they are alike, they vouch for each other unless they are one file, and else the reel is in doubt."""
     first, *others = result.good()
     counts, damaged = result.copies[first].counts, max(copy.counts.damaged or 0 for copy in result.copies)
     for number in others:
         if not filecmp.cmp(paths[first], paths[number], shallow=False):
             result.verdict, result.reason = Verdict.DOUBT, f"{names[first]} and {names[number]} have undamaged copies that differ"
-    result.counts = Counts(counts.frames, damaged, 0, 0, 0 if others and not result.reason else counts.unchecked_bytes)
+    is_vouched = not result.reason and any(not os.path.samefile(paths[first], paths[number]) for number in others)
+    result.counts = Counts(counts.frames, damaged, 0, 0, 0 if is_vouched else counts.unchecked_bytes)
 
 
 def mend(collection: Collection, reel: Reel, result: Result, paths: Sequence[str]) -> None:
