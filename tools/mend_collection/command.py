@@ -93,7 +93,7 @@ def run_tasks(asked: argparse.Namespace, collection: Collection, tasks: Sequence
     """Has GNU parallel run the tasks. Returns of each reel how its task ended."""
     words = [f"{option}={getattr(asked, name)}" for name, option in PASSED.items() if getattr(asked, name) is not None]
     words += [*(["--retries=3"] if asked.hosts and asked.retries is None else []), *(["--env=FFV1RESTORE"] if "FFV1RESTORE" in os.environ else [])]
-    commands, log, ended = write_tasks(collection, tasks), collection.place("log", "jobs"), dict[int, str]()
+    commands, log = write_tasks(collection, tasks), collection.place("log", "jobs")
     with open(commands, "rb") as listed, open(log, "wb"), open(collection.place("log", "faults"), "w+b") as faults:
         child = subprocess.Popen([find_parallel(), "--null", "--joblog", log, *words], stdin=listed, stdout=subprocess.DEVNULL, stderr=faults,
                                  start_new_session=True)
@@ -101,8 +101,7 @@ def run_tasks(asked: argparse.Namespace, collection: Collection, tasks: Sequence
             while child.poll() is None:
                 with contextlib.suppress(subprocess.TimeoutExpired):
                     child.wait(PAUSE)
-                ended = read_log(log)
-                progress.at(sum(len(tasks[number - 1]) for number in ended), sum(map(len, tasks)))
+                progress.at(sum(len(tasks[number - 1]) for number in read_log(log)), sum(map(len, tasks)))
         except Interrupted:
             os.killpg(child.pid, signal.SIGTERM)
             child.wait()
@@ -111,6 +110,7 @@ def run_tasks(asked: argparse.Namespace, collection: Collection, tasks: Sequence
         fault = (faults.read().decode(errors="replace").strip().splitlines() or [f"GNU parallel ended with status {child.returncode}"])[-1]
     if not any(collection.read(reel) for reels in tasks for reel in reels):
         raise Fault(f"no task could be run: {fault}")
+    ended = read_log(log)
     return {reel.path: ended.get(number, fault) for number, reels in enumerate(tasks, 1) for reel in reels}
 
 
