@@ -1,4 +1,5 @@
 """mend-collection: which reels belong together, what digests say, how tasks are divided, and what becomes of a reel."""
+import dataclasses
 import hashlib
 import json
 import os
@@ -6,6 +7,7 @@ import pathlib
 import sys
 import tempfile
 import unittest
+from unittest import mock
 
 from mend_collection import collection, command, judging, reports
 from mend_collection.collection import Collection, Copy, Counts, Reel, Result, State, Verdict
@@ -174,6 +176,14 @@ class VerdictTest(FolderTest):
     def test_undamaged_copies_that_are_alike_vouch_for_each_other(self):
         self.assertEqual(self.compared([b"a", b"a", b"b"], [UNDAMAGED, UNDAMAGED, DAMAGED]), (Verdict.UNDAMAGED, [0, 1], "", Counts(8, 1, 0, 0, 0)))
 
+    def test_rot_leaves_size_and_time(self):
+        for name, content in (("0", b"a"), ("1", b"b")):
+            self.write(name, content)
+            os.utime(self.top / name, (1, 1))
+        result = Result("a", "", Verdict.UNDAMAGED, "", [UNDAMAGED, UNDAMAGED])
+        judging.compare(result, [str(self.top / "0"), str(self.top / "1")], ["one", "two"])
+        self.assertEqual(result.verdict, Verdict.DOUBT)
+
     def test_one_file_in_two_folders_vouches_for_nothing(self):
         (self.top / "1").symlink_to("0")
         self.assertEqual(self.compared([b"a", b"a"], [UNDAMAGED, UNDAMAGED]), (Verdict.UNDAMAGED, [0, 1], "", Counts(8, 0, 0, 0, 144)))
@@ -199,6 +209,71 @@ class VerdictTest(FolderTest):
                  "sizes": {"verified": 9, "agreed": 1, "read": 2, "alone": 3, "open": 4}}
         self.assertEqual(judging.copy_of(found), Copy(State.DAMAGED, "damaged in one frame", Counts(8, 1, 0, 0, 9)))
         self.assertEqual(judging.copy_of({"path": "x", "status": 1, "fault": "no video"}), Copy(State.UNREADABLE, "no video"))
+
+
+class RunTest(FolderTest):
+    """A task of two reels in two folders, with a checker that says of each copy that it is undamaged."""
+
+    def setUp(self):
+        super().setUp()
+        for path in ("one/a.mkv", "two/a.mkv", "one/b.mkv", "two/b.mkv"):
+            self.write(path)
+        self.collection = Collection([self.one, self.two], ["one", "two"], str(self.top / "out"), False)
+        self.addCleanup(os.close, self.collection.open(False))
+        self.reels = collection.pair([collection.find(self.one), collection.find(self.two)])
+        self.task, self.checked = self.top / "task", []
+        self.task.write_text(json.dumps([dataclasses.asdict(self.collection), self.reels]))
+
+    def run_with(self, work=lambda: None, state=UNDAMAGED):
+        def check(paths):
+            work()
+            self.checked += paths
+            return [state] * len(paths)
+
+        with mock.patch.object(judging, "check", check):
+            return judging.run_task(str(self.task))
+
+    def test_each_copy_is_checked_and_each_reel_has_a_result(self):
+        self.assertEqual(self.run_with(), 0)
+        self.assertEqual(self.checked, [f"{self.top}/{path}" for path in ("one/a.mkv", "two/a.mkv", "one/b.mkv", "two/b.mkv")])
+        self.assertEqual([self.collection.read(reel).verdict for reel in self.reels], [Verdict.UNDAMAGED] * 2)
+
+    def test_a_task_that_is_tried_again_judges_what_has_no_result(self):
+        self.collection.write(Result("a.mkv", self.collection.mark(self.reels[0]), Verdict.MENDED, ""))
+        self.run_with()
+        self.assertEqual(self.checked, [f"{self.one}/b.mkv", f"{self.two}/b.mkv"])
+        self.assertEqual(self.collection.read(self.reels[0]).verdict, Verdict.MENDED)
+
+    def test_a_task_of_a_run_that_was_stopped_writes_nothing(self):
+        with self.assertRaisesRegex(Fault, "is gone"):
+            self.run_with(self.task.unlink)
+        self.assertEqual([self.collection.read(reel) for reel in self.reels], [None, None])
+
+    def test_a_copy_that_changes_meanwhile_gives_no_verdict(self):
+        self.assertEqual(self.run_with(lambda: self.write("two/b.mkv", b"changed")), 1)
+        first, second = map(self.collection.read, self.reels)
+        self.assertEqual((first.verdict, second.verdict), (Verdict.UNDAMAGED, Verdict.UNREADABLE))
+        self.assertIn(f"{self.two}/b.mkv changed while it was judged", second.reason)
+        self.assertFalse(self.collection.is_settled(self.reels[1]))
+
+    def test_nothing_is_made_of_copies_that_change_meanwhile(self):
+        def mended(words, folder):
+            self.write("two/a.mkv", b"changed")
+            return [{"verdict": {"status": 0, "sentence": "", "reasons": []}}], ""
+
+        with mock.patch.object(judging, "mend_reel", mended):
+            self.assertEqual(self.run_with(state=DAMAGED), 1)
+        self.assertEqual([path.name for path in (self.top / "out").iterdir()], [".mend-collection"])
+
+    def test_where_a_call_fails_each_file_is_checked_alone(self):
+        def once(words, folder):
+            return ([{"path": words[-1], "fault": "bad"}] if len(words) == 3 else []), "out of memory"
+
+        with mock.patch.object(judging, "mend_reel", once):
+            self.assertEqual(judging.check(["a", "b"]), [Copy(State.UNREADABLE, "bad")] * 2)
+        with mock.patch.object(judging, "mend_reel", lambda words, folder: ([], "out of memory")):
+            self.assertEqual(judging.check(["a", "b"]), [Copy(State.UNREADABLE, "out of memory")] * 2)
+        self.assertEqual(judging.check([]), [])
 
 
 class TaskTest(FolderTest):
