@@ -17,6 +17,9 @@ sys.path.insert(0, str(pathlib.Path(__file__).resolve().parents[1]))
 import schema
 
 UNDAMAGED, DAMAGED = Copy(State.UNDAMAGED, "", Counts(8, 0, 0, 0, 144)), Copy(State.DAMAGED, "damaged in one frame", Counts(8, 1, 0, 0, 900))
+FOUND = {"copies": [{"path": "x: y.mkv"}], "verdict": {"status": 3, "sentence": "x: y.mkv: damaged in one frame."},
+         "frame_counts": {"all": 8, "damaged": 1, "restored": 0, "woven": 0, "not_restored": 0},
+         "sizes": {"verified": 9, "agreed": 1, "read": 2, "alone": 3, "open": 4}}
 NOT_TEXT = os.fsdecode(b"not \xff.mkv")
 
 
@@ -57,7 +60,7 @@ class PairingTest(FolderTest):
             self.write(path)
         both = [self.one, self.two]
         for names, out, fault in (([self.one, self.one], "out", "is "), ([self.one, f"{self.one}/sub"], "out", "lies in"),
-                                  (both, f"{self.one}/x/y", "lies in"), (both, str(self.top), "has in it"),
+                                  (both, f"{self.one}/x/y", "lies in"), (both, str(self.top), "lies in"),
                                   (both, str(self.top / "full"), "has files")):
             with self.subTest(names=names, out=out), self.assertRaisesRegex(Fault, fault):
                 collection.refuse(names, out)
@@ -125,7 +128,7 @@ class ResultTest(FolderTest):
     def test_a_result_is_of_files_with_their_sizes_times_and_digests(self):
         self.collection.write(self.result())
         for other in (self.reel._replace(files=[[1, 3], None]), self.reel._replace(files=[[2, 2], None]), self.reel._replace(files=[[1, 2], [1, 2]]),
-                      self.reel._replace(judges=[[], []])):
+                      self.reel._replace(judges=[[], []]), self.reel._replace(judges=[[["md5", "1", "m"]], []])):
             self.assertIsNone(self.collection.read(other))
         self.assertIsNotNone(self.collection.read(self.reel._replace(judges=[[["md5", "0", "other name"]], []])))
 
@@ -149,17 +152,17 @@ class ResultTest(FolderTest):
 
     def test_the_reports(self):
         results = [Result('a,"b"\n.mkv', "", Verdict.UNDAMAGED, "", [UNDAMAGED, UNDAMAGED], Counts(8, 0, 0, 0, 0)), self.result(Verdict.DOUBT),
-                   Result("c.mkv", "", Verdict.UNREADABLE, "</script>")]
+                   Result("c.mkv", "", Verdict.UNREADABLE, "</script>"), Result("d.mkv", "", Verdict.MENDED, "")]
         lines = reports.write(self.collection, results, ["a note"])
-        self.assertEqual(lines, [f"{NOT_TEXT}: in doubt: why", "c.mkv: unreadable: </script>", "a note",
-                                 "3 reels: 1 undamaged, 0 mended, 1 in doubt, 1 unreadable"])
+        self.assertEqual(lines, [f"{NOT_TEXT}: in doubt: why", "c.mkv: unreadable: </script>", "d.mkv: mended", "a note",
+                                 "4 reels: 1 undamaged, 1 mended, 1 in doubt, 1 unreadable"])
         table = (self.top / "out/collection.csv").read_bytes()
         self.assertEqual(table, b"path,verdict,good,frames,damaged,restored,lost,unchecked_bytes,reason\r\n"
                                 b'"a,""b""\n.mkv",undamaged,one;two,8,0,0,0,0,\r\n'
-                                b"not \xff.mkv,in doubt,one,8,0,0,0,144,why\r\nc.mkv,unreadable,,,,,,,</script>\r\n")
+                                b"not \xff.mkv,in doubt,one,8,0,0,0,144,why\r\nc.mkv,unreadable,,,,,,,</script>\r\nd.mkv,mended,,,,,,,\r\n")
         document = json.loads((self.top / "out/collection.json").read_text())
         self.assertEqual(schema.faults(document, schema.COLLECTION), "")
-        self.assertEqual([row["path"] for row in document["reels"]], ["c.mkv", "not \ufffd.mkv", 'a,"b"\n.mkv'])
+        self.assertEqual([row["path"] for row in document["reels"]], ["c.mkv", "not \ufffd.mkv", "d.mkv", 'a,"b"\n.mkv'])
         self.assertEqual((self.top / "out/index.html").read_text().count("</script>"), 2)
 
 
@@ -204,10 +207,7 @@ class VerdictTest(FolderTest):
             judging.verify([str(self.top / "a.mkv"), "none"], reel)
 
     def test_what_a_document_has_of_a_file(self):
-        found = {"copies": [{"path": "x: y.mkv"}], "verdict": {"status": 3, "sentence": "x: y.mkv: damaged in one frame."},
-                 "frame_counts": {"all": 8, "damaged": 1, "restored": 0, "woven": 0, "not_restored": 0},
-                 "sizes": {"verified": 9, "agreed": 1, "read": 2, "alone": 3, "open": 4}}
-        self.assertEqual(judging.copy_of(found), Copy(State.DAMAGED, "damaged in one frame", Counts(8, 1, 0, 0, 9)))
+        self.assertEqual(judging.copy_of(FOUND), Copy(State.DAMAGED, "damaged in one frame", Counts(8, 1, 0, 0, 9)))
         self.assertEqual(judging.copy_of({"path": "x", "status": 1, "fault": "no video"}), Copy(State.UNREADABLE, "no video"))
 
 
@@ -259,11 +259,25 @@ class RunTest(FolderTest):
     def test_nothing_is_made_of_copies_that_change_meanwhile(self):
         def mended(words, folder):
             self.write("two/a.mkv", b"changed")
-            return [{"verdict": {"status": 0, "sentence": "", "reasons": []}}], ""
+            for name in ("a.mkv", "b.mkv", "page", "document"):
+                pathlib.Path(folder, name).touch()
+            return [{**FOUND, "verdict": {"status": 0, "sentence": "", "reasons": []}}], ""
 
         with mock.patch.object(judging, "mend_reel", mended):
             self.assertEqual(self.run_with(state=DAMAGED), 1)
-        self.assertEqual([path.name for path in (self.top / "out").iterdir()], [".mend-collection"])
+        self.assertFalse((self.top / "out/a.mkv").exists())
+        self.assertFalse((self.top / "out/a.mkv.html").exists())
+
+    def test_digests_of_one_copy_judge_all_if_they_agree(self):
+        right, wrong = (hashlib.md5(content).hexdigest() for content in (b"content", b"other"))
+        first, second = ["md5", right, "m"], ["md5", wrong, "n"]
+        for judges, good in (([[first], []], [0, 1]), ([[], [second]], []), ([[first], [second]], [0])):
+            reel = self.reels[0]._replace(judges=judges)
+            paths = [f"{self.one}/a.mkv", f"{self.two}/a.mkv"]
+            with mock.patch.object(judging, "mend_reel", lambda words, folder: ([], "no mending")):
+                result = judging.judged(self.collection, reel, dict.fromkeys(paths, DAMAGED))
+            self.assertEqual(result.good(), good)
+            self.assertEqual("m and n have different digests" in result.reason, good == [0])
 
     def test_where_a_call_fails_each_file_is_checked_alone(self):
         def once(words, folder):

@@ -137,12 +137,10 @@ class Folder:
 
 def refuse(names: Sequence[str], out: str) -> None:
     """Refuses folders that are one another's, a DIR that lies in one or around one, and a DIR that has files and is of no collection."""
-    for one, other in itertools.permutations(names, 2):
+    for one, other in itertools.permutations([*names, out], 2):
         if is_within(one, other):
-            raise Fault(f"{one} {'is' if is_within(other, one) else 'lies in'} {other}: each copy needs a folder of its own")
-    for name in names:
-        if is_within(out, name) or is_within(name, out):
-            raise Fault(f"{out} {'lies in' if is_within(out, name) else 'has in it'} {name}: nothing is written into a copy's folder, or around it")
+            what = "nothing is written into or around a copy's folder" if out in (one, other) else "each copy needs a folder of its own"
+            raise Fault(f"{one} {'is' if is_within(other, one) else 'lies in'} {other}: {what}")
     if os.path.isdir(out) and os.listdir(out) and not os.path.isdir(os.path.join(out, FOLDER)):
         raise Fault(f"{out} has files, and none of a collection: name a new or an empty folder")
 
