@@ -297,7 +297,7 @@ class TaskTest(FolderTest):
     def test_few_reels_have_a_task_each_and_small_ones_one_together(self):
         self.assertEqual(self.sizes(1, 2, 3), [[1], [2], [3]])
         self.assertEqual([len(task) for task in self.sizes(*[1] * 130)], [4] * 32 + [2])
-        self.assertEqual({len(task) for task in self.sizes(*[1] * 16000)}, {64})
+        self.assertEqual({len(task) for task in self.sizes(*[1] * 16000)}, {128})
         self.assertEqual(self.sizes(), [])
 
     def test_large_reels_have_a_task_each(self):

@@ -29,7 +29,7 @@ DESCRIPTION = """Judges each reel that folders of copies have by one path, and m
 collection.csv and collection.json. GNU parallel runs the tasks. Called again it judges what is new or changed. No copy is changed."""
 EPILOG = "exit status: 0 each reel has an undamaged or a mended file; 1 some can't be read, or a fault; 2 wrong words; 3 some are in doubt"
 # The most reels and bytes of a task, in how many tasks few reels are divided, the seconds between looks at the log, and the options passed on.
-MOST_REELS, MOST_BYTES, FEW_TASKS, PAUSE, MOST_LINES = 64, 1 << 28, 32, 0.5, 100
+MOST_REELS, MOST_BYTES, FEW_TASKS, PAUSE, MOST_LINES = 128, 1 << 28, 32, 0.5, 100
 PASSED = {"hosts": "--sshloginfile", "jobs": "--jobs", "memfree": "--memfree", "retries": "--retries"}
 
 
