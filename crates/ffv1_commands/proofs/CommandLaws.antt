@@ -326,10 +326,10 @@ module _ (config : List ℕ) (width height : ℕ) (setup : SetupValue) (copies :
       record {
         written = λ ob oa pb pa whole does.
             let same = one_holding Profile does.held (holding_of is.reel copies) file does.file is.text is.has in
-            let picture = subst (λ (h : Contents). IsPartialPicture h does.partial) same does.picture in (
-              does.partial.frame,
-              subst (λ (s : SetupValue). ShowsSlices s slices does.partial.frame) (sym same_setup)
-                  (exact_shows (holding_of is.reel copies) original slices reel own_original all does.partial picture),
+            let picture = subst (λ (h : Contents). IsPartialPicture h does.shown) same does.picture in (
+              does.shown.frame,
+              subst (λ (s : SetupValue). ShowsSlices s slices does.shown.frame) (sym same_setup)
+                  (exact_shows (holding_of is.reel copies) original slices reel own_original all does.shown picture),
               does.samples,
             );
         refused = not_shown;

@@ -1,12 +1,11 @@
 -- What holds of inputs that were read.
-use Rattle.std.proofs.Common.{◌≡◌, ℕ, List, [], ◌∷◌, ◌++◌, ◌≤◌, length, take, map, Option, None, Some, refl, sym, subst, arith}
+use Rattle.std.proofs.Common.{◌≡◌, ℕ, List, [], ◌∷◌, ◌++◌, ◌≤◌, length, take, map, Option, None, Some, refl, sym, arith}
 use Rattle.std.proofs.lemmas.List.{length-map, length-take-le, take_all}
 use Rattle.std.proofs.KnownBytes.{Consumes-whole}
 use Rattle.std.specs.Io.KnownBytes.{Consumes}
-use Rattle.ffv1_devices.specs.Logs.{ReadLog}
 use Rattle.ffv1_commands.specs.Inner.Devices.{ReadsWhole}
 use Rattle.ffv1_commands.specs.Devices.{InputBegins, HasBytes, IsWholeInput, AreWholeInputs}
-use Rattle.ffv1_commands.specs.InTurn.{log_of, ReadsAlone, IsTaken, AreTaken}
+use Rattle.ffv1_commands.specs.InTurn.{IsTaken, AreTaken}
 
 -- what was read to the end is what the input has
 pub reports_whole : (before after : Option (List ℕ)) (bytes : List ℕ) → ReadsWhole before after bytes → HasBytes before bytes
@@ -28,10 +27,6 @@ length-AreWholeInputs (i ∷ is) [] each = absurd each
 length-AreWholeInputs (i ∷ is) (b ∷ bs) each = let rest = length-AreWholeInputs is bs each.1 in omega arith
 
 -- ---- inputs that were read, each by a source of its own
-
--- one was read by a source that began so
-pub read_alone : (Went : ReadLog → ReadLog → Type 0) (input : Option (List ℕ)) (a b : ReadLog) → a ≡ log_of input → Went a b → ReadsAlone Went input
-read_alone Went input a b same went = (b, subst (λ (log : ReadLog). Went log b) same went)
 
 pub AreTaken-push : (inputs : List (Option (List ℕ))) (all : List (List ℕ)) (input : Option (List ℕ)) (bytes : List ℕ) → AreTaken inputs all
     → IsTaken input bytes → AreTaken (inputs ++ input ∷ []) (all ++ bytes ∷ [])

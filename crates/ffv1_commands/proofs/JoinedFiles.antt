@@ -14,7 +14,7 @@ use Rattle.ffv1_hold.proofs.Magics.{begun_none}
 use Rattle.ffv1_commands.specs.Fault.{NamesPath, of_hold}
 use Rattle.ffv1_commands.specs.Paths.{IsJoinPath}
 use Rattle.ffv1_commands.specs.InTurn.{AreKeptFrom, log_of, ReadsAlone}
-use Rattle.ffv1_commands.specs.Holdings.{IsHoldingFile}
+use Rattle.ffv1_commands.specs.Holdings.{IsHoldingFile, HoldingStops}
 use Rattle.ffv1_commands.specs.Inner.Holdings.{MadeStops, WritesMade}
 use Rattle.ffv1_commands.specs.JoinText.{file_line, JoinsEach, JoinsFiles, IsFaultOfFiles, IsFaultOfInput, StopsAtPlace, LaterFilesKept, JoinStops, IsReadAsFile, AreReadAsFiles, FileBreaks, JoinBreaks, JoinsAll, StopsAtFile, ReportsJoin}
 use Rattle.ffv1_commands.specs.Inner.JoinText.{JoinsOne}
@@ -41,10 +41,10 @@ file_joined recordings a b number old new lines lines' one = record {
 }
 
 -- where the buffer of a file is refused nothing is read
-pub unbuffered : (recordings : Recordings) (path : CommandPath) (whole : Contents) (input : Option (List ℕ)) → ReadsAlone (JoinBreaks recordings path whole faults.Memory) input
-unbuffered recordings path whole input = (
+pub unbuffered : (recordings : Recordings) (path : CommandPath) (input : Option (List ℕ)) → ReadsAlone (HoldingStops recordings path faults.Memory) input
+unbuffered recordings path input = (
   log_of input,
-  inl (inl (
+  (
     files.Memory,
     refl,
     record {
@@ -52,7 +52,7 @@ unbuffered recordings path whole input = (
       tries' = record { counted = omega arith; unbroken = refl; last = inr refl };
       few = omega arith;
     },
-  )),
+  ),
 )
 
 -- a file that was read is refused for its reel, or memory ran out

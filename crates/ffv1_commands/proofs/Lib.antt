@@ -18,7 +18,6 @@ pub mod Outcomes
 pub mod ReportSteps
 pub mod DecodeSteps
 pub mod PictureSteps
-pub mod AnyPictureSteps
 pub mod CommandLaws
 pub mod SpliceCommandLaws
 pub mod WholeFrames

@@ -1,10 +1,11 @@
 -- Sources that the caller keeps, of copies that are read in turn: what their logs show of a copy shows it of a source that began without a
 -- failure too.
-use Rattle.std.proofs.Common.{◌≡◌, ◌<◌, ℕ, zero, suc, List, [], ◌∷◌, length, get_or, set, drop, map, inl, inr, refl, sym, subst, arith}
+use Rattle.std.proofs.Common.{◌≡◌, ◌<◌, ℕ, zero, suc, List, [], ◌∷◌, length, get_or, set, drop, map, Option, Result, Ok, Err, IfErr, inl, inr, refl, sym, subst, arith, rules}
 use Rattle.ffv1_devices.specs.Logs.{ReadLog, Reads, BreaksOff}
 use Rattle.ffv1_devices.specs.Streams.{no_failures}
 use Rattle.ffv1_commands.specs.Devices.{TakesWhole, IsUnread, GivesUpWithin, FileStops, CopyStops}
 use Rattle.ffv1_commands.specs.InTurn.{log_of, ReadsAlone, IsTaken, WentAt, IfCopyUnread}
+use Rattle.ffv1_commands.specs.Inner.Inputs.{Goes}
 use Rattle.ffv1_commands.specs.declared.fault.CliFault.{CliFault}
 use Rattle.ffv1_commands.specs.declared.fault.CliFault.TheVariants as faults
 use Rattle.ffv1_commands.specs.declared.path.CommandPath.{CommandPath}
@@ -46,33 +47,70 @@ copy_stops_anew path (faults.Hold fault) a b (same, (bytes, read, long)) = (_, (
 copy_stops_anew path faults.Memory a b (bytes, read, few) = (_, (bytes, reads_anew a b bytes read, few))
 copy_stops_anew path fault a b stops = absurd stops
 
--- ---- the source at a place
+-- ---- an input that is read so
 
-module _ {C : Type 0} (log : C → ReadLog) where
-  -- the sources before it were read, and those from it on are as they were
-  pub went_at : (Went : ReadLog → ReadLog → Type 0) (old now : List C) (place : ℕ) (d new : C) → drop place now ≡ drop place old → length now ≡ length old
-      → place < length old → Went (log (get_or now place d)) (log new) → WentAt Went place (map log old) (map log (set now place new))
-  went_at Went [] now place d new same long there went = absurd (omega arith)
-  went_at Went (one ∷ old) [] place d new same long there went = absurd (omega arith)
-  went_at Went (one ∷ old) (two ∷ now) zero d new same long there went =
-      let here : two ≡ one = cc in
-      subst (λ (c : C). Went (log c) (log new)) here went
-  went_at Went (one ∷ old) (two ∷ now) (suc place) d new same long there went = went_at Went old now place d new same (omega arith) (omega arith) went
+-- its source shows the bytes that the input had left
+module _ {C : Type 0} (went : C → C → ReadLog → ReadLog → Type 0) (remaining : C → Option (List ℕ))
+    (left : (old new : C) (a b : ReadLog) → went old new a b → a.remaining ≡ remaining old) where
+  pub goes_anew : (Went : ReadLog → ReadLog → Type 0) → ((a b : ReadLog) → Went a b → ReadsAlone Went a.remaining) → (old new : C) → Goes went Went old new
+      → ReadsAlone Went (remaining old)
+  goes_anew Went anew old new (a, b, so, how) = subst (ReadsAlone Went) (left old new a b so) (anew a b how)
 
+  pub goes_taken : (bytes : List ℕ) (old new : C) → Goes went (λ a b. TakesWhole a b bytes) old new → IsTaken (remaining old) bytes
+  goes_taken bytes = goes_anew (λ a b. TakesWhole a b bytes) (λ a b. takes_anew a b bytes)
+
+  pub file_goes : (path : CommandPath) (fault : CliFault) (old new : C) → Goes went (FileStops path fault) old new → ReadsAlone (FileStops path fault) (remaining old)
+  file_goes path fault = goes_anew (FileStops path fault) (file_stops_anew path fault)
+
+  pub copy_goes : (path : CommandPath) (fault : CliFault) (old new : C) → Goes went (CopyStops path fault) old new → ReadsAlone (CopyStops path fault) (remaining old)
+  copy_goes path fault = goes_anew (CopyStops path fault) (copy_stops_anew path fault)
+
+-- ---- the input at a place
+
+-- the inputs before it were read, and those from it on are as they were
+pub went_at : {X : Type 0} (Went : X → X → Type 0) (old now : List X) (place : ℕ) (d new : X) → drop place now ≡ drop place old → length now ≡ length old
+    → place < length old → Went (get_or now place d) new → WentAt Went place old (set now place new)
+went_at Went [] now place d new same long there went = absurd (omega arith)
+went_at Went (one ∷ old) [] place d new same long there went = absurd (omega arith)
+went_at {X} Went (one ∷ old) (two ∷ now) zero d new same long there went =
+    let here : two ≡ one = cc in
+    subst (λ (x : X). Went x new) here went
+went_at Went (one ∷ old) (two ∷ now) (suc place) d new same long there went = went_at Went old now place d new same (omega arith) (omega arith) went
+
+module _ {C : Type 0} (went : C → C → ReadLog → ReadLog → Type 0) (old now : List C) (place : ℕ) (d new : C) (same : drop place now ≡ drop place old)
+    (long : length now ≡ length old) (there : place < length old) where
   -- it was not read as a file
-  pub file_unread : (old now : List C) (place : ℕ) (d new : C) (fault : CliFault) → drop place now ≡ drop place old → length now ≡ length old
-      → place < length old → FileStops (paths.Copy place) fault (log (get_or now place d)) (log new)
-      → IfCopyUnread IsUnread (map log old) (map log (set now place new)) fault
-  file_unread old now place d new (faults.Read path) same long there (is, unread) =
-      subst (λ p. IfCopyUnread IsUnread (map log old) (map log (set now place new)) (faults.Read p)) (sym is)
-      (went_at IsUnread old now place d new same long there unread)
-  file_unread old now place d new fault same long there stops = tt
+  pub file_unread : (fault : CliFault) → Goes went (FileStops (paths.Copy place) fault) (get_or now place d) new
+      → IfCopyUnread (Goes went IsUnread) old (set now place new) fault
+  file_unread (faults.Read path) (a, b, so, (is, unread)) =
+      subst (λ p. IfCopyUnread (Goes went IsUnread) old (set now place new) (faults.Read p)) (sym is)
+      (went_at (Goes went IsUnread) old now place d new same long there (a, b, so, unread))
+  file_unread fault stops = tt
 
   -- nor as a copy
-  pub copy_unread : (old now : List C) (place : ℕ) (d new : C) (fault : CliFault) → drop place now ≡ drop place old → length now ≡ length old
-      → place < length old → CopyStops (paths.Copy place) fault (log (get_or now place d)) (log new)
-      → IfCopyUnread GivesUpWithin (map log old) (map log (set now place new)) fault
-  copy_unread old now place d new (faults.Read path) same long there (is, unread) =
-      subst (λ p. IfCopyUnread GivesUpWithin (map log old) (map log (set now place new)) (faults.Read p)) (sym is)
-      (went_at GivesUpWithin old now place d new same long there unread)
-  copy_unread old now place d new fault same long there stops = tt
+  pub copy_unread : (fault : CliFault) → Goes went (CopyStops (paths.Copy place) fault) (get_or now place d) new
+      → IfCopyUnread (Goes went GivesUpWithin) old (set now place new) fault
+  copy_unread (faults.Read path) (a, b, so, (is, unread)) =
+      subst (λ p. IfCopyUnread (Goes went GivesUpWithin) old (set now place new) (faults.Read p)) (sym is)
+      (went_at (Goes went GivesUpWithin) old now place d new same long there (a, b, so, unread))
+  copy_unread fault stops = tt
+
+-- ---- sources that the caller keeps
+
+module _ {C : Type 0} (log : C → ReadLog) (Went : ReadLog → ReadLog → Type 0) where
+  abbrev pub Kept : C → C → Type 0
+  Kept = Goes (λ old new a b. (a ≡ log old) × (b ≡ log new)) Went
+
+  -- their logs went so
+  pub kept_at : (place : ℕ) (old new : List C) → WentAt Kept place old new → WentAt Went place (map log old) (map log new)
+  kept_at zero (one ∷ old) (two ∷ new) (a, b, (first, last), how) = subst (λ (l : ReadLog). Went l (log two)) first (subst (Went a) last how)
+  kept_at (suc place) (one ∷ old) (two ∷ new) went = kept_at place old new went
+  kept_at zero [] new went = absurd went
+  kept_at zero (one ∷ old) [] went = absurd went
+  kept_at (suc place) [] new went = absurd went
+  kept_at (suc place) (one ∷ old) [] went = absurd went
+
+  pub kept_unread : {T : Type 0} (r : Result T CliFault) (old new : List C) → IfErr r (IfCopyUnread Kept old new) → IfErr r (IfCopyUnread Went (map log old) (map log new))
+  kept_unread (Ok x) old new unread = tt
+  kept_unread (Err (faults.Read (paths.Copy place))) old new unread = kept_at place old new unread
+  kept_unread (Err fault) old new unread = search rules

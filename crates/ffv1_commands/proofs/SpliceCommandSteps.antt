@@ -2,7 +2,7 @@
 use Rattle.std.proofs.Common.{◌≡◌, ℕ, ◌<◌, Bool, List, [], ◌∷◌, ◌++◌, length, map, Option, Result, Ok, Err, IfOk, IfErr, inl, inr, refl, sym, ap, ◌∙◌, subst, arith}
 use Rattle.std.specs.Prelude.{◌↔◌, IsTrue}
 use Rattle.std.proofs.lemmas.List.{length-map, map-append}
-use Rattle.ffv1_devices.specs.Logs.{ReadLog, WriteLog, Writes}
+use Rattle.ffv1_devices.specs.Logs.{WriteLog, Writes}
 use Rattle.ffv1_splice.specs.Splice.{SplicedValue, IsSpliceOf, IsGivenBack}
 use Rattle.ffv1_splice.specs.Faults.{IsOfOtherLength}
 use Rattle.ffv1_commands.specs.Devices.{AreWholeInputs, FileStops, BothStop}
@@ -66,7 +66,7 @@ module _ {C : Type 0} (remaining : C → Option (List ℕ)) (old new : List C) (
   spliced_reported (Err f) wrote refuses = inr (copies, taken, refuses)
 
 -- no fault says that a copy was not read
-pub refuses_read : (Went : ReadLog → ReadLog → Type 0) (old new : List ReadLog) (copies : List (List ℕ)) (out out' output output' : WriteLog)
+pub refuses_read : {X : Type 0} (Went : X → X → Type 0) (old new : List X) (copies : List (List ℕ)) (out out' output output' : WriteLog)
     (r : Result Bool CliFault) → IfErr r (SpliceRefuses copies out out' output output') → IfErr r (IfCopyUnread Went old new)
 refuses_read Went old new copies out out' output output' (Ok returned) refuses = tt
 refuses_read Went old new copies out out' output output' (Err (faults.Read path)) refuses = absurd refuses

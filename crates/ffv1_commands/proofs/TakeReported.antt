@@ -93,7 +93,7 @@ made_reported recordings reports width height a b old new out out' output output
 made_reported recordings reports width height a b old new out out' output output' held text all (Err fault) breaks = inr (inr (held, text, all, breaks))
 
 -- no fault of the record says that a copy was not read
-pub record_read : (recordings : Recordings) (Went : ReadLog → ReadLog → Type 0) (old new : List ReadLog) (width height : ℕ) (a b : ReadLog) (fault : CliFault)
+pub record_read : {X : Type 0} (recordings : Recordings) (Went : X → X → Type 0) (old new : List X) (width height : ℕ) (a b : ReadLog) (fault : CliFault)
     → ReelStops recordings width height a b fault → IfCopyUnread Went old new fault
 record_read recordings Went old new width height a b fault stops =
     ReelStops-says recordings (IfCopyUnread Went old new) width height a b fault tt tt (λ setup config took first. tt) stops

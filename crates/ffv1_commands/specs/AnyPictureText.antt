@@ -1,13 +1,10 @@
 -- What the command `picture --any` makes and prints: the samples of what can be shown of a holding of any recording, and a line for each tile
 -- that has none, or whose slice does not end as an encoder ends it.
-use Rattle.std.specs.Prelude.{ℕ, ◌++◌, ◌↔◌, ◌⊎◌, Bool, true, IsTrue, All, List, [], length, Option, Result, Ok, Err, slice_index_or, codes, ◌≡◌, if◌then◌else◌}
+use Rattle.std.specs.Prelude.{ℕ, ◌++◌, Bool, true, All, List, [], length, Option, Result, slice_index_or, codes, ◌≡◌, if◌then◌else◌}
 use Rattle.std.specs.List.{flat_map, range_with_len}
 use Rattle.std.specs.Fmt.{decimal}
-use Rattle.std.specs.Io.KnownBytes.{Appends}
-use Rattle.ffv1_devices.specs.Logs.{ReadLog, WriteLog, Writes}
-use Rattle.ffv1_holding.specs.Contents.{Contents}
+use Rattle.ffv1_devices.specs.Logs.{ReadLog, WriteLog}
 use Rattle.ffv1_holding.specs.declared.recordings.Recordings.TheVariants.{Any}
-use Rattle.ffv1_hold.specs.FileFaults.{ReadsHolding}
 use Rattle.ffv1_samples.specs.declared.faults.SliceFault.{SliceFault}
 use Rattle.ffv1_samples.specs.declared.faults.SliceFault.TheVariants as causes
 use Rattle.ffv1_player.specs.Shown.{ShowsHolding}
@@ -15,12 +12,9 @@ use Rattle.ffv1_player.specs.Written.{samples_bytes}
 use Rattle.ffv1_player.specs.declared.shown.Shown.{Shown}
 use Rattle.ffv1_player.specs.declared.shown.ShownTile.{ShownTile}
 use Rattle.ffv1_player.specs.declared.shown.ShownTile.TheVariants.{Decoded, Missing, Disputed, NoKeyframe, Fault}
-use Rattle.ffv1_commands.specs.Devices.{WriteStops, BothStop, BothKept}
-use Rattle.ffv1_commands.specs.Holdings.{IsHoldingFile, IsHoldingFault, HoldingStops}
+use Rattle.ffv1_commands.specs.Pictures.{ShowsPicture, ShowingStops, ReportsShowing}
 use Rattle.ffv1_commands.specs.PictureText.{missing_line, disputed_line, stuck_line, header_line}
 use Rattle.ffv1_commands.specs.declared.fault.CliFault.{CliFault}
-use Rattle.ffv1_commands.specs.declared.fault.CliFault.TheVariants as faults
-use Rattle.ffv1_commands.specs.declared.path.CommandPath.TheVariants as paths
 
 -- the frame is no keyframe
 abbrev pub no_keyframe_line : ℕ → List ℕ
@@ -57,46 +51,28 @@ abbrev pub IsShownWhole : ShownTile → Type 0
 IsShownWhole (Decoded end) = end.is_clean ≡ true
 IsShownWhole _ = ⊥
 
+-- the samples of what is shown, its lines, and where it is whole: each tile is
+abbrev pub shown_samples : Shown → List ℕ
+shown_samples shown = samples_bytes shown.samples
+
+abbrev pub shown_lines : Shown → List ℕ
+shown_lines shown = shown_text shown.tiles.items
+
+abbrev pub IsWholeShown : Shown → Type 0
+IsWholeShown shown = All IsShownWhole shown.tiles.items
+
 -- What can be shown of the file's holding was written, and then the lines were printed; it is whole where each tile is.
-pub record ShowsAnyFile (input out_before out_after printed_before printed_after : Option (List ℕ)) (whole : Bool) : Type 0 where
-  pub held : Contents
-  pub shown : Shown
-  pub file : IsHoldingFile Any input held
-  pub picture : ShowsHolding held shown
-  pub samples : Appends out_before out_after (samples_bytes shown.samples)
-  pub printed : Appends printed_before printed_after (shown_text shown.tiles.items)
-  pub is_whole : IsTrue whole ↔ All IsShownWhole shown.tiles.items
+abbrev pub ShowsAnyFile : (input out_before out_after printed_before printed_after : Option (List ℕ)) → Bool → Type 0
+ShowsAnyFile input out_before out_after printed_before printed_after whole =
+    ShowsPicture Any ShowsHolding shown_samples shown_lines IsWholeShown
+    input out_before out_after printed_before printed_after whole
 
--- What a fault says, and what it left in the outputs where writing failed: the file's fault, or a front of what is written.
+-- What a fault says, and what it left in the outputs where writing failed.
 abbrev pub AnyPictureStops : (input out_before out_after printed_before printed_after : Option (List ℕ)) → CliFault → Type 0
-AnyPictureStops input out_before out_after printed_before printed_after (faults.Write path) =
-    (h : Contents) × (shown : Shown) × IsHoldingFile Any input h × ShowsHolding h shown
-    × WriteStops (samples_bytes shown.samples) (shown_text shown.tiles.items) out_before out_after printed_before printed_after (faults.Write path)
-AnyPictureStops input out_before out_after printed_before printed_after fault = IsHoldingFault Any (paths.Hold 0) input fault
+AnyPictureStops input out_before out_after printed_before printed_after fault =
+    ShowingStops Any ShowsHolding shown_samples shown_lines
+    input out_before out_after printed_before printed_after fault
 
--- ---- over the logs of the devices
-
--- what stopped the command once the file was read: Memory, or writing
-abbrev pub AnyPictureRefuses : Contents → (out_old out_new output_old output_new : WriteLog) → CliFault → Type 0
-AnyPictureRefuses h out_old out_new output_old output_new faults.Memory = BothKept out_old out_new output_old output_new
-AnyPictureRefuses h out_old out_new output_old output_new (faults.Write path) =
-    (shown : Shown) × ShowsHolding h shown
-    × BothStop (faults.Write path) (samples_bytes shown.samples) (shown_text shown.tiles.items) out_old out_new output_old output_new
-AnyPictureRefuses h out_old out_new output_old output_new _ = ⊥
-
--- What can be shown of the holding and then its lines were written, and it is whole where each tile is.
-pub record WritesShown (h : Contents) (out_old out_new output_old output_new : WriteLog) (whole : Bool) : Type 0 where
-  pub shown : Shown
-  pub picture : ShowsHolding h shown
-  pub samples : Writes out_old out_new (samples_bytes shown.samples)
-  pub printed : Writes output_old output_new (shown_text shown.tiles.items)
-  pub is_whole : IsTrue whole ↔ All IsShownWhole shown.tiles.items
-
--- The file was read, and what can be shown was written; or it was not read, and both outputs are as they were; or it was, and the command
--- stopped after that.
+-- The same over the logs of the devices.
 abbrev pub ReportsAnyPicture : Result Bool CliFault → (file_old file_new : ReadLog) → (out_old out_new output_old output_new : WriteLog) → Type 0
-ReportsAnyPicture (Ok whole) file_old file_new out_old out_new output_old output_new =
-    (h : Contents) × ReadsHolding Any file_old file_new h × WritesShown h out_old out_new output_old output_new whole
-ReportsAnyPicture (Err fault) file_old file_new out_old out_new output_old output_new =
-    (HoldingStops Any (paths.Hold 0) fault file_old file_new × BothKept out_old out_new output_old output_new)
-    ⊎ ((h : Contents) × ReadsHolding Any file_old file_new h × AnyPictureRefuses h out_old out_new output_old output_new fault)
+ReportsAnyPicture = ReportsShowing Any ShowsHolding shown_samples shown_lines IsWholeShown

@@ -45,15 +45,15 @@ pub record StopsAtCopy {C : Type 0} (Stops : CommandPath → CliFault → ReadLo
   pub stopped : ReadsAlone (Stops (paths.Copy index) fault) (slice_index_or (map remaining old) index None)
   pub later : AreKeptFrom (index + 1) old new
 
--- ---- over sources that the caller keeps
+-- ---- the input at a place
 
--- The source at this place went so.
-abbrev pub WentAt : (ReadLog → ReadLog → Type 0) → ℕ → (old new : List ReadLog) → Type 0
+-- It went so, as its source or otherwise.
+abbrev pub WentAt : {X : Type 0} → (X → X → Type 0) → ℕ → (old new : List X) → Type 0
 WentAt Went zero (old ∷ olds) (new ∷ news) = Went old new
 WentAt Went (suc place) (old ∷ olds) (new ∷ news) = WentAt Went place olds news
 WentAt Went place _ _ = ⊥
 
 -- What a fault rests on that says that a copy was not read: its source went so.
-abbrev pub IfCopyUnread : (ReadLog → ReadLog → Type 0) → (old new : List ReadLog) → CliFault → Type 0
+abbrev pub IfCopyUnread : {X : Type 0} → (X → X → Type 0) → (old new : List X) → CliFault → Type 0
 IfCopyUnread Went old new (faults.Read (paths.Copy place)) = WentAt Went place old new
 IfCopyUnread Went old new _ = Unit {0}

@@ -5,3 +5,5 @@ pub mod Formats
 pub mod Holdings
 pub mod JoinText
 pub mod TakeText
+pub mod Inputs
+pub mod Pictures

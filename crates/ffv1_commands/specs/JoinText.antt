@@ -157,7 +157,11 @@ ReportsJoin recordings (Err fault) reports first_old first_new others_old others
     ⊎ ((whole : Contents) × (text : List ℕ) × JoinsAll recordings (map reports others_old) first_old first_new whole text
     × MadeBreaks whole text out_old out_new output_old output_new fault)
 
--- What a fault rests on that says that a file after the first was not read: its source was given up.
+-- What a fault rests on that says that a file after the first was not read: its source went so.
+abbrev pub IfFileUnread : {X : Type 0} → (X → X → Type 0) → (old new : List X) → CliFault → Type 0
+IfFileUnread Went old new (faults.Read (paths.Hold (suc place))) = WentAt Went place old new
+IfFileUnread Went old new _ = Unit {0}
+
+-- its source was given up
 abbrev pub IfLaterUnread : Recordings → (old new : List ReadLog) → CliFault → Type 0
-IfLaterUnread recordings old new (faults.Read (paths.Hold (suc place))) = WentAt (IsUnheld recordings) place old new
-IfLaterUnread recordings old new _ = Unit {0}
+IfLaterUnread recordings old new = IfFileUnread (IsUnheld recordings) old new

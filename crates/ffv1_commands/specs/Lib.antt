@@ -17,6 +17,7 @@ pub mod MergeText
 pub mod RestoreText
 pub mod SamplesText
 pub mod DecodeText
+pub mod Pictures
 pub mod PictureText
 pub mod AnyPictureText
 pub mod PlayText

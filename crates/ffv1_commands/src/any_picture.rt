@@ -6,13 +6,14 @@ ghost use Rattle.ffv1_commands.specs.PictureText.{stuck_line};
 ghost use Rattle.ffv1_commands.specs.Fault.{NamesPath};
 ghost use Rattle.ffv1_commands.specs.Paths.{IsHoldPath};
 ghost use Rattle.ffv1_commands.specs.Devices.{UnlessWriting};
-ghost use Rattle.ffv1_commands.specs.Inner.Devices.{WritesNamed, WritesBoth};
-ghost use Rattle.ffv1_commands.specs.AnyPictureText.{slice_fault_line, unclean_tile_line, shown_line, shown_text, IsShownWhole, ShowsAnyFile, AnyPictureStops, ReportsAnyPicture};
+ghost use Rattle.ffv1_commands.specs.Inner.Devices.{WritesNamed};
+ghost use Rattle.ffv1_commands.specs.AnyPictureText.{slice_fault_line, unclean_tile_line, shown_line, shown_text, IsShownWhole, shown_samples, shown_lines, IsWholeShown, ShowsAnyFile, AnyPictureStops, ReportsAnyPicture};
 
-use crate::devices::{buffered, write_file};
+use crate::devices::buffered;
 use crate::fault::CliFault;
 use crate::holdings::read_holding;
 use crate::path::CommandPath;
+use crate::pictures::{Pictured, write_picture};
 use ffv1_devices::{Sink, Source, ThroughWrite, WriteFailed};
 use ffv1_hold::{Holding, Recordings};
 use ffv1_player::{Samples, Shown, ShownTile, SliceEnd, show_holding, write_samples};
@@ -62,9 +63,7 @@ pub fn any_picture_of<R: Source, O: Sink, W: Sink>(
 {
     let holding = read_holding(alloc, Recordings::Any, file, CommandPath::Hold(0))?;
     let shown = shown_of_holding(alloc, holding)?;
-    let lines = shown_lines(alloc, shown.tiles.as_slice())?;
-    write_samples_shown(out, &shown.samples, output, lines.as_str())?;
-    Ok(are_whole(shown.tiles.as_slice()))
+    write_picture(alloc, &shown, out, output)
 }
 
 /// What can be shown of a holding.
@@ -74,38 +73,32 @@ fn shown_of_holding(alloc: Global, holding: Holding<Recording>) -> Result<Shown,
     show_holding(alloc, &holding)
 }
 
-/// Writes samples to OUT, or a front of them where that fails.
-fn write_frame<O: Sink>(out: &mut O, samples: &Samples) -> Result<(), CliFault>
-    ensures { WritesNamed CommandPath.Out result (O.log out.old) (O.log out.new) (samples_bytes samples.now) }
-{
-    match write_samples(samples, out) {
-        Ok(()) => Ok(()),
-        Err(WriteFailed) => Err(CliFault::Write(CommandPath::Out)),
+impl Pictured for Shown {
+    ghost samples = { shown_samples };
+
+    ghost lines = { shown_lines };
+
+    ghost IsWhole = { IsWholeShown };
+
+    fn write<O: Sink>(&self, out: &mut O) -> Result<(), CliFault> {
+        match write_samples(&self.samples, out) {
+            Ok(()) => Ok(()),
+            Err(WriteFailed) => Err(CliFault::Write(CommandPath::Out)),
+        }
+    }
+
+    fn text(&self, alloc: Global) -> Result<String, AllocError> {
+        tiles_text(alloc, self.tiles.as_slice())
+    }
+
+    fn is_whole(&self) -> bool {
+        let tiles = self.tiles.as_slice();
+        tiles.iter().all(|tile| matches!(tile, ShownTile::Decoded(SliceEnd { is_clean: true, .. })))
     }
 }
 
-/// Writes samples to OUT, and then prints a text.
-fn write_samples_shown<O: Sink, W: Sink>(
-    out: &mut O,
-    samples: &Samples,
-    output: &mut W,
-    text: &str,
-) -> Result<(), CliFault>
-    ensures { WritesBoth result (samples_bytes samples.now) text.now (O.log out.old) (O.log out.new) (W.log output.old) (W.log output.new) }
-{
-    write_frame(out, samples)?;
-    write_file(output, CommandPath::StandardOutput, text.as_bytes())
-}
-
-/// Whether each tile has samples, and its slice ends as an encoder ends it.
-fn are_whole(tiles: &[ShownTile]) -> bool
-    ensures { IsTrue result ↔ All IsShownWhole tiles.now }
-{
-    tiles.iter().all(|tile| matches!(tile, ShownTile::Decoded(SliceEnd { is_clean: true, .. })))
-}
-
 /// The lines of the tiles.
-fn shown_lines(alloc: Global, tiles: &[ShownTile]) -> Result<String, AllocError>
+fn tiles_text(alloc: Global, tiles: &[ShownTile]) -> Result<String, AllocError>
     ensures { IfOk result (λ text. string_bytes text ≡ shown_text tiles.now) }
 {
     let mut text = String::new(alloc);

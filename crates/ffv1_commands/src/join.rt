@@ -6,13 +6,15 @@ ghost use Rattle.ffv1_hold.specs.FileFaults.{ReadsHolding};
 ghost use Rattle.ffv1_commands.specs.Fault.{NamesPath};
 ghost use Rattle.ffv1_commands.specs.Paths.{IsJoinPath};
 ghost use Rattle.ffv1_commands.specs.Devices.{UnlessWriting};
-ghost use Rattle.ffv1_commands.specs.InTurn.{ReadsAlone};
-ghost use Rattle.ffv1_commands.specs.JoinText.{file_line, FileBreaks, JoinsAll, JoinsFiles, StopsAtFile, LaterFilesKept, JoinStops, ReportsJoin, IfLaterUnread};
+ghost use Rattle.ffv1_commands.specs.Inner.Inputs.{Goes};
+ghost use Rattle.ffv1_commands.specs.Holdings.{IsUnheld};
+ghost use Rattle.ffv1_commands.specs.JoinText.{file_line, FileBreaks, JoinsAll, JoinsFiles, StopsAtFile, LaterFilesKept, JoinStops, ReportsJoin, IfFileUnread, IfLaterUnread};
 ghost use Rattle.ffv1_commands.specs.Inner.JoinText.{JoinsFile};
 
 use crate::devices::buffered;
 use crate::fault::CliFault;
 use crate::holdings::{read_holding, write_made};
+use crate::inputs::{Alone, Inputs, Kept};
 use crate::path::CommandPath;
 use ffv1_devices::{Sink, Source, ThroughWrite};
 use ffv1_hold::{HoldFault, Holding, Join, Recordings};
@@ -48,7 +50,7 @@ pub fn run_join<R: Read, O: Write, W: Write>(
     ensures names { IfErr result (NamesPath (IsJoinPath (length others.old + 1))) }
 {
     let mut first = buffered(alloc, first)?;
-    join_readers(
+    join_by::<_, Alone, _, _, _>(
         alloc,
         recordings,
         &mut first,
@@ -74,14 +76,11 @@ pub fn join_of<F: Source, R: Source, O: Sink, W: Sink>(
     ensures unread { IfErr result (IfLaterUnread recordings (map R.log others.old) (map R.log others.new)) }
     ensures untouched { IfErr result (λ fault. UnlessWriting fault ((out.new ≡ out.old) × (output.new ≡ output.old))) }
 {
-    let mut lines = String::new(alloc);
-    let whole = join_sources(alloc, recordings, first, others, &mut lines)?;
-    write_made(out, &whole, output, lines.as_str())
+    join_by::<_, Kept, _, _, _>(alloc, recordings, first, others, out, output)
 }
 
-/// The same over readers of the other files. Each is read by a source of its own, which begins without a failure, and is gone once the call
-/// ends: so the caller can't see its tries.
-fn join_readers<F: Source, R: Read, O: Sink, W: Sink>(
+/// The command over other files that are read so, and a source and sinks.
+fn join_by<F: Source, I: Inputs<R>, R, O: Sink, W: Sink>(
     alloc: Global,
     recordings: Recordings,
     first: &mut F,
@@ -90,17 +89,18 @@ fn join_readers<F: Source, R: Read, O: Sink, W: Sink>(
     output: &mut W,
 ) -> Result<(), CliFault>
     requires { length others.old < 2 ^ 63 }
-    ensures reported { ReportsJoin recordings result R.remaining (F.log first.old) (F.log first.new) others.old others.new
+    ensures reported { ReportsJoin recordings result I.remaining (F.log first.old) (F.log first.new) others.old others.new
         (O.log out.old) (O.log out.new) (W.log output.old) (W.log output.new) }
+    ensures unread { IfErr result (IfFileUnread (Goes I.went (IsUnheld recordings)) others.old others.new) }
     ensures untouched { IfErr result (λ fault. UnlessWriting fault ((out.new ≡ out.old) × (output.new ≡ output.old))) }
 {
     let mut lines = String::new(alloc);
-    let whole = join_files(alloc, recordings, first, others, &mut lines)?;
+    let whole = join_inputs::<_, I, _>(alloc, recordings, first, others, &mut lines)?;
     write_made(out, &whole, output, lines.as_str())
 }
 
-/// Joins the holdings of files, which are sources, and adds a line for each.
-fn join_sources<F: Source, R: Source>(
+/// Joins the holdings of files, and adds a line for each.
+fn join_inputs<F: Source, I: Inputs<R>, R>(
     alloc: Global,
     recordings: Recordings,
     first: &mut F,
@@ -109,13 +109,13 @@ fn join_sources<F: Source, R: Source>(
 ) -> Result<Holding<Recording>, CliFault>
     requires few { length others.old < 2 ^ 63 }
     requires none { string_bytes lines.old ≡ [] }
-    ensures ok { IfOk result (λ whole. JoinsAll recordings (map (λ file. (R.log file).remaining) others.old) (F.log first.old) (F.log first.new) whole (string_bytes lines.new)) }
-    ensures err { IfErr result (StopsAtFile recordings (λ file. (R.log file).remaining) (F.log first.old) (F.log first.new) others.old others.new) }
-    ensures unread { IfErr result (IfLaterUnread recordings (map R.log others.old) (map R.log others.new)) }
+    ensures ok { IfOk result (λ whole. JoinsAll recordings (map I.remaining others.old) (F.log first.old) (F.log first.new) whole (string_bytes lines.new)) }
+    ensures err { IfErr result (StopsAtFile recordings I.remaining (F.log first.old) (F.log first.new) others.old others.new) }
+    ensures unread { IfErr result (IfFileUnread (Goes I.went (IsUnheld recordings)) others.old others.new) }
 {
     let mut whole = first_holding(alloc, recordings, first, lines)?;
     for place in 0..others.len() {
-        join_file_of(
+        join_file::<I, _>(
             alloc,
             recordings,
             &mut whole,
@@ -143,37 +143,8 @@ fn first_holding<F: Source>(
     Ok(whole)
 }
 
-/// The same of readers.
-fn join_files<F: Source, R: Read>(
-    alloc: Global,
-    recordings: Recordings,
-    first: &mut F,
-    others: &mut [R],
-    lines: &mut String,
-) -> Result<Holding<Recording>, CliFault>
-    requires few { length others.old < 2 ^ 63 }
-    requires none { string_bytes lines.old ≡ [] }
-    ensures ok { IfOk result (λ whole. JoinsAll recordings (map R.remaining others.old) (F.log first.old) (F.log first.new) whole (string_bytes lines.new)) }
-    ensures err { IfErr result (StopsAtFile recordings R.remaining (F.log first.old) (F.log first.new) others.old others.new) }
-{
-    let mut whole = first_holding(alloc, recordings, first, lines)?;
-    for index in 0..others.len() {
-        if let Err(fault) = join_file(
-            alloc,
-            recordings,
-            &mut whole,
-            &mut others[index],
-            index + 1,
-            lines,
-        ) {
-            return Err(fault);
-        }
-    }
-    Ok(whole)
-}
-
 /// Joins the holding of a file, before which stand so many others, into another, and adds a line for it.
-fn join_file<R: Read>(
+fn join_file<I: Inputs<R>, R>(
     alloc: Global,
     recordings: Recordings,
     whole: &mut Holding<Recording>,
@@ -182,25 +153,9 @@ fn join_file<R: Read>(
     lines: &mut String,
 ) -> Result<(), CliFault>
     requires { before < 2 ^ 63 }
-    ensures { ReadsAlone (JoinsFile recordings result before whole.old whole.new (string_bytes lines.old) (string_bytes lines.new)) (R.remaining file.old) }
+    ensures { Goes I.went (JoinsFile recordings result before whole.old whole.new (string_bytes lines.old) (string_bytes lines.new)) file.old file.new }
 {
-    let mut file = buffered(alloc, file)?;
-    join_file_of(alloc, recordings, whole, &mut file, before, lines)
-}
-
-/// The same over a source.
-fn join_file_of<R: Source>(
-    alloc: Global,
-    recordings: Recordings,
-    whole: &mut Holding<Recording>,
-    file: &mut R,
-    before: usize,
-    lines: &mut String,
-) -> Result<(), CliFault>
-    requires { before < 2 ^ 63 }
-    ensures { JoinsFile recordings result before whole.old whole.new (string_bytes lines.old) (string_bytes lines.new) (R.log file.old) (R.log file.new) }
-{
-    let other = read_holding(alloc, recordings, file, CommandPath::Hold(before))?;
+    let other = I::holding(alloc, recordings, file, CommandPath::Hold(before))?;
     let new = join_in(whole, other)?;
     push_file(lines, before + 1, new)?;
     Ok(())

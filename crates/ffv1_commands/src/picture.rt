@@ -4,13 +4,14 @@ ghost use Rattle.ffv1_picture.specs.PartialPictures.{IsPartialPicture};
 ghost use Rattle.ffv1_commands.specs.Fault.{NamesPath};
 ghost use Rattle.ffv1_commands.specs.Paths.{IsHoldPath};
 ghost use Rattle.ffv1_commands.specs.Devices.{UnlessWriting};
-ghost use Rattle.ffv1_commands.specs.PictureText.{stuck_line, header_line, unreadable_line, outcome_line, picture_text, IsDecoded, ShowsFile, PictureStops, ReportsPicture};
+ghost use Rattle.ffv1_commands.specs.PictureText.{stuck_line, header_line, unreadable_line, outcome_line, picture_text, IsDecoded, partial_samples, partial_lines, IsWholePartial, ShowsFile, PictureStops, ReportsPicture};
 
 use crate::devices::buffered;
 use crate::fault::CliFault;
 use crate::holdings::read_profile_holding;
 use crate::path::CommandPath;
-use crate::samples::write_shown;
+use crate::pictures::{Pictured, write_picture};
+use crate::samples::write_frame;
 use ffv1_devices::{Sink, Source, ThroughWrite};
 use ffv1_hold::Holding;
 use ffv1_picture::{Partial, TileOutcome, picture};
@@ -58,9 +59,7 @@ pub fn picture_of<R: Source, O: Sink, W: Sink>(
 {
     let holding = read_profile_holding(alloc, file, CommandPath::Hold(0))?;
     let partial = picture_of_holding(alloc, holding)?;
-    let lines = outcomes_text(alloc, partial.tiles.as_slice())?;
-    write_shown(out, &partial.frame, output, lines.as_str())?;
-    Ok(are_decoded(partial.tiles.as_slice()))
+    write_picture(alloc, &partial, out, output)
 }
 
 /// The partial picture of a holding.
@@ -70,13 +69,27 @@ fn picture_of_holding(alloc: Global, holding: Holding) -> Result<Partial, AllocE
     picture(alloc, &holding)
 }
 
-/// Whether each tile has samples.
-fn are_decoded(outcomes: &[TileOutcome]) -> bool
-    ensures { IsTrue result ↔ All IsDecoded outcomes.now }
-{
-    outcomes
-        .iter()
-        .all(|outcome| matches!(outcome, TileOutcome::Decoded { .. }))
+impl Pictured for Partial {
+    ghost samples = { partial_samples };
+
+    ghost lines = { partial_lines };
+
+    ghost IsWhole = { IsWholePartial };
+
+    fn write<O: Sink>(&self, out: &mut O) -> Result<(), CliFault> {
+        write_frame(out, &self.frame)
+    }
+
+    fn text(&self, alloc: Global) -> Result<String, AllocError> {
+        outcomes_text(alloc, self.tiles.as_slice())
+    }
+
+    fn is_whole(&self) -> bool {
+        let outcomes = self.tiles.as_slice();
+        outcomes
+            .iter()
+            .all(|outcome| matches!(outcome, TileOutcome::Decoded { .. }))
+    }
 }
 
 /// The lines of the tiles without samples.

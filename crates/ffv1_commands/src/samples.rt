@@ -9,7 +9,7 @@ use ffv1_devices::Sink;
 use ffv1_picture::{Frame, WriteFault, write_raw};
 
 /// Writes the samples of a frame to OUT, or a front of them where that fails.
-fn write_frame<O: Sink>(out: &mut O, frame: &Frame) -> Result<(), CliFault>
+pub(crate) fn write_frame<O: Sink>(out: &mut O, frame: &Frame) -> Result<(), CliFault>
     ensures { WritesNamed CommandPath.Out result (O.log out.old) (O.log out.new) (raw_bytes frame.now) }
 {
     match write_raw(frame, out) {

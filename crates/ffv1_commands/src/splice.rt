@@ -5,14 +5,15 @@ ghost use Rattle.ffv1_splice.specs.Splice.{IsSpliceOf};
 ghost use Rattle.ffv1_commands.specs.Fault.{NamesPath};
 ghost use Rattle.ffv1_commands.specs.Paths.{IsSplicePath};
 ghost use Rattle.ffv1_commands.specs.Devices.{UnlessWriting, IsUnread, FileStops};
-ghost use Rattle.ffv1_commands.specs.Inner.Devices.{ReadsNamed};
-ghost use Rattle.ffv1_commands.specs.InTurn.{ReadsAlone, AreTaken, StopsAtCopy, IfCopyUnread};
+ghost use Rattle.ffv1_commands.specs.InTurn.{AreTaken, StopsAtCopy, IfCopyUnread};
+ghost use Rattle.ffv1_commands.specs.Inner.Inputs.{Goes};
 ghost use Rattle.ffv1_commands.specs.SpliceText.{standing_line, splice_text, IsLengthFault, SplicesCopies, SpliceStops, LaterCopiesKept, WritesSplice, SpliceRefuses, ReportsSplice};
 
-use crate::devices::{read_file, write_both};
+use crate::devices::write_both;
 use crate::fault::CliFault;
+use crate::inputs::{Alone, Inputs, Kept};
 use crate::path::CommandPath;
-use ffv1_devices::{FromRead, Sink, Source, ThroughWrite};
+use ffv1_devices::{Sink, Source, ThroughWrite};
 use ffv1_splice::{Place, SpliceFault, Spliced, push_front, push_place, splice};
 use std::alloc::{AllocError, Global};
 use std::io::{Read, Write};
@@ -42,7 +43,7 @@ pub fn run_splice<C: Read, O: Write, W: Write>(
     ensures names { IfErr result (NamesPath (IsSplicePath (length copies.old))) }
     ensures later_kept { IfErr result (LaterCopiesKept copies.old copies.new) }
 {
-    splice_readers(
+    splice_by::<Alone, _, _, _>(
         alloc,
         copies,
         &mut ThroughWrite::new(out),
@@ -63,23 +64,22 @@ pub fn splice_of<C: Source, O: Sink, W: Sink>(
     ensures unread { IfErr result (IfCopyUnread IsUnread (map C.log copies.old) (map C.log copies.new)) }
     ensures untouched { IfErr result (λ fault. UnlessWriting fault ((out.new ≡ out.old) × (output.new ≡ output.old))) }
 {
-    let read = read_sources(alloc, copies)?;
-    write_splice(alloc, read, out, output)
+    splice_by::<Kept, _, _, _>(alloc, copies, out, output)
 }
 
-/// The same over readers of copies. Each is read by a source of its own, which begins without a failure, and is gone once the call ends: so
-/// the caller can't see its tries.
-fn splice_readers<C: Read, O: Sink, W: Sink>(
+/// The command over copies that are read so, and sinks.
+fn splice_by<I: Inputs<C>, C, O: Sink, W: Sink>(
     alloc: Global,
     copies: &mut [C],
     out: &mut O,
     output: &mut W,
 ) -> Result<bool, CliFault>
     requires { 0 < length copies.old }
-    ensures reported { ReportsSplice C.remaining result copies.old copies.new (O.log out.old) (O.log out.new) (W.log output.old) (W.log output.new) }
+    ensures reported { ReportsSplice I.remaining result copies.old copies.new (O.log out.old) (O.log out.new) (W.log output.old) (W.log output.new) }
+    ensures unread { IfErr result (IfCopyUnread (Goes I.went IsUnread) copies.old copies.new) }
     ensures untouched { IfErr result (λ fault. UnlessWriting fault ((out.new ≡ out.old) × (output.new ≡ output.old))) }
 {
-    let read = read_copies(alloc, copies)?;
+    let read = read_inputs::<I, _>(alloc, copies)?;
     write_splice(alloc, read, out, output)
 }
 
@@ -102,40 +102,18 @@ fn write_splice<O: Sink, W: Sink>(
     Ok(spliced.is_given_back())
 }
 
-/// The bytes of all copies, which are sources that are read in turn, up to the first that can't be read.
-fn read_sources<C: Source>(alloc: Global, copies: &mut [C]) -> Result<Vec<Vec<u8>>, CliFault>
-    ensures ok { IfOk result (λ read. AreTaken (map (λ copy. (C.log copy).remaining) copies.old) (map (λ copy. copy.items) read.items)) }
-    ensures err { IfErr result (StopsAtCopy FileStops (λ copy. (C.log copy).remaining) copies.old copies.new) }
-    ensures unread { IfErr result (IfCopyUnread IsUnread (map C.log copies.old) (map C.log copies.new)) }
+/// The bytes of all copies, which are read in turn, up to the first that can't be read.
+fn read_inputs<I: Inputs<C>, C>(alloc: Global, copies: &mut [C]) -> Result<Vec<Vec<u8>>, CliFault>
+    ensures ok { IfOk result (λ read. AreTaken (map I.remaining copies.old) (map (λ copy. copy.items) read.items)) }
+    ensures err { IfErr result (StopsAtCopy FileStops I.remaining copies.old copies.new) }
+    ensures unread { IfErr result (IfCopyUnread (Goes I.went IsUnread) copies.old copies.new) }
 {
     let mut read = Vec::new(alloc);
     for index in 0..copies.len() {
-        let copy = read_file(alloc, &mut copies[index], CommandPath::Copy(index))?;
+        let copy = I::file(alloc, &mut copies[index], CommandPath::Copy(index))?;
         read.push(copy)?;
     }
     Ok(read)
-}
-
-/// The bytes of all copies, whose readers are read in turn, up to the first that can't be read.
-fn read_copies<C: Read>(alloc: Global, copies: &mut [C]) -> Result<Vec<Vec<u8>>, CliFault>
-    ensures ok { IfOk result (λ read. AreTaken (map C.remaining copies.old) (map (λ copy. copy.items) read.items)) }
-    ensures err { IfErr result (StopsAtCopy FileStops C.remaining copies.old copies.new) }
-{
-    let mut read = Vec::new(alloc);
-    for index in 0..copies.len() {
-        match read_one(alloc, &mut copies[index], index) {
-            Ok(copy) => read.push(copy)?,
-            Err(fault) => return Err(fault),
-        }
-    }
-    Ok(read)
-}
-
-/// The bytes of a copy, before which stand so many others; at most 2^30.
-fn read_one<C: Read>(alloc: Global, copy: &mut C, before: usize) -> Result<Vec<u8>, CliFault>
-    ensures { ReadsAlone (ReadsNamed (λ v. v.items) (CommandPath.Copy before) result) (C.remaining copy.old) }
-{
-    read_file(alloc, &mut FromRead::new(copy), CommandPath::Copy(before))
 }
 
 /// The splice of copies that were read, of which there is one at least.

@@ -5,14 +5,16 @@ ghost use Rattle.ffv1_holding.specs.Contents.{no_slices};
 ghost use Rattle.ffv1_commands.specs.Fault.{NamesPath};
 ghost use Rattle.ffv1_commands.specs.Paths.{IsTakePath};
 ghost use Rattle.ffv1_commands.specs.Devices.{IfOfRecord, GivesUpWithin, CopyStops, UnlessWriting};
-ghost use Rattle.ffv1_commands.specs.InTurn.{ReadsAlone, StopsAtCopy, IfCopyUnread};
+ghost use Rattle.ffv1_commands.specs.InTurn.{StopsAtCopy, IfCopyUnread};
+ghost use Rattle.ffv1_commands.specs.Inner.Inputs.{Goes};
 ghost use Rattle.ffv1_commands.specs.RecordInputs.{TakesReel, ReelStops};
 ghost use Rattle.ffv1_commands.specs.TakeText.{copy_line, TakesEach, TakesCopies, LaterKept, TakeStops, ReportsTake};
 ghost use Rattle.ffv1_commands.specs.Inner.TakeText.{TakesCopy};
 
-use crate::devices::{read_copy, read_file};
+use crate::devices::read_file;
 use crate::fault::CliFault;
 use crate::holdings::write_made;
+use crate::inputs::{Alone, Inputs, Kept};
 use crate::path::CommandPath;
 use ffv1_devices::{FromRead, Sink, Source, ThroughWrite};
 use ffv1_hold::{Holding, Recordings, Taken};
@@ -52,7 +54,7 @@ pub fn run_take<R: Read, C: Read, O: Write, W: Write>(
     ensures later_kept { IfErr result (LaterKept C.remaining copies.old copies.new) }
     ensures names { IfErr result (NamesPath (IsTakePath (length copies.old))) }
 {
-    take_readers(
+    take_by::<_, Alone, _, _, _>(
         alloc,
         recordings,
         &mut FromRead::new(configuration),
@@ -83,14 +85,20 @@ pub fn take_of<R: Source, C: Source, O: Sink, W: Sink>(
     ensures unread { IfErr result (IfCopyUnread GivesUpWithin (map C.log copies.old) (map C.log copies.new)) }
     ensures untouched { IfErr result (λ fault. UnlessWriting fault ((out.new ≡ out.old) × (output.new ≡ output.old))) }
 {
-    let mut holding = empty_holding(alloc, recordings, configuration, width, height)?;
-    let lines = take_sources(alloc, &mut holding, copies)?;
-    write_made(out, &holding, output, lines.as_str())
+    take_by::<_, Kept, _, _, _>(
+        alloc,
+        recordings,
+        configuration,
+        width,
+        height,
+        copies,
+        out,
+        output,
+    )
 }
 
-/// The same over readers of copies. Each is read by a source of its own, which begins without a failure, and is gone once the call ends: so
-/// the caller can't see its tries.
-fn take_readers<R: Source, C: Read, O: Sink, W: Sink>(
+/// The command over copies that are read so, and a source and sinks.
+fn take_by<R: Source, I: Inputs<C>, C, O: Sink, W: Sink>(
     alloc: Global,
     recordings: Recordings,
     configuration: &mut R,
@@ -101,12 +109,13 @@ fn take_readers<R: Source, C: Read, O: Sink, W: Sink>(
     output: &mut W,
 ) -> Result<(), CliFault>
     requires { length copies.old < 2 ^ 63 }
-    ensures reported { ReportsTake recordings result C.remaining width height (R.log configuration.old) (R.log configuration.new) copies.old copies.new
+    ensures reported { ReportsTake recordings result I.remaining width height (R.log configuration.old) (R.log configuration.new) copies.old copies.new
         (O.log out.old) (O.log out.new) (W.log output.old) (W.log output.new) }
+    ensures unread { IfErr result (IfCopyUnread (Goes I.went GivesUpWithin) copies.old copies.new) }
     ensures untouched { IfErr result (λ fault. UnlessWriting fault ((out.new ≡ out.old) × (output.new ≡ output.old))) }
 {
     let mut holding = empty_holding(alloc, recordings, configuration, width, height)?;
-    let lines = take_copies(alloc, &mut holding, copies)?;
+    let lines = take_inputs::<I, _>(alloc, &mut holding, copies)?;
     write_made(out, &holding, output, lines.as_str())
 }
 
@@ -126,49 +135,28 @@ fn empty_holding<R: Source>(
     Ok(Holding::of_record(alloc, recordings, config.as_slice(), width, height)?)
 }
 
-/// Takes copies, which are sources, into an empty holding, and adds a line for each.
-fn take_sources<C: Source>(
+/// Takes copies into an empty holding, and adds a line for each.
+fn take_inputs<I: Inputs<C>, C>(
     alloc: Global,
     holding: &mut Holding<Recording>,
     copies: &mut [C],
 ) -> Result<String, CliFault>
     requires empty { holding.old ≡ no_slices holding.old.reel }
     requires few { length copies.old < 2 ^ 63 }
-    ensures ok { IfOk result (λ lines. TakesEach (map (λ copy. (C.log copy).remaining) copies.old) holding.old.reel holding.new (string_bytes lines)) }
+    ensures ok { IfOk result (λ lines. TakesEach (map I.remaining copies.old) holding.old.reel holding.new (string_bytes lines)) }
     ensures reel { holding.new.reel ≡ holding.old.reel }
-    ensures err { IfErr result (StopsAtCopy CopyStops (λ copy. (C.log copy).remaining) copies.old copies.new) }
-    ensures unread { IfErr result (IfCopyUnread GivesUpWithin (map C.log copies.old) (map C.log copies.new)) }
+    ensures err { IfErr result (StopsAtCopy CopyStops I.remaining copies.old copies.new) }
+    ensures unread { IfErr result (IfCopyUnread (Goes I.went GivesUpWithin) copies.old copies.new) }
 {
     let mut lines = String::new(alloc);
     for index in 0..copies.len() {
-        take_copy_of(alloc, holding, &mut copies[index], index, &mut lines)?;
-    }
-    Ok(lines)
-}
-
-/// The same of readers.
-fn take_copies<C: Read>(
-    alloc: Global,
-    holding: &mut Holding<Recording>,
-    copies: &mut [C],
-) -> Result<String, CliFault>
-    requires empty { holding.old ≡ no_slices holding.old.reel }
-    requires few { length copies.old < 2 ^ 63 }
-    ensures ok { IfOk result (λ lines. TakesEach (map C.remaining copies.old) holding.old.reel holding.new (string_bytes lines)) }
-    ensures reel { holding.new.reel ≡ holding.old.reel }
-    ensures err { IfErr result (StopsAtCopy CopyStops C.remaining copies.old copies.new) }
-{
-    let mut lines = String::new(alloc);
-    for index in 0..copies.len() {
-        if let Err(fault) = take_copy(alloc, holding, &mut copies[index], index, &mut lines) {
-            return Err(fault);
-        }
+        take_copy::<I, _>(alloc, holding, &mut copies[index], index, &mut lines)?;
     }
     Ok(lines)
 }
 
 /// Takes a copy, before which stand so many others, and adds a line for it.
-fn take_copy<C: Read>(
+fn take_copy<I: Inputs<C>, C>(
     alloc: Global,
     holding: &mut Holding<Recording>,
     copy: &mut C,
@@ -176,25 +164,10 @@ fn take_copy<C: Read>(
     lines: &mut String,
 ) -> Result<(), CliFault>
     requires { before < 2 ^ 63 }
-    ensures reported { ReadsAlone (TakesCopy result before holding.old holding.new (string_bytes lines.old) (string_bytes lines.new)) (C.remaining copy.old) }
+    ensures reported { Goes I.went (TakesCopy result before holding.old holding.new (string_bytes lines.old) (string_bytes lines.new)) copy.old copy.new }
     ensures reel { holding.new.reel ≡ holding.old.reel }
 {
-    take_copy_of(alloc, holding, &mut FromRead::new(copy), before, lines)
-}
-
-/// The same over a source.
-fn take_copy_of<C: Source>(
-    alloc: Global,
-    holding: &mut Holding<Recording>,
-    copy: &mut C,
-    before: usize,
-    lines: &mut String,
-) -> Result<(), CliFault>
-    requires { before < 2 ^ 63 }
-    ensures reported { TakesCopy result before holding.old holding.new (string_bytes lines.old) (string_bytes lines.new) (C.log copy.old) (C.log copy.new) }
-    ensures reel { holding.new.reel ≡ holding.old.reel }
-{
-    let payload = read_copy(alloc, copy, CommandPath::Copy(before))?;
+    let payload = I::copy(alloc, copy, CommandPath::Copy(before))?;
     let taken = holding.take(payload.as_slice())?;
     push_taken(lines, before + 1, taken)?;
     Ok(())

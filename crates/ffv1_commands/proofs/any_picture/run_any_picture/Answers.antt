@@ -1,5 +1,5 @@
 use Rattle.std.proofs.Common.{rules}
-use Rattle.ffv1_commands.proofs.AnyPictureSteps.{any_picture_of_bytes}
+use Rattle.ffv1_commands.proofs.PictureSteps.{any_picture_of_bytes}
 use Rattle.ffv1_commands.proofs.Wrapped.{both_through}
 use Rattle.ffv1_commands.proofs.any_picture.run_any_picture.Goals as goal
 

@@ -1,17 +1,46 @@
-use Rattle.std.proofs.Common.{◌≡◌}
+use Rattle.std.proofs.Common.{◌++◌, ap, ◌∙◌, inl, inr, refl}
 use Rattle.std.proofs.lemmas.Result.{err_from_is_err_and}
-use Rattle.ffv1_commands.specs.Inner.JoinText.{JoinsFile}
-use Rattle.ffv1_commands.specs.declared.fault.CliFault.TheVariants.{Memory}
-use Rattle.ffv1_commands.specs.declared.path.CommandPath.TheVariants as paths
-use Rattle.ffv1_commands.proofs.InputLaws.{read_alone}
-use Rattle.ffv1_commands.proofs.JoinedFiles.{unbuffered}
+use Rattle.std.specs.String.{string_bytes}
+use Rattle.ffv1_commands.proofs.JoinSteps.{line_of_join-from}
+use Rattle.ffv1_commands.proofs.JoinedFiles.{join_refused}
 use Rattle.ffv1_commands.proofs.join.join_file.Goals as goal
 
-pub returns-in_err-file : goal.returns-in_err-file
-returns-in_err-file g c =
+pub returns-in_err-other : goal.returns-in_err-other
+returns-in_err-other g c =
     let p = err_from_is_err_and c.from_residual.result c.from_residual.ensures.1 in
-    let memory : c.in_err-file.field-0.0 ≡ Memory = c.in_err-file.ensures.err in
-    rw (p.1, p.2, memory) (unbuffered _ (paths.Hold c.args.before) c.args.whole.now (g.R.Read.remaining c.args.file.now))
+    let (a, b, so, stops) = c.in_err-other.ensures in
+    rw (p.1, p.2) (a, b, so, inl (inl stops))
+
+pub returns-in_err-new : goal.returns-in_err-new
+returns-in_err-new g c =
+    let p = err_from_is_err_and c.from_residual-in_err-new.result c.from_residual-in_err-new.ensures.1 in
+    let (a, b, so, read) = c.in_ok-other.ensures in
+    rw (p.1, p.2) (
+      a,
+      b,
+      so,
+      join_refused _ c.args.before _ _ c.args.whole.now c.in_ok-other.other read c.join_in.result
+          c.in_err-new.field-0.0 c.in_err-new.was c.join_in.ensures.other_reel c.join_in.ensures.too_long,
+    )
+
+pub returns-in_err-push_file : goal.returns-in_err-push_file
+returns-in_err-push_file g c =
+    let p = err_from_is_err_and c.from_residual-in_err-push_file.result c.from_residual-in_err-push_file.ensures.1 in
+    let (a, b, so, read) = c.in_ok-other.ensures in
+    rw (p.1, p.2) (a, b, so, inl (inr (refl, (c.in_ok-other.other, read))))
 
 pub returns : goal.returns
-returns g c = read_alone (JoinsFile c.args.recordings c.join_file_of.result c.args.before _ _ _ _) _ _ _ c.in_ok-file.ensures.ok c.join_file_of.ensures
+returns g c =
+    let (a, b, so, read) = c.in_ok-other.ensures in (
+      a,
+      b,
+      so,
+      record {
+        other = c.in_ok-other.other;
+        file = read;
+        same = c.in_ok-new.ensures.joinable;
+        held = c.in_ok-new.ensures.joined;
+        line = c.in_ok-push_file.ensures ∙ ap (λ t. string_bytes c.args.lines.now ++ t)
+            (line_of_join-from _ c.args.whole.now c.in_ok-other.other c.join_in.new.whole c.in_ok-new.new c.in_ok-new.ensures.joined c.in_ok-new.ensures.growth);
+      },
+    )

@@ -5,8 +5,8 @@ use Rattle.ffv1_commands.proofs.take.run_take.Goals as goal
 
 pub returns : goal.returns
 returns g c =
-    let bytes = take_of_bytes c.args.recordings _ _ _ _ _ _ _ _ _ _ _ c.take_readers.result c.take_readers.ensures.reported in
-    let kept = both_through c.take_readers.result _ _ _ _ _ _ c.new-2.ensures.writer c.new-3.ensures.writer c.take_readers.ensures.untouched in
+    let bytes = take_of_bytes c.args.recordings _ _ _ _ _ _ _ _ _ _ _ c.take_by.result c.take_by.ensures.reported in
+    let kept = both_through c.take_by.result _ _ _ _ _ _ c.new-2.ensures.writer c.new-3.ensures.writer c.take_by.ensures.untouched in
     record {
       ok = search (rules, bytes.ok);
       err = search (rules, bytes.err);

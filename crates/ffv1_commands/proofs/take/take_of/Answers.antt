@@ -1,45 +1,10 @@
-use Rattle.std.proofs.Common.{refl, inl, inr, sym, subst}
-use Rattle.std.proofs.lemmas.Result.{err_from_is_err_and}
 use Rattle.ffv1_commands.specs.Devices.{GivesUpWithin}
-use Rattle.ffv1_commands.specs.InTurn.{IfCopyUnread}
-use Rattle.ffv1_commands.specs.TakeText.{TakesEach}
-use Rattle.ffv1_commands.proofs.RecordFaults.{reel_both}
-use Rattle.ffv1_commands.proofs.InputFaults.{untouched_both}
-use Rattle.ffv1_commands.proofs.MadeFiles.{made_err}
-use Rattle.ffv1_commands.proofs.TakeReported.{copies-unwritten, made_reported, record_read}
+use Rattle.ffv1_commands.proofs.Sources.{kept_unread}
 use Rattle.ffv1_commands.proofs.take.take_of.Goals as goal
 
-pub returns-in_err-holding : goal.returns-in_err-holding
-returns-in_err-holding g c =
-    let p = err_from_is_err_and c.from_residual.result c.from_residual.ensures.1 in
-    let f = c.in_err-holding.field-0.0 in
-    let stops = c.in_err-holding.ensures.err in
-    rw (p.1, p.2) (record {
-      reported = inl (stops, refl, (refl, refl));
-      unread = record_read c.args.recordings _ _ _ c.args.width c.args.height _ _ f stops;
-      untouched = reel_both c.args.recordings c.args.width c.args.height _ _ c.args.out.now c.args.output.now f stops;
-    })
-
-pub returns-in_err-lines : goal.returns-in_err-lines
-returns-in_err-lines g c =
-    let p = err_from_is_err_and c.from_residual-in_err-lines.result c.from_residual-in_err-lines.ensures.1 in
-    let f = c.in_err-lines.field-0.0 in
-    let reel = c.in_ok-holding.holding.reel in
-    let stops = c.in_err-lines.ensures.err in
-    rw (p.1, p.2) (record {
-      reported = inr (inl (reel, c.in_ok-holding.ensures.reel, stops, (refl, refl)));
-      unread = c.in_err-lines.ensures.unread;
-      untouched = untouched_both c.args.out.now c.args.output.now f (copies-unwritten _ _ _ f stops);
-    })
-
 pub returns : goal.returns
-returns g c =
-    let reel = c.in_ok-holding.holding.reel in
-    let each = subst (TakesEach _ reel c.take_sources.new.holding) (sym c.as_str.ensures.value) c.in_ok-lines.ensures.ok in
-    let r = c.write_made.result in
-    record {
-      reported = made_reported c.args.recordings _ c.args.width c.args.height _ _ c.args.copies.now _ _ _ _ _ c.take_sources.new.holding c.as_str.result.now
-          (record { reel = reel; of_record = c.in_ok-holding.ensures.reel; each = each }) r c.write_made.ensures.reported;
-      unread = made_err c.take_sources.new.holding c.as_str.result.now _ _ _ _ (IfCopyUnread GivesUpWithin _ _) (λ file. tt) tt tt r c.write_made.ensures.reported;
-      untouched = c.write_made.ensures.untouched;
-    }
+returns g c = record {
+  reported = c.take_by.ensures.reported;
+  unread = kept_unread g.C.Source.log GivesUpWithin c.take_by.result _ _ c.take_by.ensures.unread;
+  untouched = c.take_by.ensures.untouched;
+}

@@ -1,8 +1,7 @@
 use Rattle.std.proofs.Common.{IfErr, rules}
 use Rattle.ffv1_commands.specs.AnyPictureText.{AnyPictureStops}
 use Rattle.ffv1_commands.specs.PictureText.{PictureStops}
-use Rattle.ffv1_commands.proofs.AnyPictureSteps.{any_picture_of_bytes}
-use Rattle.ffv1_commands.proofs.PictureSteps.{picture_of_bytes}
+use Rattle.ffv1_commands.proofs.PictureSteps.{picture_of_bytes, any_picture_of_bytes}
 use Rattle.ffv1_commands.proofs.Wrapped.{both_through}
 use Rattle.ffv1_program.proofs.Runs.{of_left}
 use Rattle.ffv1_program.proofs.Unread.{unread_as, picture_unread, any_picture_unread}
