@@ -48,11 +48,11 @@ use Rattle.ffv1_commands.specs.declared.fault.CliFault.TheVariants as faults
 use Rattle.ffv1_commands.specs.declared.path.CommandPath.TheVariants as paths
 
 -- The file is that of the holding of the copies, under the reel of the record and the size.
-record IsFileOf (recordings : Recordings) (config : List ℕ) (width height : ℕ) (copies : List (List ℕ)) (file : List ℕ) : Type 0 where
-  reel : Reel
-  of_record : IsReelOf recordings config width height reel
-  text : file ≡ holding_text (holding_of reel copies)
-  has : HasFile (holding_of reel copies)
+pub record IsFileOf (recordings : Recordings) (config : List ℕ) (width height : ℕ) (copies : List (List ℕ)) (file : List ℕ) : Type 0 where
+  pub reel : Reel
+  pub of_record : IsReelOf recordings config width height reel
+  pub text : file ≡ holding_text (holding_of reel copies)
+  pub has : HasFile (holding_of reel copies)
 
 -- ---- what is read
 
@@ -66,7 +66,7 @@ whole_inputs (c ∷ cs) (b ∷ bs) each =
     cc
 
 -- a file is that of one holding
-one_holding : (recordings : Recordings) (g h : Contents) (file : List ℕ) → IsHoldingFile recordings (Some file) g → file ≡ holding_text h → HasFile h → g ≡ h
+pub one_holding : (recordings : Recordings) (g h : Contents) (file : List ℕ) → IsHoldingFile recordings (Some file) g → file ≡ holding_text h → HasFile h → g ≡ h
 one_holding recordings g h file is text has = one_text g h file is.well_formed has.well_formed is.fits.record' has.fits.record'
     (is.version, is.fits.stated, is.text) (Second, has.fits.stated, text)
 
@@ -152,7 +152,7 @@ module _ (recordings : Recordings) (config : List ℕ) (width height : ℕ) wher
         has = subst HasFile whole merges.has_file;
       }
 
-  made : (copies : List (List ℕ)) (file : List ℕ) → IsMadeOf recordings config width height copies file → IsFileOf recordings config width height copies file
+  pub made : (copies : List (List ℕ)) (file : List ℕ) → IsMadeOf recordings config width height copies file → IsFileOf recordings config width height copies file
   made _ _ (by_take copies file before after takes) = of_take copies file before after takes
   made _ _ (by_join parts files file before after l each joins) =
       of_join parts files file before after l (λ i lt. made (get_or parts i []) (get_or files i []) (each i lt)) joins
@@ -162,7 +162,7 @@ module _ (recordings : Recordings) (config : List ℕ) (width height : ℕ) wher
 -- ---- the same copies
 
 -- the reel of a record is of the recordings as which it is read
-taken_reel : (recordings : Recordings) (config : List ℕ) (width height : ℕ) (reel : Reel) → IsReelOf recordings config width height reel
+pub taken_reel : (recordings : Recordings) (config : List ℕ) (width height : ℕ) (reel : Reel) → IsReelOf recordings config width height reel
     → MayRead recordings reel.rules.is_profile
 taken_reel Profile config width height reel is =
     ap (λ (r : Reel). r.rules.is_profile) is.2 ∙ record_of_profile config width height is.0 is.1
@@ -234,7 +234,7 @@ same_copies_make_one_report recordings also config width height copies others fi
 -- ---- copies of an original
 
 -- a holding's own file shows no fault
-no_fault : (recordings : Recordings) (h : Contents) (file : List ℕ) → MayRead recordings h.reel.rules.is_profile → file ≡ holding_text h → HasFile h
+pub no_fault : (recordings : Recordings) (h : Contents) (file : List ℕ) → MayRead recordings h.reel.rules.is_profile → file ≡ holding_text h → HasFile h
     → (fault : HoldFileFault) → IsHoldingFault recordings (paths.Hold 0) (Some file) (faults.HoldFile fault) → ⊥
 no_fault recordings h file of text has fault stops =
     let own : IsFaultOf recordings (holding_text h) fault = subst (λ (t : List ℕ). IsFaultOf recordings t fault) text stops in

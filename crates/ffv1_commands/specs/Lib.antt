@@ -26,6 +26,7 @@ pub mod SpliceText
 pub mod ScanText
 pub mod MendText
 pub mod Commands
+pub mod SmallCommands
 pub mod SpliceLaws
 pub mod MendLaws
 pub mod UnreadLaws

@@ -1,5 +1,6 @@
 //! The way from copies to a frame or a file by commands, whatever their order (own), as contracts of functions that do nothing.
 ghost use Rattle.ffv1_commands.specs.Commands.{MadeOfCopies, SameCopiesMakeOneFile, SameCopiesMakeOneHolding, SameCopiesMakeOneReport, CommandsRestoreTheOriginal, CommandsRestoreNearCopies, CommandsShowTheOriginal, CommandsShowNearCopies};
+ghost use Rattle.ffv1_commands.specs.SmallCommands.{CommandsRestoreByAFunction};
 ghost use Rattle.ffv1_commands.specs.MendLaws.{ListedIsMade, AnyOrderMakesOneFile, TrueIsVouched, MendGivesTheOriginal};
 ghost use Rattle.ffv1_commands.specs.UnreadLaws.{UnreadIsGivenUp, LongCopyIsGivenUp};
 ghost use Rattle.ffv1_commands.specs.SpliceLaws.{SameCopiesMakeOneSplice, SpliceGivesTheOriginal, SpliceGivesNearCopies, SpliceGivesWovenCopies, SpliceGivesNearWovenCopies, TrueIsWhole};
@@ -25,6 +26,13 @@ pub fn commands_restore_the_original()
     ensures near { CommandsRestoreNearCopies }
     ensures shows { CommandsShowTheOriginal }
     ensures shows_near { CommandsShowNearCopies }
+{}
+
+/// Of a record and a size some function gives contents their tiles, and there is a number of tiles, such that whatever trees of `take`, `join`
+/// and `merge` lead from copies to a holding file, what `restore` writes of it is what is restored from the copies by them, byte for byte;
+/// and where a payload is restored from the copies, it is refused only as reading, writing or memory failed.
+pub fn commands_restore_by_a_function()
+    ensures { CommandsRestoreByAFunction }
 {}
 
 /// However the same copies are ordered or repeated, `splice` writes the same file, prints the same lines and returns the

@@ -30,3 +30,5 @@ pub use Rattle.ffv1_holding.specs.TileState
 pub use Rattle.ffv1_holding.specs.TileStates
 pub use Rattle.ffv1_holding.specs.Refusals
 pub use Rattle.ffv1_holding.specs.Originals
+pub use Rattle.ffv1_holding.specs.Small
+pub use Rattle.ffv1_holding.specs.SmallNotions

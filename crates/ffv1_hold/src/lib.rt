@@ -26,8 +26,8 @@ pub use ffv1_devices::{
 };
 pub use ffv1_holding::{
     HoldFault, Holding, Join, JoinAllFault, Recordings, RestoreFault, SliceSet, TakeAllFault,
-    Taken, TileState, copies_hold_the_original, held_is_found, join_all,
-    near_copies_hold_the_original, origin_is_a_copy,
+    Taken, TileState, copies_hold_the_original, copies_restore_the_original, held_is_found,
+    join_all, near_copies_hold_the_original, notions_are_of_holdings, origin_is_a_copy,
 };
 pub use file_fault::HoldFileFault;
 pub use laws::{one_fault, one_read_limit, one_text, text_shows_no_fault};

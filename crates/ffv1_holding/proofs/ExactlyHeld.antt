@@ -30,14 +30,14 @@ module _ {K : Type 0} {R : K → K → Ordering} (o : IsTotalOrder R) (same : Is
   tied_self q = ap is_eq (tied_itself o q)
 
   -- an item is listed where one that ties with it is
-  listed : (q : K) (es : List K) → list_any (eq_by_cmp R q) es ≡ true → Contains es q
+  pub listed : (q : K) (es : List K) → list_any (eq_by_cmp R q) es ≡ true → Contains es q
   listed q [] any = absurd (cc)
   listed q (e ∷ es) any =
       or_cases (eq_by_cmp R q e) (list_any (eq_by_cmp R q) es) (Contains (e ∷ es) q) any
       (λ tie. (0, omega arith, sym (tied_is q e tie)))
       (λ rest. let there = listed q es rest in (suc there.0, omega (arith, there.1), there.2))
 
-  ties : (q : K) (es : List K) → Contains es q → list_any (eq_by_cmp R q) es ≡ true
+  pub ties : (q : K) (es : List K) → Contains es q → list_any (eq_by_cmp R q) es ≡ true
   ties q [] (k, lt, is) = absurd (omega arith)
   ties q (e ∷ es) (zero, lt, is) = or_left _ _ (ap (eq_by_cmp R q) is ∙ tied_self q)
   ties q (e ∷ es) (suc k, lt, is) = or_right _ _ (ties q es (k, omega arith, is))

@@ -37,5 +37,10 @@ pub mod Found
 pub mod TileReads
 pub mod Restored
 pub mod ExactlyHeld
+pub mod SmallLaws
+pub mod SmallOriginals
+pub mod SmallLinks
+pub mod SmallStates
 pub mod Errors
 mod NearVectors
+mod SmallVectors

@@ -14,6 +14,8 @@ pub mod TileStates
 pub mod Refusals
 pub mod Originals
 pub mod Laws
+pub mod Small
+pub mod SmallNotions
 pub mod Inner
 pub use Rattle.ffv1_range.specs.Setup
 pub use Rattle.ffv1_range.specs.SetupFaults

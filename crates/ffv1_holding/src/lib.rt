@@ -18,6 +18,7 @@ mod restore;
 mod rows;
 mod shelf;
 mod slice_set;
+mod small;
 mod standing;
 mod take;
 
@@ -31,5 +32,6 @@ pub use recordings::Recordings;
 pub use reel::Reel;
 pub use restore::RestoreFault;
 pub use slice_set::SliceSet;
+pub use small::{copies_restore_the_original, notions_are_of_holdings};
 pub use standing::TileState;
 pub use take::{TakeAllFault, Taken};

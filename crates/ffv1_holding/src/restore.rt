@@ -10,6 +10,8 @@ ghost use Rattle.ffv1_holding.specs.TileStates.{state_shown};
 ghost use Rattle.ffv1_holding.specs.Refusals.{IsRefusal};
 ghost use Rattle.ffv1_holding.specs.Contents.{slices_of_copies};
 ghost use Rattle.ffv1_holding.specs.Originals.{AreNear, HoldsExactly};
+ghost use Rattle.ffv1_holding.specs.Small.{IsRestoredFrom};
+ghost use Rattle.ffv1_holding.specs.SmallNotions.{tile_by};
 
 use crate::holding::Holding;
 use crate::standing::{TileState, least_status, state};
@@ -103,6 +105,13 @@ impl<S: Recorded> Holding<S> {
             → self.now.slices ≡ slices_of_copies self.now.reel.rules copies → IfOk result (λ restored. restored.items ≡ payload) }
         ensures near_settled { (payload : List ℕ) (slices copies : List (List ℕ)) → AreNear self.now.reel.rules payload slices copies
             → self.now.slices ≡ slices_of_copies self.now.reel.rules copies → OnErr result (result ≡ Err RestoreFault.Memory) }
+
+        // Where just what is found in copies is held, what is returned is what is restored from the copies, and where a payload is restored
+        // from them, the only refusal is `Memory`.
+        ensures of_copies { (copies : List (List ℕ)) → self.now.slices ≡ slices_of_copies self.now.reel.rules copies
+            → IfOk result (λ payload. IsRestoredFrom (tile_by self.now.reel.rules) (reel_tiles self.now.reel) copies payload.items) }
+        ensures of_copies_settled { (copies : List (List ℕ)) (payload : List ℕ) → self.now.slices ≡ slices_of_copies self.now.reel.rules copies
+            → IsRestoredFrom (tile_by self.now.reel.rules) (reel_tiles self.now.reel) copies payload → OnErr result (result ≡ Err RestoreFault.Memory) }
     {
         for tile in 0..self.held.tiles() {
             match self.state(tile) {

@@ -20,5 +20,7 @@ pub use Rattle.ffv1_commands.specs.PictureText
 pub use Rattle.ffv1_commands.specs.PlayText
 pub use Rattle.ffv1_commands.specs.ReportedText
 pub use Rattle.ffv1_commands.specs.Commands
+pub use Rattle.ffv1_commands.specs.SmallCommands
 pub use Rattle.ffv1_commands.specs.SpliceText
 pub use Rattle.ffv1_commands.specs.SpliceLaws
+pub use Rattle.ffv1_holding.specs.Small

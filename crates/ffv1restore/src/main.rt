@@ -9,13 +9,14 @@ ghost use Rattle.ffv1_program.specs.Reporting.{end_status};
 ghost use Rattle.ffv1_words.specs.WordPaths.{IsPathOf};
 
 pub use ffv1_commands::{
-    CliFault, any_order_makes_one_file, commands_restore_the_original, mend_claims_what_is_vouched,
-    mend_gives_the_original, mend_makes_what_is_listed, same_copies_make_one_file,
-    same_copies_make_one_splice, splice_gives_the_original, splice_reports_whole_frames,
-    splice_weaves_the_original,
+    CliFault, any_order_makes_one_file, commands_restore_by_a_function,
+    commands_restore_the_original, mend_claims_what_is_vouched, mend_gives_the_original,
+    mend_makes_what_is_listed, same_copies_make_one_file, same_copies_make_one_splice,
+    splice_gives_the_original, splice_reports_whole_frames, splice_weaves_the_original,
 };
 use ffv1_files::OutputFile;
 use ffv1_holding::Recordings;
+pub use ffv1_holding::copies_restore_the_original;
 pub use ffv1_program::run;
 use ffv1_program::{Disk, OUT_OF_MEMORY, command_line, early_line, end_status, out_word};
 use ffv1_words::{Words, read_words, recordings_of_words};

@@ -2,9 +2,10 @@ use Rattle.std.proofs.Common.{◌∙◌, Result, Ok, Err, IfOk, rules}
 use Rattle.std.proofs.Common.{sym, ap}
 use Rattle.ffv1_holding.specs.TileState.{missing, disputed}
 use Rattle.ffv1_holding.specs.TileStates.{state_shown}
-use Rattle.ffv1_holding.proofs.TileReads.{in_grid, reel_shown}
+use Rattle.ffv1_holding.proofs.TileReads.{in_grid, passed, reel_shown}
 use Rattle.ffv1_holding.proofs.Restored.{restored_original, never_unsettled}
 use Rattle.ffv1_holding.proofs.ExactlyHeld.{near_exact}
+use Rattle.ffv1_holding.proofs.SmallStates.{holding_restores, none_unsettled}
 use Rattle.ffv1_holding.proofs.holding.Holding.restore.Goals as goal
 
 -- what holds of the value in an `Ok` has consequences there
@@ -42,3 +43,22 @@ returns-in-Disputed-clause-near_settled g c payload slices copies near is =
 
 pub returns-in-Missing-clause-refused : goal.returns-in-Missing-clause-refused
 returns-in-Missing-clause-refused g c = search rules
+
+pub returns-clause-of_copies : goal.returns-clause-of_copies
+returns-clause-of_copies g c copies same =
+    if_ok c.joined_slices.result _ _ c.joined_slices.ensures.ok (λ payload is. holding_restores c.args.self.now copies same payload.items
+    (λ t lt. c.loop-tile.invariant t (passed c.self.inside c.self.invariant c.args.self.now c.self.view_is t c.tiles-tile-end.result c.loop-tile.tile lt
+    c.tiles-tile-end.ensures c.loop-tile-test.false))
+    is)
+
+pub returns-in-Missing-clause-of_copies_settled : goal.returns-in-Missing-clause-of_copies_settled
+returns-in-Missing-clause-of_copies_settled g c copies payload same is =
+    absurd (none_unsettled c.args.self.now copies same payload is c.loop-tile.tile
+    (in_grid c.self.inside c.self.invariant c.args.self.now c.self.view_is c.loop-tile.tile _ c.loop-tile-test.true c.tiles-tile-end.ensures) missing
+    (ap state_shown (sym c.in-Missing.is) ∙ c.state.ensures) (λ none. none))
+
+pub returns-in-Disputed-clause-of_copies_settled : goal.returns-in-Disputed-clause-of_copies_settled
+returns-in-Disputed-clause-of_copies_settled g c copies payload same is =
+    absurd (none_unsettled c.args.self.now copies same payload is c.loop-tile.tile
+    (in_grid c.self.inside c.self.invariant c.args.self.now c.self.view_is c.loop-tile.tile _ c.loop-tile-test.true c.tiles-tile-end.ensures)
+    (disputed c.in-Disputed.field-0) (ap state_shown (sym c.in-Disputed.is) ∙ c.state.ensures) (λ none. none))
