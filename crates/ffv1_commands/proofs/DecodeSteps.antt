@@ -11,7 +11,7 @@ use Rattle.ffv1_commands.specs.Inner.Devices.{WritesBoth}
 use Rattle.ffv1_commands.specs.RecordInputs.{IsSetupInput, TakesSetup, RecordStops}
 use Rattle.ffv1_commands.specs.Fault.{of_frame}
 use Rattle.ffv1_commands.specs.Paths.{IsDecodePath}
-use Rattle.ffv1_commands.specs.SamplesText.{raw_bytes, decoded_frame_line}
+use Rattle.ffv1_commands.specs.FrameText.{raw_bytes, decoded_frame_line}
 use Rattle.ffv1_commands.specs.DecodeText.{IsFrameInput, DecodesFile, DecodeStops, TakesFrame, FrameStops, ReportsDecode}
 use Rattle.ffv1_commands.specs.declared.fault.CliFault.{CliFault}
 use Rattle.ffv1_commands.specs.declared.fault.CliFault.TheVariants as faults

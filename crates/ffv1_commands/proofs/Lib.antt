@@ -35,4 +35,4 @@ pub mod ScanCommandSteps
 pub mod MendCommandSteps
 pub mod MendCommandLaws
 pub mod UnreadLaws
-pub mod PlaySteps
+pub mod SamplesSteps

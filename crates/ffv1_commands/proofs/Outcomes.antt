@@ -4,7 +4,7 @@ use Rattle.std.specs.Prelude.{codes}
 use Rattle.std.specs.Fmt.{decimal}
 use Rattle.ffv1_commands.specs.PictureText.{stuck_line}
 use Rattle.ffv1_commands.specs.AnyPictureText.{unclean_tile_line}
-use Rattle.ffv1_commands.specs.SamplesText.{decoded_line}
+use Rattle.ffv1_commands.specs.FrameText.{decoded_line}
 use Rattle.ffv1_commands.specs.TakeText.{copy_line}
 use Rattle.ffv1_commands.specs.JoinText.{file_line}
 use Rattle.ffv1_commands.specs.RestoreText.{restored_line}

@@ -21,7 +21,7 @@ use Rattle.ffv1_commands.specs.MergeText.{MergesFiles}
 use Rattle.ffv1_commands.specs.RestoreText.{RestoresFile, RestoreStops}
 use Rattle.ffv1_commands.specs.ReportedText.{ReportsFile}
 use Rattle.ffv1_commands.specs.PictureText.{ShowsFile, PictureStops}
-use Rattle.ffv1_commands.specs.SamplesText.{raw_bytes}
+use Rattle.ffv1_commands.specs.FrameText.{raw_bytes}
 use Rattle.ffv1_commands.specs.declared.fault.CliFault.{CliFault}
 use Rattle.ffv1_commands.specs.declared.fault.CliFault.TheVariants as faults
 

@@ -10,7 +10,7 @@ use Rattle.ffv1_picture.specs.declared.frame.Frame.{Frame}
 use Rattle.ffv1_picture.specs.declared.fault.FrameFault.TheVariants as frames
 use Rattle.ffv1_commands.specs.Devices.{IsWholeInput, WriteStops, TakesWhole, IsUnread, StopsWithin, BothStop, BothKept}
 use Rattle.ffv1_commands.specs.RecordInputs.{IsSetupInput, TakesSetup, RecordStops}
-use Rattle.ffv1_commands.specs.SamplesText.{raw_bytes, decoded_frame_line}
+use Rattle.ffv1_commands.specs.FrameText.{raw_bytes, decoded_frame_line}
 use Rattle.ffv1_commands.specs.declared.fault.CliFault.{CliFault}
 use Rattle.ffv1_commands.specs.declared.fault.CliFault.TheVariants as faults
 use Rattle.ffv1_commands.specs.declared.path.CommandPath.TheVariants as paths

@@ -15,12 +15,12 @@ pub mod TakeText
 pub mod JoinText
 pub mod MergeText
 pub mod RestoreText
-pub mod SamplesText
+pub mod FrameText
 pub mod DecodeText
 pub mod Pictures
 pub mod PictureText
 pub mod AnyPictureText
-pub mod PlayText
+pub mod SamplesText
 pub mod ReportedText
 pub mod SpliceText
 pub mod ScanText

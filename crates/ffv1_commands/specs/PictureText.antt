@@ -11,7 +11,7 @@ use Rattle.ffv1_picture.specs.declared.partial.Partial.{Partial}
 use Rattle.ffv1_picture.specs.declared.partial.TileOutcome.{TileOutcome}
 use Rattle.ffv1_picture.specs.declared.partial.TileOutcome.TheVariants.{Decoded, Missing, Disputed, Fault}
 use Rattle.ffv1_commands.specs.Pictures.{ShowsPicture, ShowingStops, ReportsShowing}
-use Rattle.ffv1_commands.specs.SamplesText.{raw_bytes}
+use Rattle.ffv1_commands.specs.FrameText.{raw_bytes}
 use Rattle.ffv1_commands.specs.declared.fault.CliFault.{CliFault}
 
 abbrev pub missing_line : ℕ → List ℕ

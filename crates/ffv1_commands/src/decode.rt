@@ -3,14 +3,14 @@ ghost use Rattle.std.specs.Prelude.{◌≡◌, IfOk, IfErr, OnOk, string_bytes};
 ghost use Rattle.ffv1_commands.specs.Fault.{NamesPath};
 ghost use Rattle.ffv1_commands.specs.Paths.{IsDecodePath};
 ghost use Rattle.ffv1_commands.specs.Devices.{UnlessWriting, IfOfRecord};
-ghost use Rattle.ffv1_commands.specs.SamplesText.{decoded_line};
+ghost use Rattle.ffv1_commands.specs.FrameText.{decoded_line};
 ghost use Rattle.ffv1_commands.specs.RecordInputs.{TakesSetup, RecordStops};
 ghost use Rattle.ffv1_commands.specs.DecodeText.{DecodesFile, DecodeStops, TakesFrame, FrameStops, ReportsDecode};
 
 use crate::devices::read_file;
 use crate::fault::CliFault;
+use crate::frames::write_shown;
 use crate::path::CommandPath;
-use crate::samples::write_shown;
 use ffv1_devices::{FromRead, Sink, Source, ThroughWrite};
 use ffv1_picture::{Decoder, Frame};
 use std::alloc::{AllocError, Global};

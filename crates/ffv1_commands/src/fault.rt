@@ -11,58 +11,43 @@ use ffv1_player::SamplesFault;
 use ffv1_range::SetupFault;
 use ffv1_stretches::MendFault;
 use std::alloc::{AllocError, AllocFailed, Global};
-use thiserror::Error;
 
 /// A fault of a command. That of a device says which path of the command it is.
-#[derive(Debug, Drop, Error)]
+#[derive(Debug, Drop)]
 pub enum CliFault {
     /// The file could not be opened or read; or it is a record, the payload of `chain` or `decode`, a copy of `splice`, a frame of
     /// `samples`, the list of ranges of `scan` or the list of `mend`, and longer than 2^30 bytes; or it is the file of `scan`, and ends
     /// before a range does, or a copy of `mend`, and ends within a stretch.
-    #[error("{0:?} was not read")]
     Read(CommandPath),
     /// The file could not be made or written; or it is the one that `merge`, `mend` or `samples` makes, and an input by the same word.
-    #[error("{0:?} was not written")]
     Write(CommandPath),
     /// The configuration record, with its width and height, gives no setup of the profile; that of `setup` or `samples` none of version 3.
-    #[error("setup fault")]
     Setup(SetupFault),
     /// A copy of `take` is too long, or a holding file is of another record or size than the first. `Memory` is never this
     /// fault's cause.
-    #[error("hold fault")]
     Hold(HoldFault),
     /// A holding file is none, or a holding has no file, or both files of `merge` are of another record or size.
     /// `Read`, `Write` and `Memory` are never this fault's cause.
-    #[error("holding file fault")]
     HoldFile(HoldFileFault),
     /// A payload is no frame. `Memory` is never this fault's cause.
-    #[error("frame fault")]
     Frame(FrameFault),
     /// The payload of the frame of this number, counted from 1, gives no samples. `Memory` is never this fault's cause.
-    #[error("samples fault in frame {number}")]
     Samples { number: usize, fault: SamplesFault },
     /// No slice of this tile is held, and every earlier tile is settled.
-    #[error("missing tile {0}")]
     Missing(usize),
     /// Several slices of this tile have the least error_status, and every earlier tile is settled.
-    #[error("disputed tile {0}")]
     Disputed(usize),
     /// The line with this number, counted from 1, is the first of a list of ranges that is no range, or begins before the end of
     /// the one before it.
-    #[error("ranges fault {0}")]
     Ranges(usize),
     /// The line with this number, counted from 1, is the first of the list of `mend` that is neither a stretch that follows those
     /// before it, nor a part of the element before it.
-    #[error("list fault {0}")]
     List(usize),
     /// The copy is not as long as the first one.
-    #[error("{0:?} was not spliced")]
     Splice(CommandPath),
     /// An allocation failed.
-    #[error("no memory")]
     Memory,
     /// The program's words name no command, or not exactly its words.
-    #[error("words refused")]
     Words,
 }
 

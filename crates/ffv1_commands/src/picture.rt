@@ -8,10 +8,10 @@ ghost use Rattle.ffv1_commands.specs.PictureText.{stuck_line, header_line, unrea
 
 use crate::devices::buffered;
 use crate::fault::CliFault;
+use crate::frames::write_frame;
 use crate::holdings::read_profile_holding;
 use crate::path::CommandPath;
 use crate::pictures::{Pictured, write_picture};
-use crate::samples::write_frame;
 use ffv1_devices::{Sink, Source, ThroughWrite};
 use ffv1_hold::Holding;
 use ffv1_picture::{Partial, TileOutcome, picture};

@@ -5,7 +5,7 @@ use Rattle.ffv1_devices.specs.Streams.{writer_of}
 use Rattle.ffv1_devices.specs.declared.streams.ThroughWrite.{ThroughWrite}
 use Rattle.ffv1_play.specs.declared.play.PlayFault.TheVariants as plays
 use Rattle.ffv1_commands.specs.Paths.{IsTakePath}
-use Rattle.ffv1_commands.specs.PlayText.{ReportsSamples, PlaysFiles, SamplesStops}
+use Rattle.ffv1_commands.specs.SamplesText.{ReportsSamples, PlaysFiles, SamplesStops}
 use Rattle.ffv1_commands.proofs.OfBytes.{OfBytes}
 use Rattle.ffv1_commands.specs.declared.fault.CliFault.{CliFault}
 

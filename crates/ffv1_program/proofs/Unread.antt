@@ -22,8 +22,8 @@ use Rattle.ffv1_commands.specs.TakeText.{ReportsTake}
 use Rattle.ffv1_commands.specs.JoinText.{ReportsJoin, IfLaterUnread}
 use Rattle.ffv1_commands.specs.MergeText.{ReportsMerge}
 use Rattle.ffv1_commands.specs.MendText.{ReportsMend}
-use Rattle.ffv1_commands.specs.PlayText.{ReportsSamples}
-use Rattle.ffv1_commands.proofs.PlaySteps.{went_up_to}
+use Rattle.ffv1_commands.specs.SamplesText.{ReportsSamples}
+use Rattle.ffv1_commands.proofs.SamplesSteps.{went_up_to}
 use Rattle.ffv1_stretches.specs.Passes.{AreReadBut}
 use Rattle.ffv1_stretches.specs.declared.pass.MendFault.TheVariants as stops
 use Rattle.ffv1_play.specs.declared.play.PlayFault.TheVariants as plays

@@ -1,3 +1,4 @@
+pub mod FilesAt
 pub mod Openings
 pub mod Merging
 pub mod Splicing
@@ -27,5 +28,5 @@ pub use Rattle.ffv1_commands.specs.AnyPictureText
 pub use Rattle.ffv1_commands.specs.SpliceText
 pub use Rattle.ffv1_commands.specs.MendText
 pub use Rattle.ffv1_commands.specs.DecodeText
-pub use Rattle.ffv1_commands.specs.PlayText
+pub use Rattle.ffv1_commands.specs.SamplesText
 pub use Rattle.ffv1_words.specs.WordPaths

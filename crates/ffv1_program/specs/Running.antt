@@ -24,7 +24,7 @@ use Rattle.ffv1_commands.specs.AnyPictureText.{ShowsAnyFile, AnyPictureStops}
 use Rattle.ffv1_commands.specs.SpliceText.{SplicesCopies}
 use Rattle.ffv1_commands.specs.MendText.{MendsFiles}
 use Rattle.ffv1_commands.specs.DecodeText.{DecodesFile, DecodeStops}
-use Rattle.ffv1_commands.specs.PlayText.{PlaysFiles, FirstIsFrame}
+use Rattle.ffv1_commands.specs.SamplesText.{PlaysFiles, FirstIsFrame}
 use Rattle.ffv1_commands.specs.declared.fault.CliFault.{CliFault}
 use Rattle.ffv1_commands.specs.declared.fault.CliFault.TheVariants as faults
 use Rattle.ffv1_commands.specs.declared.path.CommandPath.{CommandPath}
@@ -33,6 +33,7 @@ use Rattle.ffv1_words.specs.WordPaths.{IsPathOf}
 use Rattle.ffv1_words.specs.declared.words.Words.{Words}
 use Rattle.ffv1_words.specs.declared.words.Words.TheVariants.{Chain, Scan, Show, Setup, Take, Join, Merge, Report, Restore, Picture, Splice, Mend}
 use Rattle.ffv1_words.specs.declared.words.Words.TheVariants.{Decode, Samples, Help, Version}
+use Rattle.ffv1_program.specs.FilesAt.{FilesAt}
 use Rattle.ffv1_program.specs.Merging.{IsEither, IfNotBegun, StopsMerging}
 use Rattle.ffv1_program.specs.Splicing.{IsInput, StopsSplicing, StopsMendingFiles, StopsPlayingFiles}
 use Rattle.ffv1_commands.specs.Holdings.{IsUnheld}
@@ -89,18 +90,17 @@ pub record FilesRead : Type 1 where
   pub SourceWent : (ReadLog → ReadLog → Type 0) → List ℕ → Type 0
   pub BufferedWent : (ReadLog → ReadLog → Type 0) → List ℕ → Type 0
 
--- those of these recordings and a file system, by its sources, those with a buffer, and its openings
-abbrev pub files_of : {Device Buffered : Type 0} → Recordings → (bytes_at : List ℕ → Option (List ℕ)) → (cannot_open_at : List ℕ → Type 0)
-    → (is_opened_at is_device_at : List ℕ → Device → Type 0) → (log : Device → ReadLog)
-    → (is_buffered_at : List ℕ → Buffered → Type 0) → (buffered_log : Buffered → ReadLog) → FilesRead
-files_of recordings bytes_at cannot_open_at is_opened_at is_device_at log is_buffered_at buffered_log =
+-- those of these recordings and the files of a file system, by the logs of its sources
+abbrev pub files_of : {Device Buffered : Type 0} → Recordings → FilesAt Device Buffered → (log : Device → ReadLog) → (buffered_log : Buffered → ReadLog)
+    → FilesRead
+files_of recordings files log buffered_log =
     record {
       recordings = recordings;
-      bytes_at = bytes_at;
-      IsUnopened = cannot_open_at;
-      OpenedWent = SomeSource is_opened_at log;
-      SourceWent = SomeSource is_device_at log;
-      BufferedWent = SomeSource is_buffered_at buffered_log;
+      bytes_at = files.bytes_at;
+      IsUnopened = files.cannot_open_at;
+      OpenedWent = SomeSource files.is_opened_at log;
+      SourceWent = SomeSource files.is_device_at log;
+      BufferedWent = SomeSource files.is_buffered_at buffered_log;
     }
 
 -- What a command writes to: its bytes before and after, if they are known; that it is as it was; and that it is made, even of no bytes.

@@ -4,7 +4,7 @@ use Rattle.std.specs.List.{Contains}
 use Rattle.std.specs.Borrow.{Bor}
 use Rattle.ffv1_commands.specs.SpliceText.{SplicesCopies, SpliceStops}
 use Rattle.ffv1_commands.specs.MendText.{MendsFiles, MendStops}
-use Rattle.ffv1_commands.specs.PlayText.{PlaysFiles, SamplesStops}
+use Rattle.ffv1_commands.specs.SamplesText.{PlaysFiles, SamplesStops}
 use Rattle.ffv1_commands.specs.declared.fault.CliFault.{CliFault}
 use Rattle.ffv1_commands.specs.declared.fault.CliFault.TheVariants as faults
 use Rattle.ffv1_commands.specs.declared.path.CommandPath.TheVariants as paths

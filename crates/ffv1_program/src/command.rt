@@ -75,8 +75,7 @@ pub fn run<'a, F: FileSystem<'a>, O: MakeFile, W: Write>(
 ) -> Result<bool, CliFault>
     requires { O.is_unmade_at made.old (out_word words.now) }
     ensures { RunsCommand
-        (files_of recordings (F.bytes_at files.now) (F.cannot_open_at files.now) (F.is_opened_at files.now) (F.is_device_at files.now) F.Device.log
-        (F.is_buffered_at files.now) F.Buffered.log)
+        (files_of recordings (F.files files.now) F.Device.log F.Buffered.log)
         (made_by O.contents O.is_made made.old made.new) (printed_by W.contents output.old output.new) words.now result }
 {
     match words {

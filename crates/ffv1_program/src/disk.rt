@@ -33,15 +33,13 @@ impl<'a, R: Files> FileSystem<'a> for Disk<'a, R> {
 
     type Buffered = FromRead<BufReader<InputFile<'a, R>>>;
 
-    ghost bytes_at = { λ _ _. None };
-
-    ghost is_device_at = { λ _ path device. IsUnopenedAt (reader_of device) path };
-
-    ghost is_buffered_at = { λ _ path device. IsUnopenedAt (reader_inner (reader_of device)) path };
-
-    ghost is_opened_at = { λ _ path device. OpensAt ⟦<PathToOpen<'a, R> as Opener>⟧.opens path (reader_of device) };
-
-    ghost cannot_open_at = { λ _ path. FailsToOpenAt ⟦<PathToOpen<'a, R> as Opener>⟧.opens path };
+    ghost files = { λ _. record {
+      bytes_at = λ _. None;
+      is_device_at = λ path device. IsUnopenedAt (reader_of device) path;
+      is_buffered_at = λ path device. IsUnopenedAt (reader_inner (reader_of device)) path;
+      is_opened_at = λ path device. OpensAt ⟦<PathToOpen<'a, R> as Opener>⟧.opens path (reader_of device);
+      cannot_open_at = λ path. FailsToOpenAt ⟦<PathToOpen<'a, R> as Opener>⟧.opens path;
+    } };
 
     fn device(&self, path: &'a str) -> FromRead<InputFile<'a, R>> {
         FromRead::new(InputFile::new(self.rt, path))

@@ -1,5 +1,6 @@
 //! The files of a program by their paths (own): those that it reads, and the one that it makes.
-ghost use Rattle.std.specs.Prelude.{◌≡◌, ◌⊎◌, ℕ, List, Option, Ok, Err, IfOk, IfErr};
+ghost use Rattle.std.specs.Prelude.{◌≡◌, ◌⊎◌, ℕ, List, Ok, Err, IfOk, IfErr};
+ghost use Rattle.ffv1_program.specs.FilesAt.{FilesAt};
 ghost use Rattle.ffv1_program.specs.Splicing.{IsUnmade};
 
 use ffv1_commands::{CliFault, CommandPath};
@@ -16,36 +17,25 @@ pub trait FileSystem<'a> {
     /// The same through a buffer.
     type Buffered: Source + Drop;
 
-    // the bytes of the file of each path, if they are known
-    ghost bytes_at: { Self → List ℕ → Option (List ℕ) };
-
-    // this is the source of the file of that path, which is not opened yet, and so is this one with a buffer
-    ghost is_device_at: { Self → List ℕ → Self.Device → Type 0 };
-
-    ghost is_buffered_at: { Self → List ℕ → Self.Buffered → Type 0 };
-
-    // the file of that path was opened, and this is its source, of which nothing is read yet
-    ghost is_opened_at: { Self → List ℕ → Self.Device → Type 0 };
-
-    // an opening of the file of that path failed
-    ghost cannot_open_at: { Self → List ℕ → Type 0 };
+    // the files by their paths
+    ghost files: { Self → FilesAt Self.Device Self.Buffered };
 
     /// The file of this path as a source, not opened yet.
     fn device(&self, path: &'a str) -> Self::Device
-        ensures at { is_device_at self.now path.now result }
-        ensures bytes { (Self.Device.log result).remaining ≡ bytes_at self.now path.now };
+        ensures at { (files self.now).is_device_at path.now result }
+        ensures bytes { (Self.Device.log result).remaining ≡ (files self.now).bytes_at path.now };
 
     /// The file of this path as a source, opened: so that it is there to be read. Where that fails, the error is why.
     fn opened(&self, path: &'a str) -> io::Result<Self::Device>
-        ensures at { IfOk result (is_opened_at self.now path.now) }
-        ensures bytes { IfOk result (λ device. (Self.Device.log device).remaining ≡ bytes_at self.now path.now) }
-        ensures failed { IfErr result (λ _. cannot_open_at self.now path.now) };
+        ensures at { IfOk result ((files self.now).is_opened_at path.now) }
+        ensures bytes { IfOk result (λ device. (Self.Device.log device).remaining ≡ (files self.now).bytes_at path.now) }
+        ensures failed { IfErr result (λ _. (files self.now).cannot_open_at path.now) };
 
     /// The file of this path as a source through a buffer of 8 KiB, not opened yet: short fields then take no call of the system each.
     /// Returns `Memory` if the buffer can't be allocated.
     fn buffered(&self, alloc: Global, path: &'a str) -> Result<Self::Buffered, CliFault>
-        ensures at { IfOk result (is_buffered_at self.now path.now) }
-        ensures bytes { IfOk result (λ device. (Self.Buffered.log device).remaining ≡ bytes_at self.now path.now) }
+        ensures at { IfOk result ((files self.now).is_buffered_at path.now) }
+        ensures bytes { IfOk result (λ device. (Self.Buffered.log device).remaining ≡ (files self.now).bytes_at path.now) }
         ensures refused { IfErr result (λ fault. fault ≡ CliFault.Memory) };
 }
 

@@ -11,7 +11,7 @@ use crate::files::{FileSystem, MakeFile, make_after};
 use crate::inputs::sources_of;
 use ffv1_commands::{CliFault, chain_of, scan_of, setup_of, show_of, splice_of};
 use ffv1_devices::ThroughWrite;
-use ffv1_words::Recording;
+use ffv1_words::RecordingWords;
 use std::alloc::Global;
 use std::io::Write;
 
@@ -25,8 +25,7 @@ pub(crate) fn chain_file<'a, F: FileSystem<'a>, W: Write>(
     output: &mut W,
 ) -> Result<(), CliFault>
     ensures { (recordings : Recordings) → KeepsPromise
-        (files_of recordings (F.bytes_at files.now) (F.cannot_open_at files.now) (F.is_opened_at files.now) (F.is_device_at files.now) F.Device.log
-        (F.is_buffered_at files.now) F.Buffered.log)
+        (files_of recordings (F.files files.now) F.Device.log F.Buffered.log)
         nothing_written (printed_by W.contents output.old output.new)
         (Chain frame.entry) (all_done result) }
 {
@@ -48,8 +47,7 @@ pub(crate) fn scan_files<'a, F: FileSystem<'a>, W: Write>(
     output: &mut W,
 ) -> Result<bool, CliFault>
     ensures { (recordings : Recordings) → KeepsPromise
-        (files_of recordings (F.bytes_at files.now) (F.cannot_open_at files.now) (F.is_opened_at files.now) (F.is_device_at files.now) F.Device.log
-        (F.is_buffered_at files.now) F.Buffered.log)
+        (files_of recordings (F.files files.now) F.Device.log F.Buffered.log)
         nothing_written (printed_by W.contents output.old output.new)
         (Scan ranges.entry file.entry) result }
 {
@@ -67,12 +65,11 @@ pub(crate) fn scan_files<'a, F: FileSystem<'a>, W: Write>(
 pub(crate) fn show_record<'a, F: FileSystem<'a>, W: Write>(
     alloc: Global,
     files: &F,
-    recording: &Recording<'a>,
+    recording: &RecordingWords<'a>,
     output: &mut W,
 ) -> Result<(), CliFault>
     ensures { (recordings : Recordings) → KeepsPromise
-        (files_of recordings (F.bytes_at files.now) (F.cannot_open_at files.now) (F.is_opened_at files.now) (F.is_device_at files.now) F.Device.log
-        (F.is_buffered_at files.now) F.Buffered.log)
+        (files_of recordings (F.files files.now) F.Device.log F.Buffered.log)
         nothing_written (printed_by W.contents output.old output.new)
         (Show recording.now) (all_done result) }
 {
@@ -91,16 +88,15 @@ pub(crate) fn show_record<'a, F: FileSystem<'a>, W: Write>(
 pub(crate) fn setup_record<'a, F: FileSystem<'a>, W: Write>(
     alloc: Global,
     files: &F,
-    recording: &Recording<'a>,
+    recording: &RecordingWords<'a>,
     output: &mut W,
 ) -> Result<(), CliFault>
     ensures { (recordings : Recordings) → KeepsPromise
-        (files_of recordings (F.bytes_at files.now) (F.cannot_open_at files.now) (F.is_opened_at files.now) (F.is_device_at files.now) F.Device.log
-        (F.is_buffered_at files.now) F.Buffered.log)
+        (files_of recordings (F.files files.now) F.Device.log F.Buffered.log)
         nothing_written (printed_by W.contents output.old output.new)
         (Setup recording.now) (all_done result) }
 {
-    let Recording {
+    let RecordingWords {
         record,
         width,
         height,
@@ -127,8 +123,7 @@ pub(crate) fn splice_files<'a, F: FileSystem<'a>, O: MakeFile, W: Write>(
     output: &mut W,
 ) -> Result<bool, CliFault>
     ensures { (recordings : Recordings) (out : Bor (List ℕ)) → KeepsPromise
-        (files_of recordings (F.bytes_at files.now) (F.cannot_open_at files.now) (F.is_opened_at files.now) (F.is_device_at files.now) F.Device.log
-        (F.is_buffered_at files.now) F.Buffered.log)
+        (files_of recordings (F.files files.now) F.Device.log F.Buffered.log)
         (made_by O.contents O.is_made made.old made.new) (printed_by W.contents output.old output.new)
         (Splice out copies.now) result }
 {

@@ -11,7 +11,7 @@ use crate::inputs::{buffered_of, sources_of};
 use ffv1_commands::{CliFault, CommandPath, join_of, merge_of, report_of, restore_of, take_of};
 use ffv1_devices::ThroughWrite;
 use ffv1_holding::Recordings;
-use ffv1_words::Recording;
+use ffv1_words::RecordingWords;
 use std::alloc::Global;
 use std::io::Write;
 
@@ -23,14 +23,13 @@ pub(crate) fn take_files<'a, F: FileSystem<'a>, O: MakeFile, W: Write>(
     alloc: Global,
     recordings: Recordings,
     files: &F,
-    recording: &Recording<'a>,
+    recording: &RecordingWords<'a>,
     copies: &Vec<&'a str>,
     made: &mut O,
     output: &mut W,
 ) -> Result<(), CliFault>
     ensures { (out : Bor (List ℕ)) → KeepsPromise
-        (files_of recordings (F.bytes_at files.now) (F.cannot_open_at files.now) (F.is_opened_at files.now) (F.is_device_at files.now) F.Device.log
-        (F.is_buffered_at files.now) F.Buffered.log)
+        (files_of recordings (F.files files.now) F.Device.log F.Buffered.log)
         (made_by O.contents O.is_made made.old made.new) (printed_by W.contents output.old output.new)
         (Take recording.now out copies.now) (all_done result) }
 {
@@ -61,8 +60,7 @@ pub(crate) fn join_files<'a, F: FileSystem<'a>, O: MakeFile, W: Write>(
     output: &mut W,
 ) -> Result<(), CliFault>
     ensures { (out : Bor (List ℕ)) → KeepsPromise
-        (files_of recordings (F.bytes_at files.now) (F.cannot_open_at files.now) (F.is_opened_at files.now) (F.is_device_at files.now) F.Device.log
-        (F.is_buffered_at files.now) F.Buffered.log)
+        (files_of recordings (F.files files.now) F.Device.log F.Buffered.log)
         (made_by O.contents O.is_made made.old made.new) (printed_by W.contents output.old output.new)
         (Join out first.entry others.now) (all_done result) }
 {
@@ -93,8 +91,7 @@ pub(crate) fn merge_files<'a, F: FileSystem<'a>, O: MakeFile>(
     made: &mut O,
 ) -> Result<(), CliFault>
     ensures { KeepsPromise
-        (files_of recordings (F.bytes_at files.now) (F.cannot_open_at files.now) (F.is_opened_at files.now) (F.is_device_at files.now) F.Device.log
-        (F.is_buffered_at files.now) F.Buffered.log)
+        (files_of recordings (F.files files.now) F.Device.log F.Buffered.log)
         (made_by O.contents O.is_made made.old made.new) nothing_written
         (Merge out.entry left.entry right.entry) (all_done result) }
 {
@@ -122,8 +119,7 @@ pub(crate) fn report_file<'a, F: FileSystem<'a>, W: Write>(
     output: &mut W,
 ) -> Result<(), CliFault>
     ensures { KeepsPromise
-        (files_of recordings (F.bytes_at files.now) (F.cannot_open_at files.now) (F.is_opened_at files.now) (F.is_device_at files.now) F.Device.log
-        (F.is_buffered_at files.now) F.Buffered.log)
+        (files_of recordings (F.files files.now) F.Device.log F.Buffered.log)
         nothing_written (printed_by W.contents output.old output.new)
         (Report file.entry) (all_done result) }
 {
@@ -143,8 +139,7 @@ pub(crate) fn restore_file<'a, F: FileSystem<'a>, O: MakeFile, W: Write>(
     output: &mut W,
 ) -> Result<(), CliFault>
     ensures { (out : Bor (List ℕ)) → KeepsPromise
-        (files_of recordings (F.bytes_at files.now) (F.cannot_open_at files.now) (F.is_opened_at files.now) (F.is_device_at files.now) F.Device.log
-        (F.is_buffered_at files.now) F.Buffered.log)
+        (files_of recordings (F.files files.now) F.Device.log F.Buffered.log)
         (made_by O.contents O.is_made made.old made.new) (printed_by W.contents output.old output.new)
         (Restore file.entry out) (all_done result) }
 {

@@ -20,8 +20,8 @@ pub(crate) fn sources_of<'a, F: FileSystem<'a>>(
     paths: &[&'a str],
 ) -> Result<Vec<F::Device>, AllocError>
     ensures bytes { IfOk result (λ sources. map (λ source. (F.Device.log source).remaining) sources.items
-        ≡ map (λ path. F.bytes_at files.now path.now) paths.now) }
-    ensures at { IfOk result (λ sources. AllZip (λ path source. F.is_device_at files.now path.now source) paths.now sources.items) }
+        ≡ map (λ path. (F.files files.now).bytes_at path.now) paths.now) }
+    ensures at { IfOk result (λ sources. AllZip (λ path source. (F.files files.now).is_device_at path.now source) paths.now sources.items) }
     ensures count { IfOk result (λ sources. vec_len sources ≡ length paths.now) }
 {
     let mut sources = Vec::with_capacity(alloc, paths.len())?;
@@ -38,8 +38,8 @@ pub(crate) fn buffered_of<'a, F: FileSystem<'a>>(
     paths: &[&'a str],
 ) -> Result<Vec<F::Buffered>, CliFault>
     ensures bytes { IfOk result (λ sources. map (λ source. (F.Buffered.log source).remaining) sources.items
-        ≡ map (λ path. F.bytes_at files.now path.now) paths.now) }
-    ensures at { IfOk result (λ sources. AllZip (λ path source. F.is_buffered_at files.now path.now source) paths.now sources.items) }
+        ≡ map (λ path. (F.files files.now).bytes_at path.now) paths.now) }
+    ensures at { IfOk result (λ sources. AllZip (λ path source. (F.files files.now).is_buffered_at path.now source) paths.now sources.items) }
     ensures count { IfOk result (λ sources. vec_len sources ≡ length paths.now) }
     ensures refused { IfErr result (λ fault. fault ≡ CliFault.Memory) }
 {

@@ -10,7 +10,7 @@ use crate::inputs::{is_among, sources_of};
 use ffv1_commands::{CliFault, CommandPath, any_picture_of, decode_of, picture_of, samples_of};
 use ffv1_devices::ThroughWrite;
 use ffv1_holding::Recordings;
-use ffv1_words::Recording;
+use ffv1_words::RecordingWords;
 use std::alloc::Global;
 use std::io::Write;
 
@@ -26,8 +26,7 @@ pub(crate) fn picture_file<'a, F: FileSystem<'a>, O: MakeFile, W: Write>(
     output: &mut W,
 ) -> Result<bool, CliFault>
     ensures { (out : Bor (List ℕ)) → KeepsPromise
-        (files_of recordings (F.bytes_at files.now) (F.cannot_open_at files.now) (F.is_opened_at files.now) (F.is_device_at files.now) F.Device.log
-        (F.is_buffered_at files.now) F.Buffered.log)
+        (files_of recordings (F.files files.now) F.Device.log F.Buffered.log)
         (made_by O.contents O.is_made made.old made.new) (printed_by W.contents output.old output.new)
         (Picture file.entry out) result }
 {
@@ -45,14 +44,13 @@ pub(crate) fn picture_file<'a, F: FileSystem<'a>, O: MakeFile, W: Write>(
 pub(crate) fn decode_files<'a, F: FileSystem<'a>, O: MakeFile, W: Write>(
     alloc: Global,
     files: &F,
-    recording: &Recording<'a>,
+    recording: &RecordingWords<'a>,
     frame: &'a str,
     made: &mut O,
     output: &mut W,
 ) -> Result<(), CliFault>
     ensures { (recordings : Recordings) (out : Bor (List ℕ)) → KeepsPromise
-        (files_of recordings (F.bytes_at files.now) (F.cannot_open_at files.now) (F.is_opened_at files.now) (F.is_device_at files.now) F.Device.log
-        (F.is_buffered_at files.now) F.Buffered.log)
+        (files_of recordings (F.files files.now) F.Device.log F.Buffered.log)
         (made_by O.contents O.is_made made.old made.new) (printed_by W.contents output.old output.new)
         (Decode recording.now frame.entry out) (all_done result) }
 {
@@ -76,15 +74,14 @@ pub(crate) fn decode_files<'a, F: FileSystem<'a>, O: MakeFile, W: Write>(
 pub(crate) fn samples_files<'a, F: FileSystem<'a>, O: MakeFile, W: Write>(
     alloc: Global,
     files: &F,
-    recording: &Recording<'a>,
+    recording: &RecordingWords<'a>,
     frames: &Vec<&'a str>,
     out: &str,
     made: &mut O,
     output: &mut W,
 ) -> Result<bool, CliFault>
     ensures { (recordings : Recordings) → KeepsPromise
-        (files_of recordings (F.bytes_at files.now) (F.cannot_open_at files.now) (F.is_opened_at files.now) (F.is_device_at files.now) F.Device.log
-        (F.is_buffered_at files.now) F.Buffered.log)
+        (files_of recordings (F.files files.now) F.Device.log F.Buffered.log)
         (made_by O.contents O.is_made made.old made.new) (printed_by W.contents output.old output.new)
         (Samples recording.now out.entry frames.now) result }
 {

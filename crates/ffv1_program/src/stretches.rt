@@ -22,8 +22,8 @@ fn readers_of<'a, F: FileSystem<'a>>(
     paths: &[&'a str],
 ) -> Result<Vec<CopyReader<F::Device>>, AllocError>
     ensures bytes { IfOk result (λ readers. map (λ reader. (F.Device.log reader.source).remaining) readers.items
-        ≡ map (λ path. F.bytes_at files.now path.now) paths.now) }
-    ensures at { IfOk result (λ readers. AllZip (λ path reader. IsLogAt (F.is_device_at files.now) F.Device.log path.now (F.Device.log reader.source))
+        ≡ map (λ path. (F.files files.now).bytes_at path.now) paths.now) }
+    ensures at { IfOk result (λ readers. AllZip (λ path reader. IsLogAt (F.files files.now).is_device_at F.Device.log path.now (F.Device.log reader.source))
         paths.now readers.items) }
     ensures unread { IfOk result (λ readers. All (λ reader. (state_of F.Device.log reader).end ≡ 0) readers.items) }
 {
@@ -50,8 +50,7 @@ pub(crate) fn mend_files<'a, F: FileSystem<'a>, O: MakeFile, W: Write>(
     output: &mut W,
 ) -> Result<bool, CliFault>
     ensures { (recordings : Recordings) → KeepsPromise
-        (files_of recordings (F.bytes_at files.now) (F.cannot_open_at files.now) (F.is_opened_at files.now) (F.is_device_at files.now) F.Device.log
-        (F.is_buffered_at files.now) F.Buffered.log)
+        (files_of recordings (F.files files.now) F.Device.log F.Buffered.log)
         (made_by O.contents O.is_made made.old made.new) (printed_by W.contents output.old output.new)
         (Mend list.entry out.entry copies.now) result }
 {

@@ -115,15 +115,13 @@ impl<'a> FileSystem<'a> for Fakes<'a> {
 
     type Buffered = FromRead<BufReader<FakeInput<'a>>>;
 
-    ghost bytes_at = { λ files path. Some (if bytes_eq path (codes "1") then files.first.now else files.others.now) };
-
-    ghost is_device_at = { λ _ path device. (reader_of device).path.now ≡ path };
-
-    ghost is_buffered_at = { λ _ path device. (reader_inner (reader_of device)).path.now ≡ path };
-
-    ghost is_opened_at = { λ _ path device. ((reader_of device).path.now ≡ path) × ((reader_of device).is_open ≡ true) };
-
-    ghost cannot_open_at = { λ _ path. (path ≡ codes "0") ⊎ (path ≡ codes "") };
+    ghost files = { λ files. record {
+      bytes_at = λ path. Some (if bytes_eq path (codes "1") then files.first.now else files.others.now);
+      is_device_at = λ path device. (reader_of device).path.now ≡ path;
+      is_buffered_at = λ path device. (reader_inner (reader_of device)).path.now ≡ path;
+      is_opened_at = λ path device. ((reader_of device).path.now ≡ path) × ((reader_of device).is_open ≡ true);
+      cannot_open_at = λ path. (path ≡ codes "0") ⊎ (path ≡ codes "");
+    } };
 
     fn device(&self, path: &'a str) -> FromRead<FakeInput<'a>> {
         FromRead::new(self.input(path))

@@ -7,8 +7,8 @@ use Rattle.ffv1_commands.specs.Fault.{NamesNoPath}
 use Rattle.ffv1_commands.specs.declared.fault.CliFault.{CliFault}
 use Rattle.ffv1_commands.specs.declared.fault.CliFault.TheVariants as faults
 use Rattle.ffv1_words.specs.Inner.Arguments.{AreNamed, ReadsWords}
-use Rattle.ffv1_words.specs.Arguments.{AreValues, IsRecording, AreArguments, RefusesAll, command_name}
-use Rattle.ffv1_words.specs.declared.words.Recording.{Recording}
+use Rattle.ffv1_words.specs.Arguments.{AreValues, AreRecordingWords, AreArguments, RefusesAll, command_name}
+use Rattle.ffv1_words.specs.declared.words.RecordingWords.{RecordingWords}
 use Rattle.ffv1_words.specs.declared.words.Words.{Words}
 use Rattle.ffv1_words.specs.declared.words.Words.TheVariants.{Show, Setup, Take, Splice, Mend, Decode, Samples}
 
@@ -49,7 +49,7 @@ When true A B = A
 When false A B = B
 
 abbrev HasRecording : List Row → Type 0
-HasRecording rows = (recording : Recording) × IsRecording rows recording
+HasRecording rows = (recording : RecordingWords) × AreRecordingWords rows recording
 
 abbrev HasCopies : List Row → Type 0
 HasCopies rows = (words : List (List ℕ)) × AreValues rows (codes "COPY") words

@@ -5,7 +5,7 @@ use Rattle.clap.specs.Words.{Row, all_of, fault_of, first_of, subcommand_of}
 use Rattle.ffv1_commands.specs.declared.fault.CliFault.{CliFault}
 use Rattle.ffv1_commands.specs.declared.fault.CliFault.TheVariants as faults
 use Rattle.ffv1_words.specs.Grammar.{program_app}
-use Rattle.ffv1_words.specs.declared.words.Recording.{Recording}
+use Rattle.ffv1_words.specs.declared.words.RecordingWords.{RecordingWords}
 use Rattle.ffv1_words.specs.declared.words.Words.{Words}
 use Rattle.ffv1_words.specs.declared.words.Words.TheVariants.{Chain, Scan, Show, Setup, Take, Join, Merge, Report, Restore, Picture, Splice, Mend, Decode, Samples, Help, Version}
 
@@ -26,7 +26,7 @@ pub record IsNumberWord (rows : List Row) (name : List ℕ) (number : ℕ) : Typ
   pub fits : number < 2 ^ 32
 
 -- The recording has the values of RECORD, WIDTH and HEIGHT.
-pub record IsRecording (rows : List Row) (recording : Recording) : Type 0 where
+pub record AreRecordingWords (rows : List Row) (recording : RecordingWords) : Type 0 where
   pub record' : IsWord rows (codes "RECORD") recording.record.now
   pub width : IsNumberWord rows (codes "WIDTH") recording.width
   pub height : IsNumberWord rows (codes "HEIGHT") recording.height
@@ -35,10 +35,10 @@ pub record IsRecording (rows : List Row) (recording : Recording) : Type 0 where
 abbrev pub AreArguments : List Row → Words → Type 0
 AreArguments rows (Chain frame) = IsWord rows (codes "FRAME") frame.now
 AreArguments rows (Scan ranges file) = IsWord rows (codes "RANGES") ranges.now × IsWord rows (codes "FILE") file.now
-AreArguments rows (Show recording) = IsRecording rows recording
-AreArguments rows (Setup recording) = IsRecording rows recording
+AreArguments rows (Show recording) = AreRecordingWords rows recording
+AreArguments rows (Setup recording) = AreRecordingWords rows recording
 AreArguments rows (Take recording out copies) =
-    IsRecording rows recording × IsWord rows (codes "OUT") out.now × AreValues rows (codes "COPY") (map (λ copy. copy.now) copies.items)
+    AreRecordingWords rows recording × IsWord rows (codes "OUT") out.now × AreValues rows (codes "COPY") (map (λ copy. copy.now) copies.items)
 AreArguments rows (Join out first others) =
     IsWord rows (codes "OUT") out.now × AreValues rows (codes "HOLD") (first.now ∷ map (λ other. other.now) others.items)
 AreArguments rows (Merge out left right) =
@@ -50,9 +50,9 @@ AreArguments rows (Splice out copies) = IsWord rows (codes "OUT") out.now × Are
 AreArguments rows (Mend list out copies) =
     IsWord rows (codes "LIST") list.now × IsWord rows (codes "OUT") out.now × AreValues rows (codes "COPY") (map (λ copy. copy.now) copies.items)
 AreArguments rows (Decode recording frame out) =
-    IsRecording rows recording × IsWord rows (codes "FRAME") frame.now × IsWord rows (codes "OUT") out.now
+    AreRecordingWords rows recording × IsWord rows (codes "FRAME") frame.now × IsWord rows (codes "OUT") out.now
 AreArguments rows (Samples recording out frames) =
-    IsRecording rows recording × IsWord rows (codes "OUT") out.now × AreValues rows (codes "FRAME") (map (λ frame. frame.now) frames.items)
+    AreRecordingWords rows recording × IsWord rows (codes "OUT") out.now × AreValues rows (codes "FRAME") (map (λ frame. frame.now) frames.items)
 AreArguments rows Help = Unit {0}
 AreArguments rows Version = Unit {0}
 

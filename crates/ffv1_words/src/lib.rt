@@ -7,4 +7,4 @@ mod words;
 
 pub use any_word::recordings_of_words;
 pub use reading::read_words;
-pub use words::{Recording, Words};
+pub use words::{RecordingWords, Words};

@@ -5,9 +5,9 @@ ghost use Rattle.clap.specs.Words.{app_of, rule_of};
 ghost use Rattle.clap.specs.declared.builder.command.Command.TheViews.{out-Command};
 ghost use Rattle.ffv1_words.specs.Grammar.{word_rule, command_app, with_commands, program_app};
 ghost use Rattle.ffv1_words.specs.Inner.Arguments.{rows_matched, IsOfHoldings, ReadsWords};
-ghost use Rattle.ffv1_words.specs.Arguments.{IsWord, AreValues, IsNumberWord, IsRecording, AreReadFrom, RefusesAll};
+ghost use Rattle.ffv1_words.specs.Arguments.{IsWord, AreValues, IsNumberWord, AreRecordingWords, AreReadFrom, RefusesAll};
 
-use crate::words::{Recording, Words};
+use crate::words::{RecordingWords, Words};
 use clap::error::ErrorKind;
 use clap::{Arg, ArgAction, ArgMatches, Command};
 use ffv1_commands::CliFault;
@@ -129,10 +129,10 @@ fn list<'a>(alloc: Global, words: &[&'a str]) -> Result<Vec<&'a str>, CliFault>
 }
 
 /// The words of a recording: RECORD, WIDTH and HEIGHT.
-fn recording_words<'a>(matches: &ArgMatches<'a>) -> Result<Recording<'a>, CliFault>
-    ensures { MatchResult result (IsRecording (rows_matched matches.now)) (RefusesAll (IsRecording (rows_matched matches.now))) }
+fn recording_words<'a>(matches: &ArgMatches<'a>) -> Result<RecordingWords<'a>, CliFault>
+    ensures { MatchResult result (AreRecordingWords (rows_matched matches.now)) (RefusesAll (AreRecordingWords (rows_matched matches.now))) }
 {
-    Ok(Recording {
+    Ok(RecordingWords {
         record: word(matches, "RECORD")?,
         width: number(matches, "WIDTH")?,
         height: number(matches, "HEIGHT")?,

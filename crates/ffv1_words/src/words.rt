@@ -6,7 +6,7 @@ use ffv1_commands::CommandPath;
 
 /// A configuration record, and the size in samples of the frames that are recorded with it.
 #[derive(Drop)]
-pub struct Recording<'a> {
+pub struct RecordingWords<'a> {
     /// The path of the record.
     pub record: &'a str,
     /// The width of its frames, in samples.
@@ -33,17 +33,17 @@ pub enum Words<'a> {
     /// Prints the setup of a configuration record, for frames of its size.
     Show {
         /// The record and the size.
-        recording: Recording<'a>,
+        recording: RecordingWords<'a>,
     },
     /// Prints what a configuration record says of any recording of version 3, for frames of its size.
     Setup {
         /// The record and the size.
-        recording: Recording<'a>,
+        recording: RecordingWords<'a>,
     },
     /// Makes the holding file of copies.
     Take {
         /// The record and size of the copies.
-        recording: Recording<'a>,
+        recording: RecordingWords<'a>,
         /// The file that is made.
         out: &'a str,
         /// The copies, one at least.
@@ -105,7 +105,7 @@ pub enum Words<'a> {
     /// Writes the samples of a frame payload.
     Decode {
         /// The record and size of the frame.
-        recording: Recording<'a>,
+        recording: RecordingWords<'a>,
         /// The payload.
         frame: &'a str,
         /// The file that is made.
@@ -114,7 +114,7 @@ pub enum Words<'a> {
     /// Writes the samples of the frames of a recording of version 3.
     Samples {
         /// The record and size of the frames.
-        recording: Recording<'a>,
+        recording: RecordingWords<'a>,
         /// The file that is made.
         out: &'a str,
         /// The payloads of the frames in their order, one at least.

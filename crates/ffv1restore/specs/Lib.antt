@@ -14,10 +14,10 @@ pub use Rattle.ffv1_commands.specs.TakeText
 pub use Rattle.ffv1_commands.specs.JoinText
 pub use Rattle.ffv1_commands.specs.MergeText
 pub use Rattle.ffv1_commands.specs.RestoreText
-pub use Rattle.ffv1_commands.specs.SamplesText
+pub use Rattle.ffv1_commands.specs.FrameText
 pub use Rattle.ffv1_commands.specs.DecodeText
 pub use Rattle.ffv1_commands.specs.PictureText
-pub use Rattle.ffv1_commands.specs.PlayText
+pub use Rattle.ffv1_commands.specs.SamplesText
 pub use Rattle.ffv1_commands.specs.ReportedText
 pub use Rattle.ffv1_commands.specs.Commands
 pub use Rattle.ffv1_commands.specs.SmallCommands

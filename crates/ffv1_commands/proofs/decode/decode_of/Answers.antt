@@ -1,7 +1,7 @@
 use Rattle.std.proofs.Common.{◌≡◌, refl, inl, inr, ap, ◌∙◌}
 use Rattle.std.proofs.lemmas.Result.{err_from_is_err_and}
 use Rattle.ffv1_commands.specs.Devices.{IfOfRecord}
-use Rattle.ffv1_commands.specs.SamplesText.{raw_bytes, decoded_line}
+use Rattle.ffv1_commands.specs.FrameText.{raw_bytes, decoded_line}
 use Rattle.ffv1_commands.proofs.RecordFaults.{record_both, record_in_turn}
 use Rattle.ffv1_commands.proofs.InputFaults.{IsUnwritten, untouched_both}
 use Rattle.ffv1_commands.proofs.WrittenBoth.{both_untouched, both_in_turn}

@@ -15,6 +15,6 @@ returns g c recordings =
       keeps = search (rules, kept);
       refuses = tt;
       names = c.scan_of.ensures.names;
-      unread = scan_unread (g.F.FileSystem.is_device_at c.args.files.now) g.F.Device.Source.log _ _ c.device.result c.scan_of.new.ranges c.device-2.result
+      unread = scan_unread (g.F.FileSystem.files c.args.files.now).is_device_at g.F.Device.Source.log _ _ c.device.result c.scan_of.new.ranges c.device-2.result
           c.scan_of.new.file c.device.ensures.at c.device-2.ensures.at _ _ c.scan_of.result c.scan_of.ensures.scans;
     }

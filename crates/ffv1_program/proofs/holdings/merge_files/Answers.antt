@@ -13,13 +13,13 @@ returns g c =
     let bytes = merge_of_bytes c.args.recordings _ _ r c.merge_of.ensures.reported in
     record {
       does = all_ok r _ (search (rules, rw (c.in-Ok.ensures.bytes, c.in-Ok-opened.ensures.bytes) at bytes.ok));
-      stops = all_err r _ (merging_stops c.args.recordings (IsEither c.args.out.now c.args.left.now c.args.right.now) (g.F.FileSystem.cannot_open_at c.args.files.now)
+      stops = all_err r _ (merging_stops c.args.recordings (IsEither c.args.out.now c.args.left.now c.args.right.now) (g.F.FileSystem.files c.args.files.now).cannot_open_at
           c.args.left.now c.args.right.now _ _ _ _ r (rw (c.in-Ok.ensures.bytes, c.in-Ok-opened.ensures.bytes) at bytes.err)
           (search (rules, rw (c.in-Ok.ensures.bytes, c.in-Ok-opened.ensures.bytes) at bytes.leaves)));
       keeps = all_err r _ (of_left (λ o w. IfErr r (λ fault. IfNotBegun fault (o ≡ c.args.made.now))) _ c.merge_of.new.out.writer.now c.args.made.now
           c.args.made.now (search rules) refl (not_begun c.args.recordings (g.F.Device.Source.log c.in-Ok.left).remaining (g.F.Device.Source.log c.in-Ok-opened.right).remaining
           (c.merge_of.new.out.writer.now ≡ c.args.made.now) r bytes.err (λ is. ap writer_of (c.merge_of.ensures.untouched is) ∙ c.new-made.ensures.writer)));
-      unread = all_err r _ (merge_unread c.args.recordings (g.F.FileSystem.is_opened_at c.args.files.now) g.F.Device.Source.log (g.F.FileSystem.cannot_open_at c.args.files.now)
+      unread = all_err r _ (merge_unread c.args.recordings (g.F.FileSystem.files c.args.files.now).is_opened_at g.F.Device.Source.log (g.F.FileSystem.files c.args.files.now).cannot_open_at
           c.args.left.now c.args.right.now c.in-Ok.left c.merge_of.new.left c.in-Ok-opened.right c.merge_of.new.right c.in-Ok.ensures.at c.in-Ok-opened.ensures.at _ _ r c.merge_of.ensures.reported);
       refuses = search rules;
       names = all_err r _ bytes.names;

@@ -7,7 +7,7 @@ abbrev pub invariant-loop-path : goal.invariant-loop-path
 invariant-loop-path g l =
     record {
       bytes : map (λ source. (g.F.Device.Source.log source).remaining) l.sources.items
-          ≡ map (λ path. g.F.FileSystem.bytes_at l.files path.now) (take l.path-index l.paths);
-      at : AllZip (λ path source. g.F.FileSystem.is_device_at l.files path.now source) (take l.path-index l.paths) l.sources.items;
+          ≡ map (λ path. (g.F.FileSystem.files l.files).bytes_at path.now) (take l.path-index l.paths);
+      at : AllZip (λ path source. (g.F.FileSystem.files l.files).is_device_at path.now source) (take l.path-index l.paths) l.sources.items;
       count : vec_len l.sources ≡ l.path-index;
     }

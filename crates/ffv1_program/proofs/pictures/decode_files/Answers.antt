@@ -16,6 +16,6 @@ returns g c recordings out =
       keeps = all_err r _ (search (rules, kept));
       names = all_err r _ bytes.names;
       refuses = tt;
-      unread = all_err r _ (decode_unread (g.F.FileSystem.is_device_at c.args.files.now) g.F.Device.Source.log _ _ c.device.result c.decode_of.new.configuration c.device-2.result
+      unread = all_err r _ (decode_unread (g.F.FileSystem.files c.args.files.now).is_device_at g.F.Device.Source.log _ _ c.device.result c.decode_of.new.configuration c.device-2.result
           c.decode_of.new.input c.device.ensures.at c.device-2.ensures.at _ _ _ _ _ _ r c.decode_of.ensures.reported);
     }

@@ -14,7 +14,7 @@ returns-in-Profile g c out =
     let kept = both_through r _ _ _ _ _ _ c.new-made.ensures.writer c.new-output.ensures.writer c.picture_of.ensures.untouched in
     rw c.in-Profile.is (record {
       does = search (rules, rw c.in_ok-file.ensures.bytes at bytes.ok);
-      stops = of_left (λ o w. IfErr r (PictureStops (g.F.FileSystem.bytes_at c.args.files.now c.args.file.now) (g.O.Write.contents c.args.made.now)
+      stops = of_left (λ o w. IfErr r (PictureStops ((g.F.FileSystem.files c.args.files.now).bytes_at c.args.file.now) (g.O.Write.contents c.args.made.now)
           (g.O.Write.contents o) (g.W.Write.contents c.args.output.now) (g.W.Write.contents w))) _ c.picture_of.new.out.writer.now
           _ c.picture_of.new.output.writer.now (search rules) (search rules)
           (rw (c.in_ok-file.ensures.bytes, c.new-made.ensures.writer, c.new-output.ensures.writer) at bytes.err);
@@ -32,7 +32,7 @@ returns g c out =
     let kept = both_through r _ _ _ _ _ _ c.new-made.ensures.writer c.new-output.ensures.writer c.any_picture_of.ensures.untouched in
     rw c.in-Any.is (record {
       does = search (rules, rw c.in_ok-file.ensures.bytes at bytes.ok);
-      stops = of_left (λ o w. IfErr r (AnyPictureStops (g.F.FileSystem.bytes_at c.args.files.now c.args.file.now) (g.O.Write.contents c.args.made.now)
+      stops = of_left (λ o w. IfErr r (AnyPictureStops ((g.F.FileSystem.files c.args.files.now).bytes_at c.args.file.now) (g.O.Write.contents c.args.made.now)
           (g.O.Write.contents o) (g.W.Write.contents c.args.output.now) (g.W.Write.contents w))) _ c.any_picture_of.new.out.writer.now
           _ c.any_picture_of.new.output.writer.now (search rules) (search rules)
           (rw (c.in_ok-file.ensures.bytes, c.new-made.ensures.writer, c.new-output.ensures.writer) at bytes.err);

@@ -9,7 +9,7 @@ use Rattle.ffv1_commands.specs.Fault.{NamesPath}
 use Rattle.ffv1_commands.specs.Paths.{IsTakePath}
 use Rattle.ffv1_commands.specs.declared.fault.CliFault.TheVariants as faults
 use Rattle.ffv1_commands.proofs.MendCommandSteps.{left_kept}
-use Rattle.ffv1_commands.proofs.PlaySteps.{samples_of_bytes, begins_of_inputs, begun_so}
+use Rattle.ffv1_commands.proofs.SamplesSteps.{samples_of_bytes, begins_of_inputs, begun_so}
 use Rattle.ffv1_commands.proofs.Wrapped.{if_of_record}
 use Rattle.ffv1_program.specs.Running.{bytes_of_all}
 use Rattle.ffv1_program.proofs.Makes.{made_ok, made_err, made_kept, made_says, later_err, made_begun}
@@ -37,7 +37,7 @@ pub returns-then-is_empty : goal.returns-then-is_empty
 returns-then-is_empty g c recordings =
     record {
       does = tt;
-      stops = inr (inl (none_given (g.F.FileSystem.bytes_at c.args.files.now) c.args.frames.now.items (grind (arith, common_steps)), refl));
+      stops = inr (inl (none_given (g.F.FileSystem.files c.args.files.now).bytes_at c.args.frames.now.items (grind (arith, common_steps)), refl));
       keeps = (tt, inr (inl (refl, refl)));
       unread = tt;
       refuses = λ is. absurd (elim is [
@@ -53,10 +53,10 @@ returns g c recordings =
     let same = through_same _ _ _ _ _ _ _ _ _ _ clean c.samples_of-clean.ensures.reported in
     let inputs = map-map (λ (log : ReadLog). log.remaining) g.F.Device.Source.log c.as_mut_slice.result.now
     ∙ ap (map (λ source. (g.F.Device.Source.log source).remaining)) c.as_mut_slice.ensures.value ∙ c.in_ok-frames.ensures.bytes
-    ∙ ap (bytes_of_all (g.F.FileSystem.bytes_at c.args.files.now)) c.as_slice-2.ensures.value in
+    ∙ ap (bytes_of_all (g.F.FileSystem.files c.args.files.now).bytes_at) c.as_slice-2.ensures.value in
     let at = rw (c.as_slice-2.ensures.value, ← c.as_mut_slice.ensures.value) at c.in_ok-frames.ensures.at in
     let bytes = played_as clean c.args.recording.now.width c.args.recording.now.height
-    _ (g.F.FileSystem.bytes_at c.args.files.now c.args.recording.now.record.now) _ (bytes_of_all (g.F.FileSystem.bytes_at c.args.files.now) c.args.frames.now.items)
+    _ ((g.F.FileSystem.files c.args.files.now).bytes_at c.args.recording.now.record.now) _ (bytes_of_all (g.F.FileSystem.files c.args.files.now).bytes_at c.args.frames.now.items)
     _ (g.O.Write.contents c.args.made.now) _ (g.O.Write.contents c.make_after.new.made)
     _ (g.W.Write.contents c.args.output.now) _ (g.W.Write.contents c.output-1.given.0)
     c.device.ensures.bytes inputs (ap g.O.Write.contents c.new.ensures.writer)
@@ -83,7 +83,7 @@ returns g c recordings =
                 (search rules) same.1,
           )) (begins_of_inputs _ _ _ _ _ _ _ _ c.device.ensures.bytes inputs)));
       unread = made_says clean c.make_after.result _ _ c.make_after.ensures.err tt
-          (samples_unread (g.F.FileSystem.is_device_at c.args.files.now) g.F.Device.Source.log c.args.frames.now.items _ _ at _ c.device.result
+          (samples_unread (g.F.FileSystem.files c.args.files.now).is_device_at g.F.Device.Source.log c.args.frames.now.items _ _ at _ c.device.result
           c.samples_of-clean.new.configuration c.device.ensures.at _ _ _ _ _ _ clean c.samples_of-clean.ensures.reported);
       refuses = λ is. absurd (elim is [
         | inl same ↦ search (rules, same)

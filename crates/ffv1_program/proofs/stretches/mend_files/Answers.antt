@@ -39,19 +39,19 @@ returns g c recordings =
     let at = rw c.as_slice-2.ensures.value at c.in_ok-copies.ensures.at in
     record {
       does = made_ok good c.make_after.result _ _ c.make_after.ensures.ok
-          (rw c.make_after.ensures.bytes (of_left (λ o w. IfOk good (MendsFiles (g.F.FileSystem.bytes_at c.args.files.now c.args.list.now)
-          (bytes_of_all (g.F.FileSystem.bytes_at c.args.files.now) c.args.copies.now.items) (g.O.Write.contents c.args.made.now)
+          (rw c.make_after.ensures.bytes (of_left (λ o w. IfOk good (MendsFiles ((g.F.FileSystem.files c.args.files.now).bytes_at c.args.list.now)
+          (bytes_of_all (g.F.FileSystem.files c.args.files.now).bytes_at c.args.copies.now.items) (g.O.Write.contents c.args.made.now)
           (g.O.Write.contents o) (g.W.Write.contents c.args.output.now) (g.W.Write.contents w)))
           _ c.mend_of-good.new.out.writer.now _ c.mend_of-good.new.output.writer.now (search rules) (search rules)
           (rw (c.device.ensures.bytes, inputs, c.as_slice-2.ensures.value, c.new.ensures.writer, c.new-2.ensures.writer) at bytes.ok)));
       stops = made_err good c.make_after.result _ _ _ _ c.make_after.ensures.err
-          (rw c.make_after.ensures.bytes (of_left (λ o w. IfOk good (MendsFiles (g.F.FileSystem.bytes_at c.args.files.now c.args.list.now)
-          (bytes_of_all (g.F.FileSystem.bytes_at c.args.files.now) c.args.copies.now.items) (g.O.Write.contents c.args.made.now)
+          (rw c.make_after.ensures.bytes (of_left (λ o w. IfOk good (MendsFiles ((g.F.FileSystem.files c.args.files.now).bytes_at c.args.list.now)
+          (bytes_of_all (g.F.FileSystem.files c.args.files.now).bytes_at c.args.copies.now.items) (g.O.Write.contents c.args.made.now)
           (g.O.Write.contents o) (g.W.Write.contents c.args.output.now) (g.W.Write.contents w)))
           _ c.mend_of-good.new.out.writer.now _ c.mend_of-good.new.output.writer.now (search rules) (search rules)
           (rw (c.device.ensures.bytes, inputs, c.as_slice-2.ensures.value, c.new.ensures.writer, c.new-2.ensures.writer) at bytes.ok)))
-          (rw c.make_after.ensures.bytes (of_left (λ o w. IfErr good (MendStops (g.F.FileSystem.bytes_at c.args.files.now c.args.list.now)
-          (bytes_of_all (g.F.FileSystem.bytes_at c.args.files.now) c.args.copies.now.items) (g.O.Write.contents c.args.made.now)
+          (rw c.make_after.ensures.bytes (of_left (λ o w. IfErr good (MendStops ((g.F.FileSystem.files c.args.files.now).bytes_at c.args.list.now)
+          (bytes_of_all (g.F.FileSystem.files c.args.files.now).bytes_at c.args.copies.now.items) (g.O.Write.contents c.args.made.now)
           (g.O.Write.contents o) (g.W.Write.contents c.args.output.now) (g.W.Write.contents w)))
           _ c.mend_of-good.new.out.writer.now _ c.mend_of-good.new.output.writer.now (search rules) (search rules)
           (rw (c.device.ensures.bytes, inputs, c.as_slice-2.ensures.value, c.new.ensures.writer, c.new-2.ensures.writer) at bytes.err)));
@@ -66,7 +66,7 @@ returns g c recordings =
           (left_touched g.O.Write.contents c.new.result c.mend_of-good.new.out c.args.made.now _ _ c.new.ensures.log c.new.ensures.writer (search rules)
           paths.Out good c.mend_of-good.ensures.out_untouched));
       unread = made_says good c.make_after.result _ _ c.make_after.ensures.err tt
-          (mend_unread (g.F.FileSystem.is_device_at c.args.files.now) g.F.Device.Source.log (λ reader. reader.source) _ c.args.copies.now.items c.device.result
+          (mend_unread (g.F.FileSystem.files c.args.files.now).is_device_at g.F.Device.Source.log (λ reader. reader.source) _ c.args.copies.now.items c.device.result
           c.mend_of-good.new.list c.in_ok-copies.copies.items c.as_mut_slice.result.now c.mend_of-good.new.copies c.device.ensures.at at c.as_mut_slice.ensures.value
           _ _ _ _ good c.mend_of-good.ensures.reported);
       refuses = λ is. absurd (elim is [

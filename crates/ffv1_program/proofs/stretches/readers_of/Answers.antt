@@ -10,7 +10,7 @@ pub loop-path-preserved : goal.loop-path-preserved
 loop-path-preserved g c =
     record {
       bytes = grind (arith, common_steps);
-      at = rw c.in_ok-push.ensures.items (all_zip_next (λ path reader. IsLogAt (g.F.FileSystem.is_device_at c.args.files.now) g.F.Device.Source.log path.now
+      at = rw c.in_ok-push.ensures.items (all_zip_next (λ path reader. IsLogAt (g.F.FileSystem.files c.args.files.now).is_device_at g.F.Device.Source.log path.now
           (g.F.Device.Source.log reader.source)) c.args.paths.now c.loop-path.readers.items c.loop-path.path-index _ c.new.result (omega arith)
           c.loop-path.invariant.at (c.device.result, c.device.ensures.at, sym (ap (λ (s : CopyState). s.log) c.new.ensures)));
       unread = rw c.in_ok-push.ensures.items (All-push (λ reader. (state_of g.F.Device.Source.log reader).end ≡ 0) c.loop-path.readers.items c.new.result

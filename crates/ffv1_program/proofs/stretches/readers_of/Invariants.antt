@@ -10,8 +10,8 @@ abbrev pub invariant-loop-path : goal.invariant-loop-path
 invariant-loop-path g l =
     record {
       bytes : map (λ reader. (g.F.Device.Source.log reader.source).remaining) l.readers.items
-          ≡ map (λ path. g.F.FileSystem.bytes_at l.files path.now) (take l.path-index l.paths);
-      at : AllZip (λ path reader. IsLogAt (g.F.FileSystem.is_device_at l.files) g.F.Device.Source.log path.now (g.F.Device.Source.log reader.source))
+          ≡ map (λ path. (g.F.FileSystem.files l.files).bytes_at path.now) (take l.path-index l.paths);
+      at : AllZip (λ path reader. IsLogAt (g.F.FileSystem.files l.files).is_device_at g.F.Device.Source.log path.now (g.F.Device.Source.log reader.source))
           (take l.path-index l.paths) l.readers.items;
       unread : All (λ reader. (state_of g.F.Device.Source.log reader).end ≡ 0) l.readers.items;
     }

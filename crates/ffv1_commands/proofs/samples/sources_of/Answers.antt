@@ -1,8 +1,8 @@
 use Rattle.std.proofs.Common.{◌∙◌}
 use Rattle.std.proofs.lemmas.Iterator.Adapters.{YieldsList-from_vec}
 use Rattle.std.proofs.lemmas.Iterator.Consumers.{YieldsList-end}
-use Rattle.ffv1_commands.proofs.PlaySteps.{source_more, sources_all}
-use Rattle.ffv1_commands.proofs.play.sources_of.Goals as goal
+use Rattle.ffv1_commands.proofs.SamplesSteps.{source_more, sources_all}
+use Rattle.ffv1_commands.proofs.samples.sources_of.Goals as goal
 
 pub loop-frame-preserved : goal.loop-frame-preserved
 loop-frame-preserved g c =

@@ -6,9 +6,9 @@ use Rattle.ffv1_devices.specs.Logs.{ReadLog}
 use Rattle.ffv1_commands.specs.Fault.{NamesPath}
 use Rattle.ffv1_commands.specs.Paths.{IsTakePath}
 use Rattle.ffv1_commands.proofs.MendCommandSteps.{left_kept}
-use Rattle.ffv1_commands.proofs.PlaySteps.{samples_of_files, sources_are, begins_of_inputs, begun_so}
+use Rattle.ffv1_commands.proofs.SamplesSteps.{samples_of_files, sources_are, begins_of_inputs, begun_so}
 use Rattle.ffv1_commands.proofs.Wrapped.{if_of_record}
-use Rattle.ffv1_commands.proofs.play.run_samples.Goals as goal
+use Rattle.ffv1_commands.proofs.samples.run_samples.Goals as goal
 
 pub returns-in_err-sources-clause-err : goal.returns-in_err-sources-clause-err
 returns-in_err-sources-clause-err g c =

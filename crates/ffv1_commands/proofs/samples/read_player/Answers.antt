@@ -2,7 +2,7 @@ use Rattle.std.proofs.Common.{ap}
 use Rattle.std.proofs.lemmas.Result.{err_from_is_err_and}
 use Rattle.ffv1_player.specs.Players.{player_value}
 use Rattle.ffv1_commands.proofs.RecordFaults.{recording_unread, recording_taken, recording_refused}
-use Rattle.ffv1_commands.proofs.play.read_player.Goals as goal
+use Rattle.ffv1_commands.proofs.samples.read_player.Goals as goal
 
 pub returns-in_err-config : goal.returns-in_err-config
 returns-in_err-config g c =

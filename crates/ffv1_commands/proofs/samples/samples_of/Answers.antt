@@ -1,8 +1,8 @@
 use Rattle.std.proofs.Common.{refl, inl, inr}
 use Rattle.std.proofs.lemmas.Result.{err_from_is_err_and}
-use Rattle.ffv1_commands.proofs.PlaySteps.{play_is_later, begun_as, stop_from_none, first_from_none, all_from_none}
+use Rattle.ffv1_commands.proofs.SamplesSteps.{play_is_later, begun_as, stop_from_none, first_from_none, all_from_none}
 use Rattle.ffv1_commands.proofs.RecordFaults.{recording_in_turn}
-use Rattle.ffv1_commands.proofs.play.samples_of.Goals as goal
+use Rattle.ffv1_commands.proofs.samples.samples_of.Goals as goal
 
 pub returns-in_err-player : goal.returns-in_err-player
 returns-in_err-player g c =

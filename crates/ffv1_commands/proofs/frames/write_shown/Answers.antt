@@ -3,7 +3,7 @@ use Rattle.std.proofs.lemmas.Result.{err_from_is_err_and}
 use Rattle.ffv1_commands.specs.Inner.Devices.{WritesNamed}
 use Rattle.ffv1_commands.specs.declared.path.CommandPath.TheVariants as paths
 use Rattle.ffv1_commands.proofs.WrittenBoth.{then_text}
-use Rattle.ffv1_commands.proofs.samples.write_shown.Goals as goal
+use Rattle.ffv1_commands.proofs.frames.write_shown.Goals as goal
 
 pub returns-in_err-write_frame : goal.returns-in_err-write_frame
 returns-in_err-write_frame g c =

@@ -1,7 +1,7 @@
 use Rattle.std.proofs.Common.{◌≡◌, map}
 use Rattle.ffv1_devices.specs.Streams.{tries_of}
 use Rattle.ffv1_commands.specs.InTurn.{log_of}
-use Rattle.ffv1_commands.proofs.play.sources_of.Given as goal
+use Rattle.ffv1_commands.proofs.samples.sources_of.Given as goal
 
 -- The sources so far are those of the frames so far.
 abbrev pub invariant-loop-frame : goal.invariant-loop-frame

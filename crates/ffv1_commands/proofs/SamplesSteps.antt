@@ -17,7 +17,7 @@ use Rattle.ffv1_commands.specs.Devices.{TakesWhole, IsWholeInput, AreWholeInputs
 use Rattle.ffv1_commands.specs.Fault.{of_play}
 use Rattle.ffv1_commands.specs.InTurn.{log_of, WentAt}
 use Rattle.ffv1_commands.specs.Paths.{IsTakePath}
-use Rattle.ffv1_commands.specs.PlayText.{ReportsSamples, BeginsPlaying, IsInputAt, PlaysFiles, PlaysBefore, SamplesStops, FirstIsFrame}
+use Rattle.ffv1_commands.specs.SamplesText.{ReportsSamples, BeginsPlaying, IsInputAt, PlaysFiles, PlaysBefore, SamplesStops, FirstIsFrame}
 use Rattle.ffv1_commands.specs.RecordInputs.{IsRecordingInput, TakesRecording, RecordingStops}
 use Rattle.ffv1_commands.specs.declared.fault.CliFault.{CliFault}
 use Rattle.ffv1_commands.specs.declared.fault.CliFault.TheVariants as faults

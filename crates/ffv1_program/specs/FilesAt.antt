@@ -1,0 +1,11 @@
+-- What is known of the files of a program by their paths.
+use Rattle.std.specs.Prelude.{ℕ, List, Option}
+
+-- The bytes of the file of a path, if they are known; that a source is that of the file, not opened yet, and so one with a buffer; that one is
+-- of the file that was opened, and nothing of it is read yet; and that an opening of the file failed.
+pub record FilesAt (Device Buffered : Type 0) : Type 1 where
+  pub bytes_at : List ℕ → Option (List ℕ)
+  pub is_device_at : List ℕ → Device → Type 0
+  pub is_buffered_at : List ℕ → Buffered → Type 0
+  pub is_opened_at : List ℕ → Device → Type 0
+  pub cannot_open_at : List ℕ → Type 0
