@@ -8,4 +8,4 @@ mod verdict;
 
 pub use ranges::{ByteRange, RangesFault, read_ranges};
 pub use scanning::{ScanFault, scan};
-pub use verdict::{Verdict, judge};
+pub use verdict::{Verdict, is_passing, judge};

@@ -46,8 +46,8 @@ pub fn judge(bytes: &[u8]) -> Verdict
     }
 }
 
-/// Whether a link has content, and passes its parity.
-fn is_passing(link: &Link<'_>) -> bool
+/// Whether a link has content before its footer, and passes its parity.
+pub fn is_passing(link: &Link<'_>) -> bool
     ensures { result ≡ is_passing link.now }
 {
     link.bytes().len() > FOOTER_LENGTH && link.passes()

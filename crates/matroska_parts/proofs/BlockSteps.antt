@@ -9,7 +9,7 @@ use Rattle.matroska.specs.Blocks.{BlockValue}
 use Rattle.matroska.specs.NamedTracks.{has_number}
 use Rattle.matroska.specs.declared.track.Track.{Track}
 use Rattle.matroska.proofs.NamedSteps.{any_is_position}
-use Rattle.matroska_parts.specs.Payloads.{IsPayloadOf}
+use Rattle.matroska_parts.specs.Payloads.{IsPayloadOf, HasPassing}
 use Rattle.matroska_parts.specs.BlockParts.{IsTrackBlock}
 use Rattle.matroska_parts.specs.declared.parts.TrackBlock.{TrackBlock}
 use Rattle.matroska_parts.specs.declared.facts.TrackFacts.{TrackFacts}
@@ -44,9 +44,9 @@ track_at number tracks index at =
 pub track_block : (tracks : List Track) (facts : List TrackFacts) (vouched : Bool) (block : BlockValue) (found : TrackBlock) (fact : TrackFacts)
     → EachHasFacts tracks facts → position (has_number block.track) tracks ≡ Some found.index → slice_get facts found.index ≡ Some fact
     → found.track ≡ block.track → found.is_ffv1 ≡ fact.is_ffv1 → found.time ≡ block.time
-    → ((track : Track) → IsJudging track fact.judging → IsPayloadOf track block found.payload) → found.is_vouched ≡ vouched
+    → ((track : Track) → IsJudging track fact.judging → IsPayloadOf track block found.payload) → HasPassing found.payload block.payload found.passing → found.is_vouched ≡ vouched
     → IsTrackBlock tracks vouched block found
-track_block tracks facts vouched block found fact each at has track ffv1 time payload vouched_is =
+track_block tracks facts vouched block found fact each at has track ffv1 time payload passing vouched_is =
     let there = track_at block.track tracks found.index at in
     let are : AreFactsOf (get_or tracks found.index no_track) fact = facts_at tracks facts each found.index (get_or tracks found.index no_track) fact there.1 has in
     record {
@@ -57,5 +57,6 @@ track_block tracks facts vouched block found fact each at has track ffv1 time pa
       ffv1 = (λ t. are.ffv1.0 (subst IsTrue ffv1 t), λ is. subst IsTrue (sym ffv1) (are.ffv1.1 is));
       time = time;
       payload = payload (get_or tracks found.index no_track) are.judging;
+      passing = passing;
       vouched_is = vouched_is;
     }

@@ -105,14 +105,14 @@ module _ (tracks : List Track) (P : Part → Type 0) (unknown : (span : Span) �
   doc_below tops.Tags place content parts are = none_below parts are
   doc_below tops.Void place content parts are = none_below parts are
 
-  record_below : (place : ℕ) (track : Track) (parts : List Part) → AreRecordPartsOf place track parts → AreBelow parts
-  record_below place track parts are = elim are [ inl x ↦ subst AreBelow (sym x.2) (record_is x.0, tt) | inr x ↦ none_below parts x.1 ]
+  record_below : (place : ℕ) (vouched : Bool) (track : Track) (parts : List Part) → AreRecordPartsOf place vouched track parts → AreBelow parts
+  record_below place vouched track parts are = elim are [ inl x ↦ subst AreBelow (sym x.2) (record_is x.0, tt) | inr x ↦ none_below parts x.1 ]
 
-  records_below : (place : ℕ) (all : List Track) (parts : List Part) → AreRecordParts place all parts → AreBelow parts
-  records_below place [] parts are = none_below parts are
-  records_below place (t ∷ ts) parts are =
-      joined_below parts are.0 are.1 are.2 (record_below place t are.0 are.3) (records_below place ts are.1 are.4)
+  records_below : (place : ℕ) (vouched : Bool) (all : List Track) (parts : List Part) → AreRecordParts place vouched all parts → AreBelow parts
+  records_below place vouched [] parts are = none_below parts are
+  records_below place vouched (t ∷ ts) parts are =
+      joined_below parts are.0 are.1 are.2 (record_below place vouched t are.0 are.3) (records_below place vouched ts are.1 are.4)
 
-  pub records_if : (here : Bool) (place : ℕ) (parts : List Part) → AreRecordPartsIf here place tracks parts → AreBelow parts
-  records_if true place parts are = records_below place tracks parts are
-  records_if false place parts are = none_below parts are
+  pub records_if : (here vouched : Bool) (place : ℕ) (parts : List Part) → AreRecordPartsIf here vouched place tracks parts → AreBelow parts
+  records_if true vouched place parts are = records_below place vouched tracks parts are
+  records_if false vouched place parts are = none_below parts are

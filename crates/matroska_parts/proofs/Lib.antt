@@ -1,4 +1,5 @@
 pub mod FactSteps
+pub mod FrameSteps
 pub mod BlockSteps
 pub mod MasterSteps
 pub mod OpeningSteps

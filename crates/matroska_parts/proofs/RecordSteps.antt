@@ -1,5 +1,5 @@
 -- The records of tracks, one by one.
-use Rattle.std.proofs.Common.{◌≡◌, ℕ, ◌<◌, true, false, eqb, length, arith, List, [], ◌∷◌, ◌++◌, refl, sym, ap, ◌∙◌}
+use Rattle.std.proofs.Common.{◌≡◌, ℕ, ◌<◌, Bool, true, false, eqb, length, arith, List, [], ◌∷◌, ◌++◌, refl, sym, ap, ◌∙◌}
 use Rattle.std.proofs.lemmas.List.{append_assoc, append-nil}
 use Rattle.std.proofs.lemmas.Bool.{eqb-true}
 use Rattle.matroska.specs.declared.track.Track.{Track}
@@ -7,19 +7,19 @@ use Rattle.matroska_parts.specs.declared.parts.Part.{Part}
 use Rattle.matroska_parts.specs.RecordParts.{AreRecordPartsOf, AreRecordParts}
 use Rattle.matroska_parts.specs.Inner.Added.{AddsParts}
 
-records_snoc : (place : ℕ) (tracks : List Track) (track : Track) (so_far more : List Part) → AreRecordParts place tracks so_far → AreRecordPartsOf place track more
-    → AreRecordParts place (tracks ++ track ∷ []) (so_far ++ more)
-records_snoc place [] track so_far more are is = (more, [], ap (λ z. z ++ more) are ∙ sym (append-nil more), is, refl)
-records_snoc place (t ∷ ts) track so_far more are is =
-    (are.0, are.1 ++ more, ap (λ z. z ++ more) are.2 ∙ append_assoc are.0 are.1 more, are.3, records_snoc place ts track are.1 more are.4 is)
+records_snoc : (place : ℕ) (vouched : Bool) (tracks : List Track) (track : Track) (so_far more : List Part) → AreRecordParts place vouched tracks so_far → AreRecordPartsOf place vouched track more
+    → AreRecordParts place vouched (tracks ++ track ∷ []) (so_far ++ more)
+records_snoc place vouched [] track so_far more are is = (more, [], ap (λ z. z ++ more) are ∙ sym (append-nil more), is, refl)
+records_snoc place vouched (t ∷ ts) track so_far more are is =
+    (are.0, are.1 ++ more, ap (λ z. z ++ more) are.2 ∙ append_assoc are.0 are.1 more, are.3, records_snoc place vouched ts track are.1 more are.4 is)
 
-pub one_record_more : (place : ℕ) (tracks : List Track) (track : Track) (old new newer : List Part) → AddsParts (AreRecordParts place tracks) old new
-    → AddsParts (AreRecordPartsOf place track) new newer → AddsParts (AreRecordParts place (tracks ++ track ∷ [])) old newer
-one_record_more place tracks track old new newer so_far adds =
-    (so_far.0 ++ adds.0, adds.1 ∙ ap (λ z. z ++ adds.0) so_far.1 ∙ append_assoc old so_far.0 adds.0, records_snoc place tracks track so_far.0 adds.0 so_far.2 adds.2)
+pub one_record_more : (place : ℕ) (vouched : Bool) (tracks : List Track) (track : Track) (old new newer : List Part) → AddsParts (AreRecordParts place vouched tracks) old new
+    → AddsParts (AreRecordPartsOf place vouched track) new newer → AddsParts (AreRecordParts place vouched (tracks ++ track ∷ [])) old newer
+one_record_more place vouched tracks track old new newer so_far adds =
+    (so_far.0 ++ adds.0, adds.1 ∙ ap (λ z. z ++ adds.0) so_far.1 ∙ append_assoc old so_far.0 adds.0, records_snoc place vouched tracks track so_far.0 adds.0 so_far.2 adds.2)
 
-pub no_records : (place : ℕ) (old : List Part) → AddsParts (AreRecordParts place []) old old
-no_records place old = ([], sym (append-nil old), refl)
+pub no_records : (place : ℕ) (vouched : Bool) (old : List Part) → AddsParts (AreRecordParts place vouched []) old old
+no_records place vouched old = ([], sym (append-nil old), refl)
 
 pub empty_by : (bytes : List ℕ) → eqb (length bytes) 0 ≡ true → bytes ≡ []
 empty_by [] e = refl

@@ -7,7 +7,7 @@ use Rattle.matroska_parts.specs.declared.parts.BlockPart.{BlockPart}
 use Rattle.matroska_parts.specs.declared.parts.TrackBlock.{TrackBlock}
 use Rattle.matroska_parts.specs.declared.parts.Standing.{Standing}
 use Rattle.matroska_parts.specs.declared.parts.Standing.TheVariants as standing
-use Rattle.matroska_parts.specs.Payloads.{IsPayloadOf, IsFfv1}
+use Rattle.matroska_parts.specs.Payloads.{IsPayloadOf, HasPassing, IsFfv1}
 
 -- A block of one of the tracks.
 pub record IsTrackBlock (tracks : List Track) (vouched : Bool) (block : BlockValue) (found : TrackBlock) : Type 0 where
@@ -18,6 +18,7 @@ pub record IsTrackBlock (tracks : List Track) (vouched : Bool) (block : BlockVal
   pub ffv1 : IsTrue found.is_ffv1 ↔ IsFfv1 track
   pub time : found.time ≡ block.time
   pub payload : IsPayloadOf track block found.payload
+  pub passing : HasPassing found.payload block.payload found.passing
   pub vouched_is : found.is_vouched ≡ vouched
 
 -- what the content of a SimpleBlock or a Block is, in a Cluster whose CRC-32 passes or not

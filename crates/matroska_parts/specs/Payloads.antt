@@ -1,6 +1,7 @@
 -- How the payload of a track's block stands with the checks that it has.
-use Rattle.std.specs.Prelude.{ℕ, ◌^◌, ◌≤◌, ◌<◌, ◌≡◌, ◌≢◌, ◌↔◌, IsTrue, List, length}
-use Rattle.ffv1_scan.specs.Verdicts.{IsVerdictOf}
+use Rattle.std.specs.Prelude.{ℕ, ◌^◌, ◌≤◌, ◌<◌, ◌≡◌, ◌≢◌, ◌↔◌, IsTrue, if◌then◌else◌, List, length, sum_by}
+use Rattle.ffv1_slice.specs.Chain.{LinkValue, AreLinksOf}
+use Rattle.ffv1_scan.specs.Verdicts.{is_passing, IsVerdictOf}
 use Rattle.matroska.specs.Blocks.{BlockValue}
 use Rattle.matroska.specs.Tracks.{HasRecord, HasParities, IsFlac}
 use Rattle.matroska.specs.Sound.{IsRightFlac}
@@ -37,6 +38,20 @@ pub record IsPayloadOf (track : Track) (block : BlockValue) (found : Payload) : 
   pub frame : HasParities track → IsFramePayload block found
   pub flac : IsFlac track → IsFlacPayload block found
   pub other : (HasParities track → ⊥) → (IsFlac track → ⊥) → found ≡ payload.Other
+
+-- how many bytes those of links have that pass
+abbrev pub passing_size : List LinkValue → ℕ
+passing_size links = sum_by (λ link. if is_passing link then length link.bytes else 0) links
+
+-- so many bytes have the links of a frame that pass
+abbrev pub HasPassingLinks : List ℕ → ℕ → Type 0
+HasPassingLinks bytes size = (links : List LinkValue) × AreLinksOf bytes links × (size ≡ passing_size links)
+
+-- so many bytes of a payload pass checks of their own: those of the links of a frame that pass, or all that are FLAC and right
+abbrev pub HasPassing : Payload → List ℕ → ℕ → Type 0
+HasPassing (payload.Frame verdict) bytes size = HasPassingLinks bytes size
+HasPassing (payload.Flac right) bytes size = size ≡ (if right then length bytes else 0)
+HasPassing _ bytes size = size ≡ 0
 
 -- a track is of FFV1
 abbrev pub IsFfv1 : Track → Type 0

@@ -1,13 +1,13 @@
 -- The Configuration Records of a file's tracks as parts of it.
-use Rattle.std.specs.Prelude.{ℕ, ◌<◌, ◌≡◌, ◌⊎◌, ◌↔◌, IsTrue, List, [], ◌∷◌, ◌++◌, length}
+use Rattle.std.specs.Prelude.{ℕ, ◌<◌, ◌≡◌, ◌⊎◌, ◌↔◌, IsTrue, Bool, List, [], ◌∷◌, ◌++◌, length}
 use Rattle.matroska.specs.Tracks.{HasRecord, IsRecordWrong}
 use Rattle.matroska.specs.declared.track.Track.{Track}
 use Rattle.matroska_parts.specs.declared.parts.Part.{Part}
 use Rattle.matroska_parts.specs.declared.parts.Part.TheVariants as part
 use Rattle.matroska_parts.specs.declared.parts.RecordPart.{RecordPart}
 
--- The record of a track, which has bytes, in the Tracks that begins at this place.
-pub record IsRecordPart (place : ℕ) (track : Track) (found : RecordPart) : Type 0 where
+-- The record of a track, which has bytes, in the Tracks that begins at this place and whose CRC-32 passes or not.
+pub record IsRecordPart (place : ℕ) (vouched : Bool) (track : Track) (found : RecordPart) : Type 0 where
   pub bytes : List ℕ
   pub has : HasRecord track bytes
   pub some : 0 < length bytes
@@ -15,15 +15,16 @@ pub record IsRecordPart (place : ℕ) (track : Track) (found : RecordPart) : Typ
   pub size : found.size ≡ length bytes
   pub named : found.track ≡ track.number
   pub wrong : IsTrue found.is_wrong ↔ IsRecordWrong track
+  pub vouched_is : found.is_vouched ≡ vouched
 
 -- a track has one such part, or none if it has no record, or an empty one
-abbrev pub AreRecordPartsOf : ℕ → Track → List Part → Type 0
-AreRecordPartsOf place track parts =
-    ((found : RecordPart) × IsRecordPart place track found × (parts ≡ part.Record found ∷ []))
+abbrev pub AreRecordPartsOf : ℕ → Bool → Track → List Part → Type 0
+AreRecordPartsOf place vouched track parts =
+    ((found : RecordPart) × IsRecordPart place vouched track found × (parts ≡ part.Record found ∷ []))
     ⊎ (((bytes : List ℕ) → HasRecord track bytes → bytes ≡ []) × (parts ≡ []))
 
 -- those of all tracks
-abbrev pub AreRecordParts : ℕ → List Track → List Part → Type 0
-AreRecordParts place [] parts = parts ≡ []
-AreRecordParts place (track ∷ tracks) parts =
-    (own : List Part) × (more : List Part) × (parts ≡ own ++ more) × AreRecordPartsOf place track own × AreRecordParts place tracks more
+abbrev pub AreRecordParts : ℕ → Bool → List Track → List Part → Type 0
+AreRecordParts place vouched [] parts = parts ≡ []
+AreRecordParts place vouched (track ∷ tracks) parts =
+    (own : List Part) × (more : List Part) × (parts ≡ own ++ more) × AreRecordPartsOf place vouched track own × AreRecordParts place vouched tracks more

@@ -26,13 +26,14 @@ pub(crate) fn standing_of(
         return Ok(Standing::Unnamed(block.track));
     };
     let facts = &tracks.facts[index];
-    let payload = payload_of(alloc, facts.judging, &block)?;
+    let judged = payload_of(alloc, facts.judging, &block)?;
     Ok(Standing::Named(TrackBlock {
         index,
         track: block.track,
         is_ffv1: facts.is_ffv1,
         time: block.time,
-        payload,
+        payload: judged.payload,
+        passing: judged.passing,
         is_vouched,
     }))
 }

@@ -71,11 +71,13 @@ fn push_element(
     };
     let content = &bytes[head.length..];
     let crc32 = crc32_of(head, bytes);
+    let is_vouched = passes(crc32);
     parts.push(Part::Begin(opening_of(place, element, head, bytes)))?;
     let from = place + head.length as u64;
-    push_content(alloc, tracks, passes(crc32), head.id, from, content, parts)?;
+    push_content(alloc, tracks, is_vouched, head.id, from, content, parts)?;
     push_doc(element, place, content, parts)?;
-    push_records_if(tracks, says_records(first, place, crc32), place, parts)?;
+    let here = says_records(first, place, crc32);
+    push_records_if(tracks, here, is_vouched, place, parts)?;
     parts.push(Part::End(Closing {
         place,
         element,
@@ -86,17 +88,18 @@ fn push_element(
     Ok(())
 }
 
-/// AddsParts the records of the tracks, if they are said here.
+/// AddsParts the records of the tracks, if they are said here; the CRC-32 of the Tracks passes or not.
 fn push_records_if(
     tracks: &FileTracks<'_>,
     here: bool,
+    is_vouched: bool,
     place: u64,
     parts: &mut Vec<Part>,
 ) -> Result<(), AllocError>
-    ensures { OnOk result (AddsParts (AreRecordPartsIf here place tracks.now.named.tracks.items) parts.old.items parts.new.items) }
+    ensures { OnOk result (AddsParts (AreRecordPartsIf here is_vouched place tracks.now.named.tracks.items) parts.old.items parts.new.items) }
 {
     if here {
-        return push_records(place, tracks.named.as_slice(), parts);
+        return push_records(place, is_vouched, tracks.named.as_slice(), parts);
     }
     Ok(())
 }

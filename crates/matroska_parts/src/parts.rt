@@ -93,6 +93,8 @@ pub struct TrackBlock {
     pub time: i16,
     /// How its payload stands with the checks that it has.
     pub payload: Payload,
+    /// How many bytes of its payload pass checks of their own: those of a frame's links that pass, or all of a right payload of FLAC.
+    pub passing: u64,
     /// Whether the CRC-32 of its Cluster passes.
     pub is_vouched: bool,
 }
@@ -121,4 +123,6 @@ pub struct RecordPart {
     pub track: u64,
     /// Whether it fails its parity.
     pub is_wrong: bool,
+    /// Whether the CRC-32 of the Tracks that describes it passes.
+    pub is_vouched: bool,
 }

@@ -7,23 +7,29 @@ use crate::parts::{Part, RecordPart};
 use matroska::{Track, is_record_wrong, record_of};
 use std::alloc::AllocError;
 
-/// AddsParts those of all tracks, which the Tracks at this place describes.
+/// AddsParts those of all tracks, which the Tracks at this place describes; its CRC-32 passes or not.
 pub(crate) fn push_records(
     place: u64,
+    is_vouched: bool,
     tracks: &[Track<'_>],
     parts: &mut Vec<Part>,
 ) -> Result<(), AllocError>
-    ensures { OnOk result (AddsParts (AreRecordParts place tracks.now) parts.old.items parts.new.items) }
+    ensures { OnOk result (AddsParts (AreRecordParts place is_vouched tracks.now) parts.old.items parts.new.items) }
 {
     for track in tracks {
-        push_record(place, track, parts)?;
+        push_record(place, is_vouched, track, parts)?;
     }
     Ok(())
 }
 
 /// AddsParts that of one track.
-fn push_record(place: u64, track: &Track<'_>, parts: &mut Vec<Part>) -> Result<(), AllocError>
-    ensures { OnOk result (AddsParts (AreRecordPartsOf place track.now) parts.old.items parts.new.items) }
+fn push_record(
+    place: u64,
+    is_vouched: bool,
+    track: &Track<'_>,
+    parts: &mut Vec<Part>,
+) -> Result<(), AllocError>
+    ensures { OnOk result (AddsParts (AreRecordPartsOf place is_vouched track.now) parts.old.items parts.new.items) }
 {
     let Some(bytes) = record_of(track) else {
         return Ok(());
@@ -36,6 +42,7 @@ fn push_record(place: u64, track: &Track<'_>, parts: &mut Vec<Part>) -> Result<(
         size: bytes.len() as u64,
         track: track.number,
         is_wrong: is_record_wrong(track),
+        is_vouched,
     }))?;
     Ok(())
 }

@@ -35,5 +35,5 @@ returns c =
       block_value c.in-Some.block,
       c.in-Some.ensures,
       track_block c.args.tracks.now.named.tracks.items c.args.tracks.now.facts.items c.args.is_vouched (block_value c.in-Some.block) _ c.index-facts.result.now c.requires at has
-          refl refl (to_z-of_z fits) c.in_ok-payload.ensures refl,
+          refl refl (to_z-of_z fits) c.in_ok-judged.ensures.payload c.in_ok-judged.ensures.passing refl,
     )

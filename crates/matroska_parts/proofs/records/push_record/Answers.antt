@@ -24,6 +24,7 @@ returns c = (
       size = refl;
       named = refl;
       wrong = c.is_record_wrong.ensures;
+      vouched_is = refl;
     },
     refl,
   ),
