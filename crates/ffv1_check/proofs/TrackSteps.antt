@@ -4,7 +4,7 @@ use Rattle.std.proofs.Math.ListN.{length-set}
 use Rattle.std.proofs.lemmas.List.{append-nil, take_all, drop_all}
 use Rattle.std.specs.Prelude.{◌&&◌, count_by, Option, Some, None, option_to_list}
 use Rattle.std.specs.List.{fold}
-use Rattle.std.proofs.lemmas.List.Sums.{fold-append, count_by-le-length}
+use Rattle.std.proofs.lemmas.List.Sums.{fold-append, count_by-le-length, sum_by-append}
 use Rattle.std.proofs.lemmas.Bool.{eqb-true, eq-eqb}
 use Rattle.matroska.specs.NamedTracks.{by_those_before}
 use Rattle.matroska.proofs.NamedSteps.{by_those_before-append, not_equal}
@@ -16,6 +16,7 @@ use Rattle.matroska_parts.specs.declared.parts.Standing.TheVariants.{Short, Unna
 use Rattle.matroska_parts.specs.declared.parts.TrackBlock.{TrackBlock}
 use Rattle.ffv1_check.specs.declared.track_states.TrackState.{TrackState}
 use Rattle.ffv1_check.specs.Before.{first_of, time_of, is_of, is_block_of, time_in, time_at, last_time}
+use Rattle.ffv1_check.specs.CheckedBytes.{part_bytes, checked_bytes}
 use Rattle.ffv1_check.specs.Reports.{is_checked, is_checked_in, is_checked_of}
 use Rattle.ffv1_check.specs.Inner.Stands.{TrackStands, no_state, EachStands, EachCanCountMore}
 
@@ -35,6 +36,10 @@ last_time_more index parts part =
 last_by : (time last : Option ℤ) → last_in last (option_to_list time) ≡ first_of time last
 last_by None last = refl
 last_by (Some t) last = refl
+
+-- how many bytes are checked, with those of one part more
+pub bytes_more : (parts : List Part) (part : Part) → checked_bytes (parts ++ part ∷ []) ≡ checked_bytes parts + part_bytes part
+bytes_more parts part = omega (arith, sum_by-append part_bytes parts (part ∷ []))
 
 -- a part that is no block of the track
 pub state_same : (parts : List Part) (part : Part) (index : ℕ) (state : TrackState) → TrackStands parts index state → is_block_of index part ≡ false

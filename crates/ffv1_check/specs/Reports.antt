@@ -16,6 +16,7 @@ use Rattle.ffv1_check.specs.declared.report.Report.{Report}
 use Rattle.ffv1_check.specs.declared.report.TrackCount.{TrackCount}
 use Rattle.ffv1_check.specs.Before.{first_segment, is_block_of}
 use Rattle.ffv1_check.specs.PartFindings.{lines_at, lines_of_parts}
+use Rattle.ffv1_check.specs.CheckedBytes.{checked_bytes}
 
 -- ---- the end of the file
 
@@ -62,8 +63,13 @@ blocks_of index parts = count_by (is_block_of index) parts
 abbrev pub checked_of : ℕ → List Part → ℕ
 checked_of index parts = count_by (is_checked_of index) parts
 
-abbrev pub track_count_of : ℕ → List Part → TrackCount
-track_count_of index parts = record { blocks = blocks_of index parts; checked = checked_of index parts }
+abbrev pub track_count_of : Track → ℕ → List Part → TrackCount
+track_count_of track index parts = record {
+  number = track.number;
+  codec = track.codec;
+  blocks = blocks_of index parts;
+  checked = checked_of index parts;
+}
 
 -- ---- the verdict
 
@@ -79,5 +85,7 @@ pub record IsWhole (tracks : List Track) (size : ℕ) (parts : List Part) : Type
 pub record IsReportOf (tracks : List Track) (size : ℕ) (parts : List Part) (report : Report) : Type 0 where
   pub lines : report.lines.items ≡ file_lines (length tracks) size parts
   pub tracks_are : length report.tracks.items ≡ length tracks
-  pub counts : (index : ℕ) → index < length tracks → slice_get report.tracks.items index ≡ Some (track_count_of index parts)
+  pub counts : (index : ℕ) (track : Track) → slice_get tracks index ≡ Some track → slice_get report.tracks.items index ≡ Some (track_count_of track index parts)
+  pub size_is : report.size ≡ size
+  pub bytes : report.checked ≡ checked_bytes parts
   pub whole : IsTrue report.is_whole ↔ IsWhole tracks size parts

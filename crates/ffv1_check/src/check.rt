@@ -8,7 +8,7 @@ use std::alloc::{AllocError, Global};
 
 /// Judges a Matroska file, whatever its bytes are: the checksums in it, and how its parts hang together. It fails only if an allocation
 /// fails.
-pub fn check_file(alloc: Global, file: &[u8]) -> Result<Report, AllocError>
+pub fn check_file<'a>(alloc: Global, file: &'a [u8]) -> Result<Report<'a>, AllocError>
     ensures { IfOk result (IsCheckOf file.now) }
 {
     let found = file_parts(alloc, file)?;

@@ -2,12 +2,15 @@
 #![tactic(auto)]
 
 mod check;
+mod checked_bytes;
 mod findings;
 mod progress;
 mod report;
+mod text;
 mod tops;
 mod track_states;
 
 pub use check::{check_file, cut_file_is_seen, small_damage_is_seen};
 pub use findings::{Finding, Line, push_line};
 pub use report::{Report, TrackCount};
+pub use text::push_report;

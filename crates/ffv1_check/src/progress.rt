@@ -1,5 +1,5 @@
 //! A check, part by part.
-ghost use Rattle.std.specs.Prelude.{ℕ, ◌≡◌, ◌<◌, List, [], ◌∷◌, ◌++◌, length, vec_len, IfOk};
+ghost use Rattle.std.specs.Prelude.{ℕ, ◌≡◌, ◌<◌, ◌+◌, ◌^◌, List, [], ◌∷◌, ◌++◌, length, vec_len, IfOk};
 ghost use Rattle.matroska_parts.specs.declared.parts.Part.{Part};
 ghost use Rattle.matroska_parts.specs.declared.parts.BlockPart.{BlockPart};
 ghost use Rattle.matroska_parts.specs.declared.parts.Standing.TheVariants.{Named};
@@ -8,6 +8,7 @@ ghost use Rattle.ffv1_check.specs.PartFindings.{standing_findings, part_findings
 ghost use Rattle.ffv1_check.specs.Inner.Stands.{found_list, EachStands, ProgressStands, EachCanCountMore};
 ghost use Rattle.matroska_parts.specs.Named.{IsNamedBelow, IsBelow};
 
+use crate::checked_bytes::part_bytes;
 use crate::findings::Finding;
 use crate::tops::{Found, Tops};
 use crate::track_states::TrackState;
@@ -19,6 +20,8 @@ use std::alloc::{AllocError, Global};
 pub(crate) struct Progress {
     pub(crate) tops: Tops,
     pub(crate) tracks: Vec<TrackState>,
+    /// How many bytes are checked. The sum of so many sizes of files fits.
+    pub(crate) checked: u128,
 }
 
 impl Progress {
@@ -26,10 +29,12 @@ impl Progress {
     pub(crate) fn new(alloc: Global, tracks: usize) -> Result<Progress, AllocError>
         ensures stands { IfOk result (λ progress. ProgressStands [] progress) }
         ensures tracks { IfOk result (λ progress. vec_len progress.tracks ≡ tracks) }
+        ensures checked { IfOk result (λ progress. progress.checked ≡ 0) }
     {
         Ok(Progress {
             tops: Tops::new(),
             tracks: vec![in alloc; TrackState::new(); tracks]?,
+            checked: 0,
         })
     }
 
@@ -75,11 +80,14 @@ impl Progress {
     pub(crate) fn pass(&mut self, part: &Part)
         requires below { IsBelow (vec_len self.old.tracks) part.now }
         requires room { EachCanCountMore self.old.tracks.items }
+        requires bytes { self.old.checked < 2 ^ 127 }
+        ensures most { self.new.checked < self.old.checked + 2 ^ 64 }
         ensures tracks { vec_len self.new.tracks ≡ vec_len self.old.tracks }
         ensures stands { (parts : List Part) → ProgressStands parts self.old → ProgressStands (parts ++ part.now ∷ []) self.new }
     {
         pass_part(&mut self.tracks, self.tops.timestamp, part);
         self.tops = self.tops.after(part);
+        self.checked += u128::from(part_bytes(part));
     }
 }
 

@@ -1,10 +1,10 @@
 //! What a check reports of a whole file.
-ghost use Rattle.std.specs.Prelude.{ℕ, ◌≡◌, ◌↔◌, [], ◌++◌, IsTrue, Some, IfOk, OnOk, length, map, slice_get, option_to_list};
+ghost use Rattle.std.specs.Prelude.{ℕ, ◌≡◌, ◌↔◌, [], ◌++◌, IsTrue, Some, IfOk, OnOk, length, slice_get, option_to_list};
 ghost use Rattle.std.specs.List.{AllByRecursion};
 ghost use Rattle.matroska.specs.declared.track.Track.{Track};
 ghost use Rattle.ffv1_check.specs.PartFindings.{lines_at, place_of};
 ghost use Rattle.ffv1_check.specs.Reports.{segment_findings, no_track_findings, IsReportOf, is_video};
-ghost use Rattle.ffv1_check.specs.Inner.Stands.{found_list, counted_in, IsChecked};
+ghost use Rattle.ffv1_check.specs.Inner.Stands.{found_list, counted_in, AreCounted, IsChecked};
 ghost use Rattle.matroska_parts.specs.Named.{IsBelow};
 
 use crate::findings::{Finding, Line};
@@ -21,29 +21,37 @@ const VIDEO: u64 = 1;
 /// How many blocks of a track a file has, and how many of them are checked: their own checks pass, or they have none and the CRC-32 of their
 /// Cluster passes.
 #[derive(Clone, Copy, Debug, PartialEq, Eq)]
-pub struct TrackCount {
+pub struct TrackCount<'a> {
+    /// The track's number.
+    pub number: u64,
+    /// Its CodecID.
+    pub codec: &'a [u8],
     pub blocks: u64,
     pub checked: u64,
 }
 
 /// What a check reports of a file.
 #[derive(Drop)]
-pub struct Report {
+pub struct Report<'a> {
     /// A line for each thing that is wrong, in the order of the file.
     pub lines: Vec<Line>,
     /// A count for each track that blocks can name, in the order of the file's Tracks.
-    pub tracks: Vec<TrackCount>,
+    pub tracks: Vec<TrackCount<'a>>,
+    /// How many bytes the file has.
+    pub size: u64,
+    /// How many of them some check covers that passes.
+    pub checked: u128,
     /// Whether there is no line, and each block of a video track is checked.
     pub is_whole: bool,
 }
 
 /// The report of a file of this size, whose blocks can name these tracks, by its parts.
-pub(crate) fn report_of(
+pub(crate) fn report_of<'a>(
     alloc: Global,
-    tracks: &[Track<'_>],
+    tracks: &[Track<'a>],
     size: u64,
     parts: &[Part],
-) -> Result<Report, AllocError>
+) -> Result<Report<'a>, AllocError>
     requires { AllByRecursion (IsBelow (length tracks.now)) parts.now }
     ensures { IfOk result (IsReportOf tracks.now size parts.now) }
 {
@@ -59,11 +67,13 @@ pub(crate) fn report_of(
         size,
         &found_at_end(size, &progress.tops.segment, tracks.len()),
     )?;
-    let counts = counts_of(alloc, &progress.tracks)?;
+    let counts = counts_of(alloc, tracks, &progress.tracks)?;
     let is_whole = is_whole(&lines, tracks, &counts);
     Ok(Report {
         lines,
         tracks: counts,
+        size,
+        checked: progress.checked,
         is_whole,
     })
 }
@@ -140,24 +150,35 @@ fn push_finding(
 }
 
 /// The counts of all tracks.
-fn counts_of(alloc: Global, states: &[TrackState]) -> Result<Vec<TrackCount>, AllocError>
-    ensures { IfOk result (λ counts. counts.items ≡ map counted_in states.now) }
+fn counts_of<'a>(
+    alloc: Global,
+    tracks: &[Track<'a>],
+    states: &[TrackState],
+) -> Result<Vec<TrackCount<'a>>, AllocError>
+    requires { length states.now ≡ length tracks.now }
+    ensures { IfOk result (λ counts. AreCounted tracks.now states.now counts.items) }
 {
-    states.iter().map(count_of).collect(alloc)
+    let mut counts = Vec::new(alloc);
+    for (index, track) in tracks.iter().enumerate() {
+        counts.push(count_of(track, &states[index]))?;
+    }
+    Ok(counts)
 }
 
 /// The counts of one.
-fn count_of(state: &TrackState) -> TrackCount
-    ensures { result ≡ counted_in state.now }
+fn count_of<'a>(track: &Track<'a>, state: &TrackState) -> TrackCount<'a>
+    ensures { result ≡ counted_in track.now state.now }
 {
     TrackCount {
+        number: track.number,
+        codec: track.codec,
         blocks: state.blocks,
         checked: state.checked,
     }
 }
 
 /// Whether there is no line, and all blocks of each video track are checked.
-fn is_whole(lines: &[Line], tracks: &[Track<'_>], counts: &[TrackCount]) -> bool
+fn is_whole(lines: &[Line], tracks: &[Track<'_>], counts: &[TrackCount<'_>]) -> bool
     requires { length counts.now ≡ length tracks.now }
     ensures { IsTrue result ↔ (lines.now ≡ []) × ((index : ℕ) (track : Track) → slice_get tracks.now index ≡ Some track
         → IsChecked track (slice_get counts.now index)) }
@@ -166,7 +187,7 @@ fn is_whole(lines: &[Line], tracks: &[Track<'_>], counts: &[TrackCount]) -> bool
 }
 
 /// Whether all blocks of each video track are checked.
-fn are_checked(tracks: &[Track<'_>], counts: &[TrackCount]) -> bool
+fn are_checked(tracks: &[Track<'_>], counts: &[TrackCount<'_>]) -> bool
     requires { length counts.now ≡ length tracks.now }
     ensures { IsTrue result ↔ ((index : ℕ) (track : Track) → slice_get tracks.now index ≡ Some track → IsChecked track (slice_get counts.now index)) }
 {
@@ -179,7 +200,7 @@ fn are_checked(tracks: &[Track<'_>], counts: &[TrackCount]) -> bool
 }
 
 /// Whether all blocks of a track are checked, or it is no video track.
-fn is_checked(track: &Track<'_>, count: &TrackCount) -> bool
+fn is_checked(track: &Track<'_>, count: &TrackCount<'_>) -> bool
     ensures { IsTrue result ↔ IsChecked track.now (Some count.now) }
 {
     track.kind != VIDEO || count.checked == count.blocks

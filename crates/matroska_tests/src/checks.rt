@@ -1,28 +1,32 @@
 //! Files that are judged whole.
 use crate::made::file;
-use ffv1_check::{Report, TrackCount, check_file, push_line};
+use ffv1_check::{check_file, push_report};
 use matroska_parts::{Part, file_parts};
 use std::alloc::Global;
 use std::test::Fail;
 
-/// The lines of a report.
-fn lines_of(alloc: Global, report: &Report) -> Result<String, Fail> {
+/// The text of the report of a file.
+fn text_of(alloc: Global, file: &[u8]) -> Result<String, Fail> {
+    let report = check_file(alloc, file)?;
     let mut text = String::new(alloc);
-    for line in &report.lines {
-        push_line(&mut text, line)?;
-    }
+    push_report(&mut text, &report)?;
     Ok(text)
 }
 
 #[test]
 fn undamaged_is_whole(rt: HostRuntime) -> Result<(), Fail> {
-    let report = check_file(rt.alloc(), &file())?;
+    let file = file();
+    let report = check_file(rt.alloc(), &file)?;
     assert!(rt; report.is_whole && report.lines.is_empty());
-    let both = TrackCount {
-        blocks: 2,
-        checked: 2,
-    };
-    assert!(rt; report.tracks.len() == 2 && report.tracks[0] == both && report.tracks[1] == both);
+    assert!(rt; report.size == 1781 && report.checked == 1604);
+    let video = report.tracks.first().ok_or("a track")?;
+    assert!(rt; report.tracks.len() == 2 && video.number == 1 && video.blocks == 2);
+    let wanted = "track 1 V_MS/VFW/FOURCC blocks 2 checked 2\n\
+        track 2 A_FLAC blocks 2 checked 2\n\
+        bytes 1781 checked 1604\n\
+        whole\n";
+    let text = text_of(rt.alloc(), &file)?;
+    assert!(rt; text.as_str() == wanted);
     Ok(())
 }
 
@@ -30,35 +34,40 @@ fn undamaged_is_whole(rt: HostRuntime) -> Result<(), Fail> {
 fn damaged_frame_is_seen_twice(rt: HostRuntime) -> Result<(), Fail> {
     let mut file = file();
     file[800] ^= 1;
-    let report = check_file(rt.alloc(), &file)?;
-    let text = lines_of(rt.alloc(), &report)?;
-    let wanted = "at 731 frame 1 of track 1 links 4 pass 3 whole\nat 716 crc32 Cluster 1037\n";
-    assert!(rt; text.as_str() == wanted && !report.is_whole);
-    let video = report.tracks.first().ok_or("a track")?;
-    assert!(rt; video.blocks == 2 && video.checked == 1);
+    let text = text_of(rt.alloc(), &file)?;
+    let wanted = "at 731 frame 1 of track 1 links 4 pass 3 whole\n\
+        at 716 crc32 Cluster 1037\n\
+        track 1 V_MS/VFW/FOURCC blocks 2 checked 1\n\
+        track 2 A_FLAC blocks 2 checked 2\n\
+        bytes 1781 checked 1506\n\
+        not whole\n";
+    assert!(rt; text.as_str() == wanted);
     Ok(())
 }
 
 #[test]
 fn cut_is_reported(rt: HostRuntime) -> Result<(), Fail> {
     let file = file();
-    let report = check_file(rt.alloc(), &file[0..1000])?;
-    let text = lines_of(rt.alloc(), &report)?;
-    let wanted = "at 731 unknown 269\nat 716 cut Cluster 284\nat 1000 end 1781\n";
-    assert!(rt; text.as_str() == wanted && !report.is_whole);
+    let text = text_of(rt.alloc(), &file[0..1000])?;
+    let wanted = "at 731 unknown 269\n\
+        at 716 cut Cluster 284\n\
+        at 1000 end 1781\n\
+        track 1 V_MS/VFW/FOURCC blocks 0 checked 0\n\
+        track 2 A_FLAC blocks 0 checked 0\n\
+        bytes 1000 checked 550\n\
+        not whole\n";
+    assert!(rt; text.as_str() == wanted);
     Ok(())
 }
 
 #[test]
 fn other_files_are_reported(rt: HostRuntime) -> Result<(), Fail> {
-    let empty = check_file(rt.alloc(), &[])?;
-    let text = lines_of(rt.alloc(), &empty)?;
-    assert!(rt; text.as_str() == "at 0 no Segment\nat 0 no tracks\n" && !empty.is_whole);
-    let words = check_file(rt.alloc(), b"film")?;
-    let text = lines_of(rt.alloc(), &words)?;
-    assert!(rt;
-        text.as_str() == "at 0 unknown 4\nat 4 no Segment\nat 4 no tracks\n" && !words.is_whole
-    );
+    let text = text_of(rt.alloc(), &[])?;
+    let empty = "at 0 no Segment\nat 0 no tracks\nbytes 0 checked 0\nnot whole\n";
+    assert!(rt; text.as_str() == empty);
+    let text = text_of(rt.alloc(), b"film")?;
+    let words = "at 0 unknown 4\nat 4 no Segment\nat 4 no tracks\nbytes 4 checked 0\nnot whole\n";
+    assert!(rt; text.as_str() == words);
     Ok(())
 }
 
@@ -67,10 +76,28 @@ fn damaged_heads_are_reported(rt: HostRuntime) -> Result<(), Fail> {
     let mut file = file();
     file[24] = b'x';
     file[1753] ^= 1;
-    let report = check_file(rt.alloc(), &file)?;
-    let text = lines_of(rt.alloc(), &report)?;
-    let wanted = "at 0 no Matroska\nat 1753 unknown 28\n";
-    assert!(rt; text.as_str() == wanted && !report.is_whole);
+    let text = text_of(rt.alloc(), &file)?;
+    let wanted = "at 0 no Matroska\n\
+        at 1753 unknown 28\n\
+        track 1 V_MS/VFW/FOURCC blocks 2 checked 2\n\
+        track 2 A_FLAC blocks 2 checked 2\n\
+        bytes 1781 checked 1581\n\
+        not whole\n";
+    assert!(rt; text.as_str() == wanted);
+    Ok(())
+}
+
+#[test]
+fn a_name_of_other_bytes_is_not_printed(rt: HostRuntime) -> Result<(), Fail> {
+    let mut file = file();
+    file[320] = b' ';
+    let text = text_of(rt.alloc(), &file)?;
+    let wanted = "at 256 crc32 Tracks 290\n\
+        track 1 - blocks 2 checked 2\n\
+        track 2 A_FLAC blocks 2 checked 2\n\
+        bytes 1781 checked 1320\n\
+        not whole\n";
+    assert!(rt; text.as_str() == wanted);
     Ok(())
 }
 

@@ -1,5 +1,5 @@
 -- How a check stands after some parts of a file.
-use Rattle.std.specs.Prelude.{IsTrue, ℕ, ◌≡◌, ◌<◌, false, List, ◌++◌, length, count_by, get_or, ◌^◌, Option, Some, None, option_to_list}
+use Rattle.std.specs.Prelude.{IsTrue, ℕ, ◌≡◌, ◌<◌, false, List, ◌++◌, length, count_by, get_or, slice_get, ◌^◌, Option, Some, None, option_to_list}
 use Rattle.std.specs.List.{list_any}
 use Rattle.matroska.specs.declared.track.Track.{Track}
 use Rattle.matroska_parts.specs.TopElements.{element_number}
@@ -12,6 +12,7 @@ use Rattle.ffv1_check.specs.declared.track_states.TrackState.{TrackState}
 use Rattle.ffv1_check.specs.declared.report.TrackCount.{TrackCount}
 use Rattle.ffv1_check.specs.declared.progress.Progress.{Progress}
 use Rattle.ffv1_check.specs.Before.{begins_any, begins_ebml, first_segment, has_crc32, timestamp_after, is_block_of, last_time}
+use Rattle.ffv1_check.specs.CheckedBytes.{checked_bytes}
 use Rattle.ffv1_check.specs.Reports.{is_checked_of, is_video}
 
 -- at most two findings
@@ -43,6 +44,7 @@ EachStands parts tracks = (index : ℕ) → index < length tracks → TrackStand
 pub record ProgressStands (parts : List Part) (progress : Progress) : Type 0 where
   pub tops : TopsStand parts progress.tops
   pub tracks : EachStands parts progress.tracks.items
+  pub checked : progress.checked ≡ checked_bytes parts
 
 -- one more can be counted
 abbrev pub CanCountMore : TrackState → Type 0
@@ -53,8 +55,13 @@ EachCanCountMore tracks = (index : ℕ) → index < length tracks → CanCountMo
 
 -- ---- at the end
 
-abbrev pub counted_in : TrackState → TrackCount
-counted_in state = record { blocks = state.blocks; checked = state.checked }
+abbrev pub counted_in : Track → TrackState → TrackCount
+counted_in track state = record { number = track.number; codec = track.codec; blocks = state.blocks; checked = state.checked }
+
+-- each track's count is by its state
+pub record AreCounted (tracks : List Track) (states : List TrackState) (counts : List TrackCount) : Type 0 where
+  pub as_many : length counts ≡ length tracks
+  pub each : (index : ℕ) (track : Track) → slice_get tracks index ≡ Some track → slice_get counts index ≡ Some (counted_in track (get_or states index no_state))
 
 -- all blocks of a video track are checked
 abbrev pub IsChecked : Track → Option TrackCount → Type 0

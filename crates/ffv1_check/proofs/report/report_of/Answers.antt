@@ -1,9 +1,9 @@
-use Rattle.std.proofs.Common.{◌≡◌, List, length, map, take, get_or, arith, sym, ap, ◌∙◌, subst}
+use Rattle.std.proofs.Common.{◌≡◌, List, length, take, get_or, arith, refl, sym, ap, ◌∙◌, subst}
 use Rattle.std.proofs.lemmas.List.{take_more, take_all}
 use Rattle.matroska_parts.specs.declared.parts.Part.{Part}
 use Rattle.matroska_parts.specs.declared.parts.Part.TheVariants as part
 use Rattle.ffv1_check.specs.PartFindings.{lines_of_parts}
-use Rattle.ffv1_check.specs.Inner.Stands.{ProgressStands, counted_in}
+use Rattle.ffv1_check.specs.Inner.Stands.{ProgressStands, AreCounted}
 use Rattle.ffv1_check.proofs.ReportSteps.{lines_more, lines_end, IsWholeBy, report_there}
 use Rattle.ffv1_check.proofs.report.report_of.Goals as goal
 
@@ -19,6 +19,7 @@ loop-part-preserved c =
     record {
       stands = subst (λ z. ProgressStands z c.pass.new.self) (sym grown) (c.pass.ensures.stands so_far stands);
       counted = c.pass.ensures.tracks ∙ c.loop-part.invariant.counted;
+      few = omega (arith, c.pass.ensures.most, c.loop-part.invariant.few);
       lines = lines_more so_far next c.loop-part.lines.items c.push_found.new.lines.items c.place_of.result c.found_at-found.result c.loop-part.invariant.lines
           c.in_ok-push_found.ensures c.place_of.ensures (c.found_at-found.ensures so_far stands) ∙ ap lines_of_parts (sym grown);
     }
@@ -32,6 +33,6 @@ returns c =
     let lines = lines_end (length c.args.tracks.now) c.args.size parts c.loop-part.lines.items c.push_found-2.new.lines.items c.loop-part.progress.tops.segment c.found_at_end.result
     (c.loop-part.invariant.lines ∙ ap lines_of_parts all) c.in_ok-push_found-2.ensures c.found_at_end.ensures stands.tops.segment in
     report_there c.args.tracks.now c.args.size parts c.loop-part.progress _ stands counted lines
-    (c.in_ok-counts.ensures ∙ ap (map counted_in) c.deref.ensures.value)
+    (subst (λ z. AreCounted c.args.tracks.now z c.in_ok-counts.counts.items) c.deref.ensures.value c.in_ok-counts.ensures) refl refl
     (subst (λ z. IsWholeBy c.args.tracks.now c.is_whole-is_whole.result c.push_found-2.new.lines.items z) c.deref-3.ensures.value
     (subst (λ z. IsWholeBy c.args.tracks.now c.is_whole-is_whole.result z c.deref-3.result.now) c.deref-2.ensures.value c.is_whole-is_whole.ensures))

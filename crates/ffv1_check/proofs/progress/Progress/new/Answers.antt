@@ -1,4 +1,4 @@
-use Rattle.std.proofs.Common.{◌<◌, [], get_or, length, arith, sym, ap, ◌∙◌, subst}
+use Rattle.std.proofs.Common.{◌<◌, [], get_or, length, arith, refl, sym, ap, ◌∙◌, subst}
 use Rattle.std.proofs.lemmas.List.{get_or-replicate, length-replicate}
 use Rattle.ffv1_check.specs.declared.track_states.TrackState.{TrackState}
 use Rattle.ffv1_check.specs.Inner.Stands.{TrackStands, no_state}
@@ -10,6 +10,7 @@ returns-clause-stands c =
     let items = c.in_ok-vec.ensures.items_if_clones_equal (λ y e. e) in
     record {
       tops = c.new.ensures;
+      checked = refl;
       tracks = λ index within.
           let long = ap length items in
           let below : index < c.args.tracks = omega (arith, within, long, length-replicate c.args.tracks first) in
