@@ -2,7 +2,7 @@
 _ffv1restore() {
     local word=${COMP_WORDS[COMP_CWORD]}
     if [ "$COMP_CWORD" -eq 1 ]; then
-        mapfile -t COMPREPLY < <(compgen -W "chain show setup take join merge report restore picture splice mend decode samples scan help version" -- "$word")
+        mapfile -t COMPREPLY < <(compgen -W "chain show setup take join merge report restore picture splice mend decode samples scan check help version" -- "$word")
         return
     fi
     local command=${COMP_WORDS[1]} place=$COMP_CWORD

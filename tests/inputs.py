@@ -5,14 +5,14 @@ import lists
 import makings
 import readings
 from copy_damage import damaged_copies
-from damage import damaged_frame, damaged_holding, damaged_record
+from damage import damaged, damaged_frame, damaged_holding, damaged_record
 from list_damage import make_mended, odd_size, stretches_in
 from stored import OFTEN_BELOW, TESTS, other_recordings
 from wanted import WANTED, Wanted
 
 # Those that take the word --any.
 OF_HOLDINGS = ["take", "join", "merge", "report", "restore", "picture"]
-COMMANDS = ["chain", "show", "setup", "take", "join", "merge", "report", "restore", "picture", "decode", "splice", "scan", "mend", "samples"]
+COMMANDS = ["chain", "show", "setup", "take", "join", "merge", "report", "restore", "picture", "decode", "splice", "scan", "check", "mend", "samples"]
 OTHERS = other_recordings()
 HELD = [recording for recording in OTHERS if recording.holdings]
 
@@ -44,6 +44,7 @@ class Input:
             "samples": [*recording, "out", *copies],
             "splice": ["out", *(f"frame-{n}" for n in self.order)],
             "scan": ["list", "reel"],
+            "check": ["reel"],
             "mend": ["list", "out", *(f"frame-{n}" for n in self.order)],
         }[self.command]
         if self.refused:
@@ -121,6 +122,9 @@ def input_of(seed, number, known, others, files):
         numbers.shuffle(one.order)
     if one.command == "scan":
         one.list, one.reel = reel_with_ranges(numbers, one.payloads)
+    if one.command == "check":
+        reel, other = numbers.choices([b"".join(content for _, content, _ in pieces) for pieces in files.values()], k=2)
+        one.reel = reel if numbers.random() < 0.1 else damaged(numbers, reel, other)
     if one.command == "mend":
         frames = [next(iter(recording.frames.values())), *others]
         make_mended(numbers, one, numbers.choice(list(files.values())) if numbers.random() < 0.3 else stretches_in(numbers, frames))
@@ -177,16 +181,23 @@ def mended_inputs(recording, payload):
 
 
 def file_inputs(name, recording):
-    """Copies of a Matroska file with sixteen bytes zeroed here and sixteen there, and cut ones."""
+    """Copies of a Matroska file with sixteen bytes zeroed here and sixteen there, and cut ones; each is judged too."""
     content = (TESTS / "real" / name / "reel.mkv").read_bytes()
     text = lists.list_text(content, [len(content)] * 2, with_sound=True)
     for place in range(0, len(content), 16):
         start = (place + len(content) // 3) % (len(content) - 16)
         zeroed, other = (makings.written(content, at, bytes(len(content[at : at + 16]))) for at in (place, start))
         yield mended_input(recording, text, zeroed, other)
+        yield from (checked_input(recording, damaged_content) for damaged_content in (zeroed, content[:place]))
         if place % 64 == 0:
             yield mended_input(recording, text, zeroed, content[:place])
             yield mended_input(recording, lists.list_text(content, [place, len(content)], with_sound=True), content[:place], other)
+
+
+def checked_input(recording, content):
+    one = Input("check", recording, [], [])
+    one.reel = content
+    return one
 
 
 def scanned_input(recording, payloads):

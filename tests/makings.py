@@ -133,6 +133,12 @@ def codes_of(piece, first):
 # ---- damage of copies that keep their length
 
 
+def element(name, content):
+    """An element of Matroska with this ID."""
+    size = len(content) | 1 << 28
+    return name.to_bytes((name.bit_length() + 7) // 8, "big") + size.to_bytes(4, "big") + content
+
+
 def inverted(content, *places):
     """A copy of some bytes with those at these places inverted."""
     copy = bytearray(content)

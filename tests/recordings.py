@@ -4,6 +4,7 @@ import dataclasses
 import pathlib
 
 import any_holdings
+import checking
 import held_frames
 import makings
 import readings
@@ -82,6 +83,7 @@ class Recording:
         self.add_commands_of_holdings(samples, held)
         self.add_splice(halves)
         self.add_scan()
+        self.add_check()
         self.add_mend()
         self.add_samples(name, samples)
 
@@ -151,6 +153,18 @@ class Recording:
         printed, status, _ = readings.scanned(self.inputs["list-of-ranges"], self.inputs["recording"])
         refused = {"list-of-ranges": (b"5\n", "ranges fault 1")}
         self.commands.append(Command(["scan", "list-of-ranges", "recording"], printed, None, status, refused))
+
+    def add_check(self):
+        """A Matroska file of the frame and its record."""
+        entry = makings.element(0xD7, b"\1") + makings.element(0x83, b"\1") + makings.element(0x86, b"V_FFV1")
+        entry += makings.element(0xE0, b"".join(makings.element(name, side.to_bytes(2, "big")) for name, side in zip((0xB0, 0xBA), self.size)))
+        tracks = makings.element(0xAE, entry + makings.element(0x63A2, self.inputs["record"]))
+        cluster = makings.element(0xE7, b"\0") + makings.element(0xA3, b"\x81\0\0\x80" + self.frame)
+        items = makings.element(0x1654AE6B, tracks) + makings.element(0x1F43B675, readings.element_of(cluster))
+        head = makings.element(0x1A45DFA3, makings.element(0x4282, b"matroska"))
+        self.inputs["matroska"] = head + makings.element(0x18538067, items)
+        printed, status = checking.checked(self.inputs["matroska"])
+        self.commands.append(Command(["check", "matroska"], printed, None, status))
 
     def add_mend(self):
         """Two copies of a file of a few stretches, each damaged in another place of each stretch that has a checksum."""

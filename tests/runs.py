@@ -11,7 +11,7 @@ import readings
 from wanted import heads
 
 # Those whose exit status can be 3.
-THREE = ["picture", "splice", "scan", "mend", "samples"]
+THREE = ["picture", "splice", "scan", "check", "mend", "samples"]
 
 MEMORY, FILE_SIZE, PATIENCE = 256 << 20, 4 << 20, 20
 

@@ -2,6 +2,7 @@
 import math
 
 import any_holdings
+import checking
 import readings
 import sample_reading
 
@@ -175,6 +176,11 @@ def wanted_scan(one):
     return Wanted(status, printed, reported=reported)
 
 
+def wanted_check(one):
+    printed, status = checking.checked(one.reel)
+    return Wanted(status, printed)
+
+
 def wanted_mend(one):
     made, printed, status, reported = readings.mended(one.list, [(f"frame-{number}", one.payloads[number]) for number in one.order])
     return Wanted(status, printed, made, reported)
@@ -218,5 +224,6 @@ WANTED = {
     "decode": with_setup(wanted_decode),
     "splice": wanted_splice,
     "scan": wanted_scan,
+    "check": wanted_check,
     "mend": wanted_mend,
 }

@@ -2,8 +2,9 @@
 use crate::commands::taken;
 use crate::suite::merged;
 use ffv1_commands::{
-    CliFault, CommandPath, run_any_picture, run_chain, run_decode, run_join, run_merge,
-    run_picture, run_report, run_restore, run_samples, run_setup, run_show, run_splice, run_take,
+    CliFault, CommandPath, run_any_picture, run_chain, run_check, run_decode, run_join,
+    run_merge, run_picture, run_report, run_restore, run_samples, run_setup, run_show, run_splice,
+    run_take,
 };
 use ffv1_hold::HoldFileFault;
 use ffv1_holding::Recordings;
@@ -125,6 +126,7 @@ impl Write for Output {
 #[derive(Clone, Copy, Debug)]
 enum Command {
     Chain,
+    Check,
     Show,
     Setup,
     Take,
@@ -139,8 +141,9 @@ enum Command {
     Samples,
 }
 
-static COMMANDS: [Command; 13] = [
+static COMMANDS: [Command; 14] = [
     Command::Chain,
+    Command::Check,
     Command::Show,
     Command::Setup,
     Command::Take,
@@ -160,6 +163,7 @@ impl Command {
     fn paths(self) -> (CommandPath, Option<CommandPath>) {
         match self {
             Command::Chain => (CommandPath::Frame, None),
+            Command::Check => (CommandPath::File, None),
             Command::Show | Command::Setup => (CommandPath::Record, None),
             Command::Take | Command::Samples => (CommandPath::Record, Some(CommandPath::Copy(0))),
             Command::Splice => (CommandPath::Copy(0), Some(CommandPath::Copy(1))),
@@ -175,7 +179,7 @@ impl Command {
     /// What its inputs have: nothing where it has one alone.
     fn inputs<'a>(self, files: &'a Files) -> (&'a [u8], &'a [u8]) {
         match self {
-            Command::Chain => (&FRAME, &[]),
+            Command::Chain | Command::Check => (&FRAME, &[]),
             Command::Show | Command::Setup => (&TWO_TILES, &[]),
             Command::Take | Command::Decode | Command::Samples => (&TWO_TILES, &FRAME),
             Command::Splice => (&FRAME, &FRAME),
@@ -241,6 +245,10 @@ fn run<'a>(
     let profile = Recordings::Profile;
     match command {
         Command::Chain => run_chain(alloc, &mut first, printed),
+        Command::Check => match run_check(alloc, &mut first, printed) {
+            Ok(_) => Ok(()),
+            Err(fault) => Err(fault),
+        },
         Command::Show => run_show(alloc, &mut first, 2, 1, printed),
         Command::Setup => run_setup(alloc, &mut first, 2, 1, printed),
         Command::Take => take_one(alloc, &mut first, second, out, printed),
@@ -509,7 +517,7 @@ fn interruptions_are_reported(
     let (first, second) = command.paths();
     let makes = !matches!(
         command,
-        Command::Chain | Command::Show | Command::Setup | Command::Report
+        Command::Chain | Command::Check | Command::Show | Command::Setup | Command::Report
     );
     passed.is_ok()
         && match device {

@@ -32,6 +32,7 @@ pub mod TakeReported
 pub mod JoinedFiles
 pub mod MergedFiles
 pub mod ScanCommandSteps
+pub mod CheckCommandSteps
 pub mod MendCommandSteps
 pub mod MendCommandLaws
 pub mod UnreadLaws

@@ -24,6 +24,7 @@ pub mod SamplesText
 pub mod ReportedText
 pub mod SpliceText
 pub mod ScanText
+pub mod CheckText
 pub mod MendText
 pub mod Commands
 pub mod SmallCommands
@@ -75,6 +76,8 @@ pub use Rattle.ffv1_texts.specs.Numbers
 pub use Rattle.ffv1_scan.specs.Ranges
 pub use Rattle.ffv1_scan.specs.Verdicts
 pub use Rattle.ffv1_scan.specs.Scans
+pub use Rattle.ffv1_check.specs.Checks
+pub use Rattle.ffv1_check.specs.ReportLines
 pub use Rattle.ffv1_mend.specs.Mended
 pub use Rattle.ffv1_stretches.specs.Stretches
 pub use Rattle.ffv1_stretches.specs.Listed

@@ -28,6 +28,11 @@ IsSplicePath copies Out = Unit {0}
 IsSplicePath copies StandardOutput = Unit {0}
 IsSplicePath copies _ = ⊥
 
+abbrev pub IsCheckPath : CommandPath → Type 0
+IsCheckPath File = Unit {0}
+IsCheckPath StandardOutput = Unit {0}
+IsCheckPath _ = ⊥
+
 abbrev pub IsScanPath : CommandPath → Type 0
 IsScanPath Ranges = Unit {0}
 IsScanPath File = Unit {0}

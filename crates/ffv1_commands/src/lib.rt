@@ -5,6 +5,7 @@
 
 mod any_picture;
 mod chain;
+mod check;
 mod decode;
 mod devices;
 mod fault;
@@ -32,6 +33,7 @@ mod take;
 
 pub use any_picture::{any_picture_of, run_any_picture};
 pub use chain::{chain_of, run_chain};
+pub use check::{check_of, run_check};
 pub use decode::{decode_of, run_decode};
 pub use fault::CliFault;
 pub use join::{join_of, run_join};

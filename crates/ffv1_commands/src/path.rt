@@ -13,7 +13,7 @@ pub enum CommandPath {
     Hold(usize),
     /// The list of ranges of `scan`.
     Ranges,
-    /// The file of which `scan` judges ranges.
+    /// The file that `check` judges, or of which `scan` judges ranges.
     File,
     /// The list of the stretches of `mend`.
     List,

@@ -10,6 +10,8 @@ Commands
       parity
   ffv1restore scan RANGES FILE
       judges many frames of one file in one pass
+  ffv1restore check FILE
+      judges a whole Matroska file by the checksums in it
   ffv1restore show RECORD WIDTH HEIGHT
       shows a recording's setup, or why the tool can't take it
   ffv1restore setup RECORD WIDTH HEIGHT
@@ -58,7 +60,7 @@ Exit statuses
      or the end is broken; or mend wrote OUT, and some stretch is missing,
      disputed, open or alone; or samples wrote all frames, and some slice is
      unclean; or scan found a range that is not whole, has no slice, or has one
-     that fails.
+     that fails; or check found a file that is not whole.
 
 Faults
   cannot read PATH

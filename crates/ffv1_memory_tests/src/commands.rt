@@ -2,10 +2,13 @@
 //! a front of its file.
 use crate::attempt::{Attempt, Tried};
 use crate::buffer::Buffer;
-use crate::stock::{SIZE, Stock, TORN_LIST, damaged_copies, first_copy, second_copy};
+use crate::stock::{
+    SIZE, Stock, TORN_LIST, damaged_copies, first_copy, matroska, second_copy,
+};
 use ffv1_commands::{
-    CliFault, run_any_picture, run_chain, run_decode, run_join, run_mend, run_merge, run_picture,
-    run_report, run_restore, run_samples, run_scan, run_setup, run_show, run_splice, run_take,
+    CliFault, run_any_picture, run_chain, run_check, run_decode, run_join, run_mend, run_merge,
+    run_picture, run_report, run_restore, run_samples, run_scan, run_setup, run_show, run_splice,
+    run_take,
 };
 use ffv1_holding::Recordings;
 use ffv1_test_frames::{RECORDED, RECORDED_RECORD};
@@ -72,6 +75,8 @@ pub enum Command {
     Splice,
     /// `run_scan` of the frame as one range.
     Scan,
+    /// `run_check` of the file.
+    Check,
     /// `run_mend` of both damaged copies as one stretch.
     Mend,
     /// `run_decode` of the frame.
@@ -118,6 +123,7 @@ impl<'a> Run<'a> {
             Command::AnyPicture => unit(run_any_picture(alloc, &mut both, made, printed)),
             Command::Splice => splice_damaged(alloc, made, printed),
             Command::Scan => scan_frame(alloc, printed),
+            Command::Check => unit(run_check(alloc, &mut matroska().as_slice(), printed)),
             Command::Mend => mend_damaged(alloc, made, printed),
             Command::Decode => decode_payload(alloc, made, printed),
             Command::Samples => play_payload(alloc, made, printed),

@@ -99,7 +99,7 @@ fn report_stretches(rt: &HostRuntime) -> io::Result<()> {
 }
 
 /// The functions of the commands, by their names.
-static COMMANDS: [(&str, Command); 15] = [
+static COMMANDS: [(&str, Command); 16] = [
     ("run_chain", Command::Chain),
     ("run_show", Command::Show),
     ("run_setup", Command::Setup),
@@ -112,6 +112,7 @@ static COMMANDS: [(&str, Command); 15] = [
     ("run_any_picture", Command::AnyPicture),
     ("run_splice", Command::Splice),
     ("run_scan", Command::Scan),
+    ("run_check", Command::Check),
     ("run_mend", Command::Mend),
     ("run_decode", Command::Decode),
     ("run_samples", Command::Samples),

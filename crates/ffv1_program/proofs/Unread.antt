@@ -11,6 +11,7 @@ use Rattle.ffv1_commands.specs.ChainText.{ReportsChain}
 use Rattle.ffv1_commands.specs.ShowText.{ReportsShow}
 use Rattle.ffv1_commands.specs.SetupText.{ReportsSetup}
 use Rattle.ffv1_commands.specs.ScanText.{ScansDevices}
+use Rattle.ffv1_commands.specs.CheckText.{IsUnchecked, ChecksDevices}
 use Rattle.ffv1_commands.specs.DecodeText.{ReportsDecode}
 use Rattle.ffv1_commands.specs.ReportedText.{ReportsReport}
 use Rattle.ffv1_commands.specs.RestoreText.{ReportsRestore}
@@ -56,6 +57,12 @@ module _ {T : Type 0} (a b : ReadLog) (x y : WriteLog) where
   setup_unread width height (Ok value) reported = tt
   setup_unread width height (Err (faults.Read path)) ((same, unread), kept) = unread
   setup_unread width height (Err fault) reported = tt
+
+module _ (a b : ReadLog) (x y : WriteLog) where
+  pub check_unread : (r : Result Bool CliFault) → ChecksDevices r a b x y → IfErr r (IfUnread (λ _. IsUnchecked a b))
+  check_unread (Ok value) reported = tt
+  check_unread (Err (faults.Read path)) (same, unread, kept) = unread
+  check_unread (Err fault) reported = tt
 
 -- ---- holding files
 

@@ -13,6 +13,7 @@ pub use Rattle.ffv1_commands.specs.Devices
 pub use Rattle.ffv1_commands.specs.Lists
 pub use Rattle.ffv1_commands.specs.ChainText
 pub use Rattle.ffv1_commands.specs.ScanText
+pub use Rattle.ffv1_commands.specs.CheckText
 pub use Rattle.ffv1_commands.specs.SetupLines
 pub use Rattle.ffv1_commands.specs.Formats
 pub use Rattle.ffv1_commands.specs.RecordText

@@ -12,6 +12,7 @@ use Rattle.ffv1_commands.specs.Fault.{NamesPath}
 use Rattle.ffv1_commands.specs.Lists.{IfOfList}
 use Rattle.ffv1_commands.specs.ChainText.{PrintsChain, ChainStops}
 use Rattle.ffv1_commands.specs.ScanText.{ScansFile, ScanStops}
+use Rattle.ffv1_commands.specs.CheckText.{IsUnchecked, ChecksFile, CheckStops}
 use Rattle.ffv1_commands.specs.ShowText.{PrintsSetup, ShowStops}
 use Rattle.ffv1_commands.specs.SetupText.{PrintsRecording, SetupStops}
 use Rattle.ffv1_commands.specs.TakeText.{TakesCopies, TakeStops}
@@ -31,7 +32,7 @@ use Rattle.ffv1_commands.specs.declared.path.CommandPath.{CommandPath}
 use Rattle.ffv1_commands.specs.declared.path.CommandPath.TheVariants as paths
 use Rattle.ffv1_words.specs.WordPaths.{IsPathOf}
 use Rattle.ffv1_words.specs.declared.words.Words.{Words}
-use Rattle.ffv1_words.specs.declared.words.Words.TheVariants.{Chain, Scan, Show, Setup, Take, Join, Merge, Report, Restore, Picture, Splice, Mend}
+use Rattle.ffv1_words.specs.declared.words.Words.TheVariants.{Chain, Scan, Check, Show, Setup, Take, Join, Merge, Report, Restore, Picture, Splice, Mend}
 use Rattle.ffv1_words.specs.declared.words.Words.TheVariants.{Decode, Samples, Help, Version}
 use Rattle.ffv1_program.specs.FilesAt.{FilesAt}
 use Rattle.ffv1_program.specs.Merging.{IsEither, IfNotBegun, StopsMerging}
@@ -52,6 +53,7 @@ out_word (Decode recording frame out) = out.now
 out_word (Samples recording out frames) = out.now
 out_word (Chain frame) = []
 out_word (Scan ranges file) = []
+out_word (Check file) = []
 out_word (Show recording) = []
 out_word (Setup recording) = []
 out_word (Report file) = []
@@ -158,6 +160,15 @@ promise_of files made printed (Scan ranges file) =
       Stops = ScanStops (files.bytes_at ranges.now) (files.bytes_at file.now) printed.before printed.after;
       Keeps = λ fault. IfOfList paths.Ranges fault printed.IsKept;
       Unread = IfUnread (IsUnscanned files.SourceWent ranges.now file.now);
+      Refuses = λ _. Unit {0};
+      Leaves = λ Made Printed. Made;
+    }
+promise_of files made printed (Check file) =
+    record {
+      Does = ChecksFile (files.bytes_at file.now) printed.before printed.after;
+      Stops = CheckStops (files.bytes_at file.now) printed.before printed.after;
+      Keeps = λ fault. UnlessWriting fault printed.IsKept;
+      Unread = IfUnread (λ _. files.SourceWent IsUnchecked file.now);
       Refuses = λ _. Unit {0};
       Leaves = λ Made Printed. Made;
     }

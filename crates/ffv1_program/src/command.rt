@@ -3,6 +3,7 @@ ghost use Rattle.std.specs.Prelude.{◌≡◌, Ok, Err, MatchResult, true};
 ghost use Rattle.ffv1_program.specs.Running.{RunsCommand, files_of, made_by, printed_by, out_word};
 ghost use Rattle.ffv1_program.specs.Inner.Calls.{all_done};
 
+use crate::checks::check_named;
 use crate::files::{FileSystem, MakeFile};
 use crate::frames::{chain_file, scan_files, setup_record, show_record, splice_files};
 use crate::holdings::{join_files, merge_files, report_file, restore_file, take_files};
@@ -62,7 +63,8 @@ fn all_printed(printed: Result<(), WriteFailed>) -> Result<bool, CliFault>
 /// - `splice`: not all of the frame is given back;
 /// - `mend`: a stretch is missing, disputed, open or alone;
 /// - `samples`: a slice does not end as an encoder ends it;
-/// - `scan`: a range is not whole with all its links passing.
+/// - `scan`: a range is not whole with all its links passing;
+/// - `check`: the file is not whole.
 ///
 /// Else it returns `true`. It stops where the command does. A command that makes no file leaves `made` untouched.
 pub fn run<'a, F: FileSystem<'a>, O: MakeFile, W: Write>(
@@ -81,6 +83,7 @@ pub fn run<'a, F: FileSystem<'a>, O: MakeFile, W: Write>(
     match words {
         Words::Chain { frame } => all_done(chain_file(alloc, files, frame, output)),
         Words::Scan { ranges, file } => scan_files(alloc, files, ranges, file, output),
+        Words::Check { file } => check_named(alloc, files, file, output),
         Words::Show { recording } => all_done(show_record(alloc, files, recording, output)),
         Words::Setup { recording } => all_done(setup_record(alloc, files, recording, output)),
         Words::Take {

@@ -2,6 +2,7 @@
 //! order, and which file it makes.
 #![tactic(auto)]
 
+mod checks;
 mod command;
 mod disk;
 mod files;

@@ -21,7 +21,7 @@ type Row = (
     &'static str,
 );
 
-const ROWS: [Row; 29] = [
+const ROWS: [Row; 31] = [
     (&["chain", "1"], b"ab", b"", 1, "true"),
     (&["chain", "0"], b"ab", b"", 0, "cannot read 0"),
     (&["scan", "1", "2"], b"0 1\n", b"a", 12, "false"),
@@ -32,6 +32,8 @@ const ROWS: [Row; 29] = [
         1,
         "ranges fault 1",
     ),
+    (&["check", "1"], b"ab", b"", 1, "false"),
+    (&["check", "0"], b"ab", b"", 0, "cannot read 0"),
     (&["show", "1", "2", "2"], b"ab", b"", 1, "setup fault 1"),
     (
         &["take", "1", "2", "2", "9", "2", "3"],

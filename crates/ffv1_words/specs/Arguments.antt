@@ -7,7 +7,7 @@ use Rattle.ffv1_commands.specs.declared.fault.CliFault.TheVariants as faults
 use Rattle.ffv1_words.specs.Grammar.{program_app}
 use Rattle.ffv1_words.specs.declared.words.RecordingWords.{RecordingWords}
 use Rattle.ffv1_words.specs.declared.words.Words.{Words}
-use Rattle.ffv1_words.specs.declared.words.Words.TheVariants.{Chain, Scan, Show, Setup, Take, Join, Merge, Report, Restore, Picture, Splice, Mend, Decode, Samples, Help, Version}
+use Rattle.ffv1_words.specs.declared.words.Words.TheVariants.{Chain, Scan, Check, Show, Setup, Take, Join, Merge, Report, Restore, Picture, Splice, Mend, Decode, Samples, Help, Version}
 
 -- The first value of this name.
 abbrev pub IsWord : List Row → List ℕ → List ℕ → Type 0
@@ -35,6 +35,7 @@ pub record AreRecordingWords (rows : List Row) (recording : RecordingWords) : Ty
 abbrev pub AreArguments : List Row → Words → Type 0
 AreArguments rows (Chain frame) = IsWord rows (codes "FRAME") frame.now
 AreArguments rows (Scan ranges file) = IsWord rows (codes "RANGES") ranges.now × IsWord rows (codes "FILE") file.now
+AreArguments rows (Check file) = IsWord rows (codes "FILE") file.now
 AreArguments rows (Show recording) = AreRecordingWords rows recording
 AreArguments rows (Setup recording) = AreRecordingWords rows recording
 AreArguments rows (Take recording out copies) =
@@ -60,6 +61,7 @@ AreArguments rows Version = Unit {0}
 abbrev pub command_name : Words → List ℕ
 command_name (Chain frame) = codes "chain"
 command_name (Scan ranges file) = codes "scan"
+command_name (Check file) = codes "check"
 command_name (Show recording) = codes "show"
 command_name (Setup recording) = codes "setup"
 command_name (Take recording out copies) = codes "take"

@@ -41,6 +41,7 @@ abbrev pub all_commands : List (Text × List Text × Option Text)
 all_commands =
     (codes "chain", codes "FRAME" ∷ [], None)
     ∷ (codes "scan", codes "RANGES" ∷ codes "FILE" ∷ [], None)
+    ∷ (codes "check", codes "FILE" ∷ [], None)
     ∷ (codes "show", codes "RECORD" ∷ codes "WIDTH" ∷ codes "HEIGHT" ∷ [], None)
     ∷ (codes "setup", codes "RECORD" ∷ codes "WIDTH" ∷ codes "HEIGHT" ∷ [], None)
     ∷ (codes "take", codes "RECORD" ∷ codes "WIDTH" ∷ codes "HEIGHT" ∷ codes "OUT" ∷ [], Some (codes "COPY"))

@@ -1,17 +1,18 @@
 -- The paths that the command of the words has.
 use Rattle.std.specs.Prelude.{ℕ, ◌≡◌, zero, suc, ◌+◌, ◌-◌, ◌==◌, if◌then◌else◌, List, [], map, slice_index_or, vec_len, codes}
 use Rattle.std.specs.Borrow.{Bor}
-use Rattle.ffv1_commands.specs.Paths.{IsChainPath, IsScanPath, IsShowPath, IsTakePath, IsJoinPath, IsMergePath, IsReportPath, IsHoldPath, IsSplicePath, IsMendPath, IsDecodePath}
+use Rattle.ffv1_commands.specs.Paths.{IsChainPath, IsScanPath, IsCheckPath, IsShowPath, IsTakePath, IsJoinPath, IsMergePath, IsReportPath, IsHoldPath, IsSplicePath, IsMendPath, IsDecodePath}
 use Rattle.ffv1_commands.specs.declared.path.CommandPath.{CommandPath}
 use Rattle.ffv1_commands.specs.declared.path.CommandPath.TheVariants.{Record, Frame, Copy, Hold, Ranges, File, Inputs, Out}
 use Rattle.ffv1_commands.specs.declared.path.CommandPath.TheVariants as paths
 use Rattle.ffv1_words.specs.declared.words.Words.{Words}
-use Rattle.ffv1_words.specs.declared.words.Words.TheVariants.{Chain, Scan, Show, Setup, Take, Join, Merge, Report, Restore, Picture, Splice, Mend, Decode, Samples, Help, Version}
+use Rattle.ffv1_words.specs.declared.words.Words.TheVariants.{Chain, Scan, Check, Show, Setup, Take, Join, Merge, Report, Restore, Picture, Splice, Mend, Decode, Samples, Help, Version}
 
 -- The command of the words has this path.
 abbrev pub IsPathOf : Words → CommandPath → Type 0
 IsPathOf (Chain frame) path = IsChainPath path
 IsPathOf (Scan ranges file) path = IsScanPath path
+IsPathOf (Check file) path = IsCheckPath path
 IsPathOf (Show recording) path = IsShowPath path
 IsPathOf (Setup recording) path = IsShowPath path
 IsPathOf (Take recording out copies) path = IsTakePath (vec_len copies) path
@@ -36,6 +37,7 @@ unfoldable pub path_word : Words → CommandPath → List ℕ
 path_word (Chain frame) Frame = frame.now
 path_word (Scan ranges file) Ranges = ranges.now
 path_word (Scan ranges file) File = file.now
+path_word (Check file) File = file.now
 path_word (Show recording) Record = recording.record.now
 path_word (Setup recording) Record = recording.record.now
 path_word (Take recording out copies) Record = recording.record.now

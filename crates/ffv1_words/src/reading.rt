@@ -14,9 +14,10 @@ use ffv1_commands::CliFault;
 use std::alloc::{AllocError, Global};
 
 /// The commands: the name of each, its words, and after them the word of which there has to be one at least.
-static COMMANDS: [(&str, &[&str], Option<&str>); 16] = [
+static COMMANDS: [(&str, &[&str], Option<&str>); 17] = [
     ("chain", &["FRAME"], None),
     ("scan", &["RANGES", "FILE"], None),
+    ("check", &["FILE"], None),
     ("show", &["RECORD", "WIDTH", "HEIGHT"], None),
     ("setup", &["RECORD", "WIDTH", "HEIGHT"], None),
     ("take", &["RECORD", "WIDTH", "HEIGHT", "OUT"], Some("COPY")),
@@ -210,6 +211,9 @@ fn words_of<'a>(alloc: Global, name: &str, matches: &ArgMatches<'a>) -> Result<W
         }),
         "scan" => Ok(Words::Scan {
             ranges: word(matches, "RANGES")?,
+            file: word(matches, "FILE")?,
+        }),
+        "check" => Ok(Words::Check {
             file: word(matches, "FILE")?,
         }),
         "show" => Ok(Words::Show {

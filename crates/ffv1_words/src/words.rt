@@ -30,6 +30,11 @@ pub enum Words<'a> {
         /// The file.
         file: &'a str,
     },
+    /// Judges a whole Matroska file.
+    Check {
+        /// The file.
+        file: &'a str,
+    },
     /// Prints the setup of a configuration record, for frames of its size.
     Show {
         /// The record and the size.
@@ -137,7 +142,7 @@ impl<'a> Words<'a> {
         match (self, path) {
             (Words::Chain { frame } | Words::Decode { frame, .. }, CommandPath::Frame) => *frame,
             (Words::Scan { ranges, .. }, CommandPath::Ranges) => *ranges,
-            (Words::Scan { file, .. }, CommandPath::File) => *file,
+            (Words::Scan { file, .. } | Words::Check { file }, CommandPath::File) => *file,
             (
                 Words::Show { recording }
                 | Words::Setup { recording }

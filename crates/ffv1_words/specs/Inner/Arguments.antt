@@ -19,10 +19,11 @@ abbrev pub ReadsWords : List Row → List ℕ → Result Words CliFault → Type
 ReadsWords rows name (Ok words) = AreNamed rows name words
 ReadsWords rows name (Err fault) = RefusesAll (AreNamed rows name) fault
 
--- It is the name of no command over frames, records or stretches, and not `help` or `version`.
+-- It is the name of no command over frames, records, stretches or whole files, and not `help` or `version`.
 pub record IsOfHoldings (name : List ℕ) : Type 0 where
   pub not_chain : name ≢ codes "chain"
   pub not_scan : name ≢ codes "scan"
+  pub not_check : name ≢ codes "check"
   pub not_show : name ≢ codes "show"
   pub not_setup : name ≢ codes "setup"
   pub not_take : name ≢ codes "take"

@@ -8,6 +8,9 @@ returns-in-Chain g c = record { promise = rw (c.in-Chain.is, c.all_done.ensures)
 pub returns-in-Scan : goal.returns-in-Scan
 returns-in-Scan g c = record { promise = rw c.in-Scan.is (c.scan_files.ensures c.args.recordings); untouched = rw c.in-Scan.is refl }
 
+pub returns-in-Check : goal.returns-in-Check
+returns-in-Check g c = record { promise = rw c.in-Check.is (c.check_named.ensures c.args.recordings); untouched = rw c.in-Check.is refl }
+
 pub returns-in-Show : goal.returns-in-Show
 returns-in-Show g c = record { promise = rw (c.in-Show.is, c.all_done-in-Show.ensures) (c.show_record.ensures c.args.recordings); untouched = rw c.in-Show.is refl }
 

@@ -1,0 +1,32 @@
+//! The command over a whole file (own): `check`. It keeps its promise.
+ghost use Rattle.ffv1_holding.specs.declared.recordings.Recordings.{Recordings};
+ghost use Rattle.ffv1_words.specs.declared.words.Words.TheVariants.{Check};
+ghost use Rattle.ffv1_program.specs.Running.{KeepsPromise, files_of, printed_by};
+ghost use Rattle.ffv1_program.specs.Inner.Calls.{nothing_written};
+
+use crate::files::FileSystem;
+use ffv1_commands::{CliFault, check_of};
+use ffv1_devices::ThroughWrite;
+use std::alloc::Global;
+use std::io::Write;
+
+/// Checks the file of this path.
+///
+/// It stops where `check_of` does. After a fault that is not `Write` nothing was printed.
+pub(crate) fn check_named<'a, F: FileSystem<'a>, W: Write>(
+    alloc: Global,
+    files: &F,
+    file: &'a str,
+    output: &mut W,
+) -> Result<bool, CliFault>
+    ensures { (recordings : Recordings) → KeepsPromise
+        (files_of recordings (F.files files.now) F.Device.log F.Buffered.log)
+        nothing_written (printed_by W.contents output.old output.new)
+        (Check file.entry) result }
+{
+    check_of(
+        alloc,
+        &mut files.device(file),
+        &mut ThroughWrite::new(output),
+    )
+}
