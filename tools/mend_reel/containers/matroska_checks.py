@@ -19,8 +19,9 @@ OF_MASTERS = frozenset({Content.HEADER, Content.SEEK_HEAD, Content.INFORMATION, 
 CLUSTER, TIMESTAMP, GROUP, BLOCKS = 0x1F43B675, 0xE7, 0xA0, (0xA3, 0xA1)
 SEEK, SEEK_ID, SEEK_PLACE = 0x4DBB, 0x53AB, 0x53AC
 POINT, POINT_TIME, POINT_PLACES, POINT_TRACK, POINT_CLUSTER, POINT_BLOCK = 0xBB, 0xB3, 0xB7, 0xF7, 0xF1, 0xF0
-# Where a cluster's time is looked for: after a CRC-32 at most.
-FRONT = 64
+# Where a cluster's time is looked for: after its head, and a CRC-32 at most.
+FRONT = 76
+LONGEST_HEADS = 2 * ebml.LONGEST_HEAD + LONGEST_BLOCK_HEAD
 
 
 def flaws(copy: Copy, layout: Layout) -> Iterator[Found]:
@@ -60,23 +61,26 @@ def leads_to(copy: Copy, origin: int, seek: bytes) -> bool:
 
 def leads_to_block(copy: Copy, origin: int, point: bytes) -> bool:
     """Whether each place of an entry of the index leads to a cluster, and to a block of its track and time in it if it names one."""
-    time = ebml.Fields(point).number(POINT_TIME)
-    return all(is_block(copy, origin, ebml.Fields(places), time) for places in fields_of(point, POINT_PLACES))
+    fields = list(ebml.children(point))
+    time = next((ebml.number(content) for identity, content in reversed(fields) if identity == POINT_TIME), 0)
+    return all(is_block(copy, origin, ebml.Fields(content), time) for identity, content in fields if identity == POINT_PLACES)
 
 
 def is_block(copy: Copy, origin: int, places: ebml.Fields, time: int) -> bool:
     place = origin + places.number(POINT_CLUSTER)
-    cluster = ebml.read_head(copy.read(place, ebml.LONGEST_HEAD), 0, place)
+    data = copy.read(place, FRONT)
+    cluster = ebml.read_head(data, 0, place)
     if cluster is None or cluster.identity != CLUSTER:
         return False
-    start = next((ebml.number(content) for identity, content in ebml.children(copy.read(cluster.content, FRONT)) if identity == TIMESTAMP), None)
+    start = next((ebml.number(content) for identity, content in ebml.children(data[cluster.content - place :]) if identity == TIMESTAMP), None)
     if POINT_BLOCK not in places or start is None:
         return start is None or start <= time
     place = cluster.content + places.number(POINT_BLOCK)
-    head = ebml.read_head(copy.read(place, ebml.LONGEST_HEAD), 0, place)
+    data = copy.read(place, LONGEST_HEADS)
+    head = ebml.read_head(data, 0, place)
     if head and head.identity == GROUP:
-        head = ebml.read_head(copy.read(head.content, ebml.LONGEST_HEAD), 0, head.content)
-    block = read_block_head(copy.read(head.content, LONGEST_BLOCK_HEAD), head.content) if head and head.identity in BLOCKS else None
+        head = ebml.read_head(data, head.content - place, head.content)
+    block = read_block_head(data[head.content - place :], head.content) if head and head.identity in BLOCKS else None
     return block is not None and block.track == places.number(POINT_TRACK) and start + block.time == time
 
 

@@ -3,7 +3,6 @@ from __future__ import annotations
 
 import dataclasses
 import pathlib
-import re
 from collections.abc import Iterator, Sequence
 
 from ..containers.files import describe, form_of
@@ -14,7 +13,6 @@ from .differences import cut
 
 # Fewer sectors than this are no long filling, and not more of a file than its quarter stands against what copies have alike.
 SECTOR, FEWEST, PIECE, QUARTER = 512, 2, 1 << 20, 4
-ALIKE = re.compile(rb"(.)\1+", re.DOTALL)
 
 
 def runs(copy: Copy) -> list[tuple[int, int]]:
@@ -23,13 +21,21 @@ def runs(copy: Copy) -> list[tuple[int, int]]:
         found: list[tuple[int, int, bytes]] = []
         for place in range(0, copy.size, PIECE):
             piece = copy.read(place, PIECE)
-            firsts = piece[::SECTOR]
             # Most sectors are told by their first byte and that of a neighbour.
-            alike = [number for match in ALIKE.finditer(firsts) for number in range(*match.span())]
-            for number in sorted({*alike, 0, max(len(firsts) - 1, 0)}):
+            for number in sorted({0, (len(piece) - 1) // SECTOR, *(number for first in alike(piece[::SECTOR]) for number in (first, first + 1))}):
                 add(found, place + SECTOR * number, piece[SECTOR * number : SECTOR * (number + 1)])
         copy.runs = [grown(copy, *run) for run in found if run[1] - run[0] >= FEWEST * SECTOR or run[1] == copy.size]
     return copy.runs
+
+
+def alike(values: bytes) -> Iterator[int]:
+    """Yields where a value stands before the same one."""
+    size = max(len(values) - 1, 0)
+    differing = (int.from_bytes(values[:size], "big") ^ int.from_bytes(values[1:], "big")).to_bytes(size, "big")
+    place = differing.find(0)
+    while place >= 0:
+        yield place
+        place = differing.find(0, place + 1)
 
 
 def add(found: list[tuple[int, int, bytes]], place: int, sector: bytes) -> None:

@@ -45,7 +45,7 @@ class Progress:
 
     def watch(self, copies: Iterable[Copy]) -> None:
         """Has it reported how far each copy is read."""
-        for copy in copies:
+        for copy in () if self.quiet else copies:
             copy.watch = lambda place, size=copy.size: self.at(place, size)  # type: ignore[misc]
 
     def end(self) -> None:
