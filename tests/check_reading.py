@@ -99,7 +99,7 @@ def items(content):
         place = item.end
 
 
-# FORMAT: Tracks of a file
+# FORMAT: A file judged whole
 class Track:
     """A track that a TrackEntry describes."""
 
@@ -133,7 +133,7 @@ class Track:
         return self.codec.decode() if printable else "-"
 
 
-# FORMAT: Tracks of a file
+# FORMAT: A file judged whole
 def has_parities(record, size):
     """Whether a record can be read, with its picture's size, and says that slices have parities."""
     try:
@@ -142,7 +142,7 @@ def has_parities(record, size):
         return False
 
 
-# FORMAT: Tracks of a file
+# FORMAT: A file judged whole
 def tracks_of(content):
     """The tracks that the first Tracks describes, and where it begins."""
     for head, item in items(content):
@@ -158,7 +158,7 @@ def tracks_of(content):
     return {}, None
 
 
-# FORMAT: Blocks of a file
+# FORMAT: A file judged whole
 def laces(payload, lacing):
     """The frames in a payload, by its lacing: 0 none, 1 Xiph's, 2 of equal size, 3 EBML's; or None where its sizes don't fit."""
     if lacing == 0:
@@ -281,7 +281,7 @@ class Check:
         types = [child for child in children(self.content, item.start, item.end)[0] if child.name == 0x4282]
         return len(types) == 1 and self.content[types[0].start : types[0].end].partition(b"\0")[0] in (b"matroska", b"webm")
 
-    # FORMAT: Tracks of a file
+    # FORMAT: A file judged whole
     def records(self):
         for track in self.tracks.values():
             if track.is_record_wrong:
@@ -289,7 +289,7 @@ class Check:
             elif track.record:
                 self.spans.append((track.place, track.place + len(track.record)))
 
-    # FORMAT: Blocks of a file
+    # FORMAT: A file judged whole
     def block(self, element, is_vouched):
         inside = self.content[element.start : element.end]
         number = number_at(inside, 0, 8)
@@ -307,14 +307,14 @@ class Check:
         start, lacing = element.start + length + 3, inside[length + 2] >> 1 & 3
         track.checked += self.is_right(element, track, start, lacing, is_vouched)
 
-    # FORMAT: Blocks of a file
+    # FORMAT: A file judged whole
     def time(self, element, track, time):
         time = None if self.stamp is None else self.stamp + time
         if time is None or track.time is not None and time <= track.time:
             self.say(element.place, f"time of track {track.number}")
         track.time = track.time if time is None else time
 
-    # FORMAT: Blocks of a file
+    # FORMAT: A file judged whole
     def is_right(self, element, track, start, lacing, is_vouched):
         """Whether a block is checked. Says what is wrong with its payload."""
         payload, said = self.content[start : element.end], f"of track {track.number}"
@@ -338,15 +338,15 @@ class Check:
         self.say(element.place, words)
         return False
 
-    # FORMAT: Blocks of a file
+    # FORMAT: A file judged whole
     def frame(self, element, track, start, payload):
         found, broken = links(payload)
-        passing = sum(len(piece) > 8 and passes(piece) for _, piece in found)
-        if broken is None and 0 < len(found) == passing:
-            self.spans.append((start, element.end))
+        passing = [(start + at, start + at + len(piece)) for at, piece in found if len(piece) > 8 and passes(piece)]
+        self.spans += passing
+        if broken is None and 0 < len(found) == len(passing):
             return True
         ends = "whole" if broken is None else f"broken at {broken}"
-        return self.wrong(element, f"frame {track.blocks} of track {track.number} links {len(found)} pass {passing} {ends}")
+        return self.wrong(element, f"frame {track.blocks} of track {track.number} links {len(found)} pass {len(passing)} {ends}")
 
     # FORMAT: A file judged whole
     def end(self):

@@ -4,7 +4,8 @@ from __future__ import annotations
 import typing
 
 from mend_reel.containers import own_checks
-from mend_reel.engine import frame_checks
+import check_reading
+from mend_reel.engine import file_checks, frame_checks
 from mend_reel.model import Claims, Content, Frame, Kind, Layout, Stretch, Track, What
 from . import made
 
@@ -47,6 +48,12 @@ class Judge:
             answers.append(frame_checks.Judged(len(links), sum(own_checks.passes(content[start:end]) for start, end in links),
                                                bool(links) and links[-1][0] == 0))
         return answers
+
+    def check(self, copy: typing.Any) -> file_checks.FileCheck:
+        """What the program prints of a whole file, by its second reading."""
+        found = file_checks.read_report(check_reading.checked(copy.read(0, copy.size))[0].decode())
+        assert found is not None
+        return found
 
     def failing_flac(self, copy: typing.Any, ranges: typing.Sequence[frame_checks.Range]) -> typing.Set[int]:
         return self.wrong.intersection(place for place, _ in ranges)

@@ -65,7 +65,8 @@ def track(number_: int, codec: bytes, kind: int, private: bytes = b"", step: int
 
 
 # It passes its parity.
-RECORD = b"rej&\xf2\x8a"
+# Of one sample in 8 bits, with parities, in 2 x 2 slices.
+RECORD = bytes.fromhex("562b831798c183060c183060bb202980eb8f")
 FFV1 = track(1, b"V_FFV1", 1, RECORD, 40_000_000)
 PCM = track(2, b"A_PCM/INT/LIT", 2)
 

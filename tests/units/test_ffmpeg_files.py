@@ -22,7 +22,7 @@ class RecordTest(unittest.TestCase):
         for content, place in ((made.noise(1, 70) + made.RECORD + made.noise(2, 400), 70), (made.noise(3, 300) + made.RECORD + b"end", 300)):
             with made.opened(content) as (copy,):
                 found = ffmpeg_files.find_records(copy, [track], [Frame(0, 0.0, 100, 150)])
-                self.assertEqual([each[:2] for each in found], [(place, place + 6)])
+                self.assertEqual([each[:2] for each in found], [(place, place + len(made.RECORD))])
                 made_ = ffmpeg_files.cover([copy], [], found, [track], copy.size)
             self.assertEqual([(stretch.kind, stretch.start) for stretch in made_ if stretch.kind is Kind.RECORD], [(Kind.RECORD, place)])
 

@@ -2,8 +2,8 @@
 import dataclasses
 import unittest
 
+import readings
 from mend_reel.containers import matroska as walk
-from mend_reel.containers import own_checks
 from mend_reel.judging import parities
 from mend_reel.judging.judgment import judge_file
 from mend_reel.judging.reasons import Why
@@ -72,13 +72,35 @@ class JudgmentTest(unittest.TestCase):
         self.assertEqual(self.whys(BARE, unread=[(place, place + 10)]), [(Why.NEVER_READ, None)])
 
     def test_frames_of_flac_are_judged_by_their_own_checks(self):
-        sound = bytes.fromhex("fff8c9180000") + made.noise(1, 90)
-        sound = sound[:5] + bytes([own_checks.crc8(sound[:5])]) + sound[6:]
+        sound = readings.flac_of(bytes.fromhex("fff8c91800"), made.noise(1, 90))
         tracks = made.tracks(made.FFV1, made.track(2, b"A_FLAC", 2), crc=False)
         content = made.ebml_header() + made.element(made.SEGMENT, made.information(40, False), tracks, made.cluster(
             0, made.block(1, 0, FRAMES[0][1]), made.block(2, 0, sound), crc=False))
         self.assertEqual(self.whys(content), [])
-        self.assertEqual(self.whys(content, scan=Judge(content.index(sound))), [(Why.FAILS, None)])
+        damaged = made.damaged(content, content.index(sound) + 40)
+        self.assertEqual(self.whys(damaged, scan=Judge(content.index(sound))), [(Why.FAILS, None)])
+
+
+    def test_what_a_check_of_the_whole_file_tells(self):
+        blocks = [made.block(1, 40 * at, payload) for at, (_, payload) in enumerate(FRAMES)]
+
+        def film(*parts, name=b"matroska", **more):
+            return made.ebml_header(name) + made.element(made.SEGMENT, made.information(200, False), made.tracks(crc=False), *parts, **more)
+
+        self.assertEqual(self.whys(film(made.cluster(0, *blocks, crc=False))), [])
+        for content, why in (
+                (film(made.cluster(0, *blocks, crc=False), unknown=True), Why.ENDLESS),
+                (film(made.cluster(0, *blocks, crc=False), name=b"matroskb"), Why.NO_NAME),
+                (film(made.cluster(0, *blocks[:2], made.block(1, 40, FRAMES[2][1]), *blocks[3:], crc=False)), Why.TIME),
+                (film(made.cluster(0, *blocks, made.block(3, 0, b"text"), crc=False)), Why.OF_NO_TRACK)):
+            self.assertIn(why, [found for found, _ in self.whys(content)])
+
+    def test_a_track_that_nothing_checks(self):
+        tracks = made.tracks(made.FFV1, made.track(3, b"V_MPEG4/ISO/ASP", 1), crc=False)
+        clusters = [made.cluster(40 * at, made.block(1, 0, payload), made.block(3, 0, b"picture"), crc=False) for at, (_, payload) in enumerate(FRAMES)]
+        content = made.ebml_header() + made.element(made.SEGMENT, made.information(200, False), tracks, *clusters)
+        found = self.judged(content).reasons
+        self.assertEqual([(reason.why, reason.track) for reason in found], [(Why.NO_CHECK, 3)])
 
 
 class ParityTest(unittest.TestCase):

@@ -51,13 +51,6 @@ def parser() -> argparse.ArgumentParser:
     return made
 
 
-class CollectionProgress(Progress):
-    """Reports under the name of this program."""
-
-    def write(self, text: str) -> None:
-        super().write(text.replace("mend-reel: ", "mend-collection: ", 1))
-
-
 def find_parallel() -> str:
     """GNU parallel. Another program of that name is not it."""
     found = shutil.which("parallel")
@@ -154,7 +147,7 @@ def main() -> NoReturn:
         parser().error("the following arguments are required: -o DIR, COPY-DIR COPY-DIR...")
     for number in INTERRUPTS:
         signal.signal(number, interrupted)
-    progress = CollectionProgress(asked.quiet)
+    progress = Progress(asked.quiet, program="mend-collection")
     try:
         sys.exit(run_task(asked.task) if asked.task else judge(asked, progress))
     except (Fault, OSError, Interrupted) as fault:

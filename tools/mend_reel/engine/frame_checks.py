@@ -8,6 +8,7 @@ import tempfile
 from collections.abc import Callable, Sequence
 
 from ..model import Content, Copy, Fault, Kind, Stretch, What
+from . import file_checks
 from .external_programs import last_line, started
 from .mend_run import mend, write_list
 
@@ -37,6 +38,7 @@ class Scan:
         self.program, self.work = program, work
         self.known: dict[tuple[str, int, int], Judged] = {}
         self.names: dict[str, int] = {}
+        self.checks: dict[str, file_checks.FileCheck] = {}
 
     def __call__(self, copy: Copy, ranges: Sequence[Range]) -> list[Judged]:
         """The judgement of each range. A range that the copy does not have has no slices."""
@@ -48,8 +50,15 @@ class Scan:
                 self.known[(copy.path, *each)] = judged
         return [self.known.get((copy.path, *each), Judged()) for each in ranges]
 
+    def check(self, copy: Copy) -> file_checks.FileCheck:
+        """What a check of a whole Matroska file says, which is made once."""
+        if copy.path not in self.checks:
+            self.checks[copy.path] = file_checks.check(self.program, copy, self.work)
+        return self.checks[copy.path]
+
     def forget(self, copy: Copy) -> None:
         """Forgets what is known of a file that was made anew."""
+        self.checks.pop(copy.path, None)
         self.known = {each: judged for each, judged in self.known.items() if each[0] != copy.path}
 
     def failing_flac(self, copy: Copy, ranges: Sequence[Range]) -> set[int]:

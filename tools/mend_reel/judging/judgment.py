@@ -7,8 +7,9 @@ from collections.abc import Iterator, Sequence, Set
 
 from ..containers import ebml, files, own_checks
 from ..containers.structure import Flaw, Found
+from ..engine.file_checks import FileCheck
 from ..engine.frame_checks import Scan
-from ..model import Content, Copy, Kind, Layout, Outcome, SliceReport, State, Stretch
+from ..model import MATROSKA, Content, Copy, Kind, Layout, Outcome, SliceReport, State, Stretch
 from .completeness import lacks
 from .parities import lack_parities, without_parts
 from .reasons import Note, Reason, Why, join
@@ -20,6 +21,10 @@ OF_CLUSTERS = (Content.CLUSTER, Content.UNKNOWN)
 OF_FLAWS = {Flaw.BROKEN: Why.BROKEN, Flaw.CUT: Why.CUT, Flaw.AFTER_END: Why.AFTER_END, Flaw.COUNT: Why.MISCOUNTED, Flaw.INDEX: Why.MISLED,
             Flaw.SUM: Why.SUM, Flaw.NO_TABLE: Why.NO_TABLE, Flaw.BARE: Why.BARE, Flaw.ZEROS: Why.ZEROS,
             Flaw.LOST: Why.LOST}
+# What a line of a check of the whole file says by its first word; the others tell damage that is found here too.
+OF_LINES = {"endless": Why.ENDLESS, "misplaced": Why.MISPLACED, "time": Why.TIME, "laced": Why.LACED, "track": Why.OF_NO_TRACK,
+            "block": Why.OF_NO_TRACK, "long": Why.TOO_LONG, "no": Why.NO_NAME}
+JUDGED_CODECS = ("V_FFV1", "V_MS/VFW/FOURCC")
 ALONE = "1"
 
 
@@ -32,6 +37,7 @@ class Judgment:
     flaws: Sequence[Found]  # where its parts do not hang together
     reasons: list[Reason] = dataclasses.field(default_factory=list)  # why it is damaged
     has_parities: bool = True
+    checked: FileCheck | None = None  # what a check of the whole file says, if it is Matroska
 
     @property
     def is_undamaged(self) -> bool:
@@ -48,17 +54,25 @@ def judge_file(copy: Copy, scan: Scan, layout: Layout | None = None) -> Judgment
     layout = files.describe([copy], scan) if layout is None else layout
     has_parities = not lack_parities(layout, [copy])
     layout = layout if has_parities else without_parts(layout)
-    answers = scan(copy, [(frame.place, frame.size) for frame in layout.frames]) if has_parities else []
+    checked = scan.check(copy) if copy.form == MATROSKA else None
+    is_whole = all_passes(checked, layout)
+    answers = scan(copy, [(frame.place, frame.size) for frame in layout.frames]) if has_parities and not is_whole else []
     failing = frozenset(at for at, each in enumerate(answers) if not each.is_intact())
     parts = [part for stretch in layout.stretches for part in without_unread(stretch, [copy], 1)] if copy.unread else layout.stretches
     layout = dataclasses.replace(layout, stretches=parts)
-    results = Results(layout, layout.stretches, failures(copy, scan, layout, failing), [0], failing=failing)
-    made = Judgment(layout, results, files.flaws_of(copy, copy.form, layout), has_parities=has_parities)
+    results = Results(layout, layout.stretches, () if is_whole else failures(copy, scan, layout, failing), [0], failing=failing)
+    made = Judgment(layout, results, files.flaws_of(copy, copy.form, layout), has_parities=has_parities, checked=checked)
     made.reasons = join(reasons_of(made))
     return made
 
 
 # ---- what fails
+
+
+def all_passes(checked: FileCheck | None, layout: Layout) -> bool:
+    """Whether a check of the whole file says of all frames and elements that they pass, so that none need be judged again."""
+    return checked is not None and checked.is_whole and all(
+        track.codec in JUDGED_CODECS and not track.is_encoded for track in layout.tracks if track.is_ffv1)
 
 
 def failures(copy: Copy, scan: Scan, layout: Layout, failing: Set[int]) -> Iterator[Outcome]:
@@ -98,10 +112,12 @@ def reasons_of(judged: Judgment) -> Iterator[Reason]:
     found += [frame_reason(Why.FAILS, judged.results, at) for at in sorted(judged.results.failing)]
     found += of_stretches(judged)
     found += unchecked(judged.results)
-    found = sorted([*found, *of_flaws(judged.flaws, found)], key=lambda reason: reason.bytes or (0, 0))
+    found = [*found, *of_flaws(judged.flaws, found)]
+    found = sorted([*found, *of_lines(judged.checked, found)], key=lambda reason: reason.bytes or (0, 0))
     found += lacks(layout, [layout.claims], judged.results)
     found += [Reason(Why.RECORD, Content.TRACKS, track.number) for track in layout.tracks
               if track.is_ffv1 and track.record and not own_checks.passes_as_record(track.record)]
+    found += [] if found else not_whole(judged.checked, layout)
     return iter(without_track(found) if sum(track.is_ffv1 for track in layout.tracks) == 1 else found)
 
 
@@ -130,6 +146,23 @@ def of_flaws(flaws: Sequence[Found], found: Sequence[Reason]) -> Iterator[Reason
         is_known = any(known_start <= start and end <= known_end for known_start, known_end in known)
         if flaw in OF_FLAWS and not is_known:
             yield Reason(OF_FLAWS[flaw], Content.UNKNOWN, bytes=(start, end), has=has, count=count)
+
+
+def of_lines(checked: FileCheck | None, found: Sequence[Reason]) -> Iterator[Reason]:
+    """What a check of the whole file tells beside what is found already."""
+    known = [reason.bytes for reason in found if reason.bytes]
+    for place, words in checked.lines if checked else ():
+        if words[0] in OF_LINES and not any(start <= place < end for start, end in known):
+            yield Reason(OF_LINES[words[0]], bytes=(place, place + 1))
+
+
+def not_whole(checked: FileCheck | None, layout: Layout) -> Iterator[Reason]:
+    """Why a file in which nothing is wrong is not whole by a check: of a track of video not all frames are checked."""
+    if checked and not checked.is_whole:
+        numbers = [track.number for track in layout.tracks if track.content is Content.VIDEO]
+        unchecked = [number for number in numbers if number in checked.tracks and checked.tracks[number].checked < checked.tracks[number].blocks]
+        yield from (Reason(Why.NO_CHECK, Content.VIDEO, number) for number in unchecked)
+        yield from () if unchecked else (Reason(Why.NOT_WHOLE),)
 
 
 def frame_reason(why: Why | Note, results: Results, at: int, source: int | None = None) -> Reason:

@@ -58,6 +58,16 @@ class Why(enum.Enum):
     ZEROS = "a text there has zero bytes, as where the last sector of a file is lost; a further copy may have it right"
     LOST = "a sector of the sound there has one value all over, as where it was lost; a further copy may have it"
     BARE = "this has no checksum, though what lies beside it has one; its checksum may be lost"
+    ENDLESS = ("no size was written for what begins there, as where a recording was streamed or stopped, so nothing shows whether its end is lost; "
+               "a further copy may have it")
+    MISPLACED = "what begins there has no place there; a further copy may have the file right"
+    NO_NAME = "the start of the file does not say that it is Matroska; a further copy may have it right"
+    TIME = "the time of a frame there is not after that of the frame before; a further copy may have it right"
+    LACED = "frames are packed together there, as those of FFV1 never are; a further copy may have them right"
+    OF_NO_TRACK = "a block there is of no track that the file has; a further copy may have it right"
+    TOO_LONG = "a block there is too long to be checked"
+    NO_CHECK = "ffv1restore check finds no check for its frames, so whether they are damaged can't be told; a further copy may confirm them"
+    NOT_WHOLE = "ffv1restore check does not find it whole"
     RECORD = "what describes its video to a decoder (the Configuration Record) fails its parity; a further copy may have it right"
     ROTTEN = ("parts of {it} fail their own checks, though nothing else does: {they_were} damaged before this file was written{spread}; "
               "a copy of an earlier file may have {it}")
@@ -73,8 +83,11 @@ class Note(enum.Enum):
 
 # What lies there is not known.
 OF_BYTES = frozenset({Why.ABSENT, Why.UNDIVIDED, Why.BROKEN, Why.CUT, Why.AFTER_END, Why.MISCOUNTED, Why.BARE, Why.ZEROS,
-                      Why.MISLED, Why.SUM, Why.MAP, Why.SHIFT, Why.LOST})
-OF_FILE = frozenset({Why.SHORT, Why.SHORTER, Why.COUNT, Why.UNCHECKED, Why.NO_TABLE})
+                      Why.MISLED, Why.SUM, Why.MAP, Why.SHIFT, Why.LOST, Why.ENDLESS, Why.MISPLACED, Why.NO_NAME, Why.TIME, Why.LACED,
+                      Why.OF_NO_TRACK, Why.TOO_LONG})
+OF_FILE = frozenset({Why.SHORT, Why.SHORTER, Why.COUNT, Why.UNCHECKED, Why.NO_TABLE, Why.NO_CHECK, Why.NOT_WHOLE})
+# Nothing that is damaged was found, but it may be.
+UNTOLD = frozenset({Why.ENDLESS, Why.TOO_LONG, Why.NO_CHECK})
 OF_FRAMES = frozenset({Why.HOLE, Why.INDEX, Why.ORDER, Why.UNPLACED, Why.CONTRARY})
 
 

@@ -10,10 +10,11 @@ from ..containers.frame_times import end_of
 from ..containers.own_checks import passes_as_record
 from ..containers.structure import Flaw, Found
 from ..copies.arrangement import Left, Matched
+from ..engine.file_checks import FileCheck
 from ..judging.completeness import lacks
-from ..judging.judgment import OF_CLUSTERS, Judgment, frame_reason, of_bytes, of_flaws, unchecked, without_track
+from ..judging.judgment import OF_CLUSTERS, Judgment, frame_reason, not_whole, of_bytes, of_flaws, of_lines, unchecked, without_track
 from ..judging.kept_digests import Compared
-from ..judging.reasons import Note, Reason, Why, join, lines
+from ..judging.reasons import UNTOLD, Note, Reason, Why, join, lines
 from ..judging.results import GUESSED, VERIFIED, Counts, FrameResult, FrameState, NearEnd, Results, Sums, is_guessed
 from ..model import BESIDE_TRACKS, Claims, Content, Kind, Layout, Outcome, State, Stretch
 
@@ -44,6 +45,7 @@ class Evidence:
     told: Sequence[Reason] = ()  # what is in doubt by the copies themselves: maps, and changes of shift
     is_alone: bool = False  # there is one copy, so that OUT is judged as a file that is checked
     is_good: bool = False  # OUT is an undamaged copy
+    checked: FileCheck | None = None  # what a check of OUT says, if it is Matroska
     disordered: Set[int] = frozenset()  # the copies whose own parts say that bytes were lost from them or put into them
 
 
@@ -86,6 +88,8 @@ class Verdict:
         """How much of a file that was checked is damaged, and what can be done about it."""
         if [reason.why for reason in self.reasons] == [Why.UNCHECKED]:
             return "no frame has a checksum, so no damage in them can be found."
+        if UNTOLD.issuperset(reason.why for reason in self.reasons):
+            return "whether it is damaged can't be told."
         frames = self.counts.damaged
         others = sum(not reason.frames for reason in self.reasons)
         words = [f"{frames:,} frames" if frames > 1 else "one frame"] if frames else []
@@ -136,12 +140,15 @@ def judge(evidence: Evidence) -> Verdict:
               *(frame_reason(Why.ROTTEN, results, at) for at in sorted(results.rotten)),
               *(unchecked(results) if evidence.is_alone or evidence.is_good else of_one_copy(results))]
     flaws = evidence.flaws if evidence.is_alone else [flaw for flaw in evidence.flaws if flaw.flaw not in MAY_BE_AGREED]
-    found = sorted([*found, *of_flaws(flaws, found)], key=lambda reason: reason.bytes or (0, 0))
+    found = [*found, *of_flaws(flaws, found)]
+    found += [reason for reason in of_lines(evidence.checked, found) if evidence.is_alone or not are_alike(results, reason)]
+    found = sorted(found, key=lambda reason: reason.bytes or (0, 0))
     # What other files have, and OUT lacks or has less of. Whoever writes a file writes tags.
     lacking = [(copy, content) for copy, other in evidence.others.items() for content in in_order(other.contents() - evidence.layout.contents())]
     found += [*find_lacks(evidence, results), *(Reason(Why.LACKS, what, copy=copy) for copy, what in lacking if what is not Content.TAGS)]
     found += [Reason(Why.RECORD, Content.TRACKS, track.number) for track in (evidence.out or evidence.layout).tracks
               if track.is_ffv1 and track.record and not passes_as_record(track.record)]
+    found += [] if found or not evidence.is_alone else not_whole(evidence.checked, evidence.out or evidence.layout)
     late = [frame_reason(Note.NEAR_END, results, at) for at, result in results.frames.items() if result.near_end is NearEnd.SOME]
     if sum(track.is_ffv1 for track in evidence.layout.tracks) == 1:
         found, late = without_track(found), without_track(late)
@@ -153,6 +160,13 @@ def judge(evidence: Evidence) -> Verdict:
               *(f"copy {copy + 1} has tags, and OUT has none" for copy, what in lacking if what is Content.TAGS)]
     has_damage = bool(counts.damaged or results.outcomes or evidence.has_damaged_heads or is_cut(evidence, copy_of_mark))
     return Verdict([] if is_original and is_of_all else join(found), notes, results.sums(), counts, results, has_damage, compared)
+
+
+def are_alike(results: Results, reason: Reason) -> bool:
+    """Whether several copies have what lies where a reason is, so that it was recorded so."""
+    place, _ = reason.bytes or (0, 0)
+    at = bisect.bisect_right([stretch.start for stretch in results.stretches], place) - 1
+    return len(results.stretches[at].having()) > 1
 
 
 def in_order(contents: Iterable[Content]) -> list[Content]:

@@ -20,8 +20,8 @@ def clock(seconds: float) -> str:
 class Progress:
     """Reports on standard error how much of each step is done, and how long the rest of it takes at the pace so far."""
 
-    def __init__(self, quiet: bool = False, stream: TextIO | None = None) -> None:
-        self.stream = stream or sys.stderr
+    def __init__(self, quiet: bool = False, stream: TextIO | None = None, program: str = "mend-reel") -> None:
+        self.stream, self.program = stream or sys.stderr, program
         self.quiet, self.terminal = quiet or self.stream is None, self.stream is not None and self.stream.isatty()
         self.step, self.begun, self.last, self.share, self.shown = "", 0.0, 0.0, 0.0, False
 
@@ -40,7 +40,7 @@ class Progress:
         self.last, self.share = now, share
         left = f", {clock((now - self.begun) * (1 - share) / share)} left" if share > 0 else ""
         text = f"{self.step}: {100 * share:.0f} %{left}"
-        self.write(f"\r\033[K{text}" if self.terminal else f"mend-reel: {text}\n")
+        self.write(f"\r\033[K{text}" if self.terminal else f"{self.program}: {text}\n")
         self.shown = True
 
     def watch(self, copies: Iterable[Copy]) -> None:

@@ -21,15 +21,16 @@ from ..copies.filling import filled, placed
 from ..copies.inputs import Inputs, gather
 from ..copies.preferred_copy import follow, without_broken
 from ..engine.external_programs import find_ffv1restore, of_each, version_of
+from ..engine.file_checks import FileCheck
 from ..engine.frame_checks import Scan
 from ..engine.mend_run import list_of, mend, write_list
 from ..judging import decoding, frame_digests, kept_digests
-from ..judging.judgment import Judgment, judge_file
+from ..judging.judgment import Judgment, all_passes, judge_file
 from ..judging.parities import NO_PARITIES, lack_parities, without_parts
 from ..judging.reasons import Reason, Why
 from ..judging.results import NO_COPY, VERIFIED, FrameResult, FrameState, NearEnd, Results
 from ..mending.verdict import Evidence, Verdict, judge, verdict_of_file
-from ..model import Because, Copy, Fault, Frame, Interrupted, Kind, Layout, Outcome, SliceReport, State, Stretch, Track, open_copy, or_fault
+from ..model import MATROSKA, Because, Copy, Fault, Frame, Interrupted, Kind, Layout, Outcome, SliceReport, State, Stretch, Track, open_copy, or_fault
 from ..reports import json_document, page
 from ..reports.summary import CopySummary, Entry, Role, Summary, Unreadable, of_files
 from . import ddrescue_maps, output_files
@@ -57,6 +58,7 @@ class Made:
     part: str  # its path while it is made
     decoded: Mapping[int, NearEnd]  # frames with guessed slices that decode, by their places
     failing: frozenset[int]  # the numbers of the frames that fail their parities in it, though the elements around them pass
+    checked: FileCheck | None  # what a check of the whole file says, if it is Matroska
 
 
 @dataclasses.dataclass
@@ -274,7 +276,7 @@ class Session:
         verdict = judge(Evidence(
             layout, made.stretches, made.outcomes, made.out, claims, arrangement.matched, arrangement.left, inputs.numbers, others,
             bool(attempt.comparison.notes), made.decoded, self.compared(made.part, made.out), made.flaws, made.failing, alike, self.told,
-            len(self.copies) == 1, arrangement.good is not None,
+            len(self.copies) == 1, arrangement.good is not None, made.checked,
             {matched.number for matched in arrangement.matched if matched.alignment and self.lost_or_gained(self.copies[matched.number])}))
         self.keep_frames(layout, inputs, made.stretches, verdict)
         summary = self.summary(arrangement, layout, verdict, made.part)
@@ -412,8 +414,9 @@ class Session:
             self.scan.forget(out)
             out.form = form_of(out)
             read = describe([out], self.scan)
-            failing = self.failing(out, layout, stretches, outcomes)
-            return Made(stretches, outcomes, read, flaws_of(out, out.form, read), part, decoded, failing)
+            checked = self.scan.check(out) if out.form == MATROSKA else None
+            failing = frozenset[int]() if all_passes(checked, read) else self.failing(out, layout, stretches, outcomes)
+            return Made(stretches, outcomes, read, flaws_of(out, out.form, read), part, decoded, failing, checked)
         finally:
             os.close(out.file)
 
