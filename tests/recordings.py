@@ -4,7 +4,7 @@ import dataclasses
 import pathlib
 
 import any_holdings
-import checking
+import check_reading
 import held_frames
 import makings
 import readings
@@ -163,7 +163,7 @@ class Recording:
         items = makings.element(0x1654AE6B, tracks) + makings.element(0x1F43B675, readings.element_of(cluster))
         head = makings.element(0x1A45DFA3, makings.element(0x4282, b"matroska"))
         self.inputs["matroska"] = head + makings.element(0x18538067, items)
-        printed, status = checking.checked(self.inputs["matroska"])
+        printed, status = check_reading.checked(self.inputs["matroska"])
         self.commands.append(Command(["check", "matroska"], printed, None, status))
 
     def add_mend(self):

@@ -2,7 +2,7 @@
 import math
 
 import any_holdings
-import checking
+import check_reading
 import readings
 import sample_reading
 
@@ -177,7 +177,7 @@ def wanted_scan(one):
 
 
 def wanted_check(one):
-    printed, status = checking.checked(one.reel)
+    printed, status = check_reading.checked(one.reel)
     return Wanted(status, printed)
 
 

@@ -12,6 +12,7 @@ if __name__ == "__main__":
     sys.path.insert(0, str(pathlib.Path(__file__).resolve().parent.parent))
 
 import any_holdings
+import check_reading
 import readings
 import sample_reading
 
@@ -19,6 +20,11 @@ import sample_reading
 def scan(words: list[str]) -> int:
     printed, status, fault = readings.scanned(pathlib.Path(words[0]).read_bytes(), pathlib.Path(words[1]).read_bytes())
     return end(printed, status, fault)
+
+
+def check(words: list[str]) -> int:
+    printed, status = check_reading.checked(pathlib.Path(words[0]).read_bytes())
+    return end(printed, status, None)
 
 
 def mend(words: list[str]) -> int:
@@ -119,7 +125,7 @@ def end(printed: bytes, status: int, fault: str | None) -> int:
     return status
 
 
-COMMANDS = {"scan": scan, "mend": mend, "setup": setup, "samples": samples, "take": take, "join": join, "merge": merge, "report": report,
+COMMANDS = {"scan": scan, "check": check, "mend": mend, "setup": setup, "samples": samples, "take": take, "join": join, "merge": merge, "report": report,
             "restore": restore, "picture": picture}
 
 

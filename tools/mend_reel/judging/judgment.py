@@ -149,11 +149,12 @@ def of_flaws(flaws: Sequence[Found], found: Sequence[Reason]) -> Iterator[Reason
 
 
 def of_lines(checked: FileCheck | None, found: Sequence[Reason]) -> Iterator[Reason]:
-    """What a check of the whole file tells beside what is found already."""
+    """What a check of the whole file tells beside what is found already. Where a head is damaged, all that it led to is misplaced."""
     known = [reason.bytes for reason in found if reason.bytes]
     for place, words in checked.lines if checked else ():
-        if words[0] in OF_LINES and not any(start <= place < end for start, end in known):
-            yield Reason(OF_LINES[words[0]], bytes=(place, place + 1))
+        why = OF_LINES.get(words[0])
+        if why and not any(start <= place < end for start, end in known) and not (why is Why.MISPLACED and found):
+            yield Reason(why, bytes=(place, place + 1))
 
 
 def not_whole(checked: FileCheck | None, layout: Layout) -> Iterator[Reason]:
