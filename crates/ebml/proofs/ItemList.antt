@@ -9,11 +9,11 @@ use Rattle.ebml.specs.Vint.{number_of}
 use Rattle.ebml.specs.Head.{HasHead}
 use Rattle.ebml.specs.Children.{AreChildren}
 use Rattle.ebml.specs.Masters.{cluster_ids, segment_id}
-use Rattle.ebml.specs.Items.{IsTop, IsHeaded, IsUnknown, IsItem, ItemValue, bytes_of_items, EachIsItem, AreItems, ItemsAreOne, WholeItemsAreLocal, BeginsKnown, long_ids}
+use Rattle.ebml.specs.Items.{IsTop, IsHeaded, IsUnknown, IsItem, ItemValue, bytes_of_items, EachIsItem, EachBefore, AreItems, ItemsAreOne, WholeItemsAreLocal, BeginsKnown, long_ids}
 use Rattle.ebml.specs.declared.head.Head.{Head}
 use Rattle.ebml.specs.declared.items.Kind.{Kind}
 use Rattle.ebml.specs.declared.items.Kind.TheVariants.{Segment, Element, Endless, Unknown}
-use Rattle.ebml.specs.Inner.Passed.{EachBefore, Passed}
+use Rattle.ebml.specs.Inner.Passed.{Passed}
 use Rattle.ebml.proofs.Numbers.{bytes_drop}
 use Rattle.ebml.proofs.Heads.{one_head, head_longer, after}
 use Rattle.ebml.proofs.Elements.{front_is, long_head, front_head, children_are_one}

@@ -67,6 +67,11 @@ abbrev pub EachIsItem : List ItemValue → Type 0
 EachIsItem [] = Unit {0}
 EachIsItem (item ∷ items) = IsItem item.kind item.bytes (bytes_of_items items) × EachIsItem items
 
+-- Each is one by what follows it, which ends with these bytes: so stand the items that a pass has gone past, by what is left of the file.
+abbrev pub EachBefore : List ItemValue → List ℕ → Type 0
+EachBefore [] rest = Unit {0}
+EachBefore (item ∷ items) rest = IsItem item.kind item.bytes (bytes_of_items items ++ rest) × EachBefore items rest
+
 -- The items of a file: they cover it, and each is one by what follows it.
 pub record AreItems (file : List ℕ) (items : List ItemValue) : Type 0 where
   pub joined : file ≡ bytes_of_items items

@@ -160,8 +160,9 @@ fn unknown_item(bytes: &[u8]) -> Item
     }
 }
 
-/// The next place from 1 on at which the four bytes of a known ID stand, or the end.
-fn next_known(bytes: &[u8]) -> usize
+/// The next place from 1 on at which the four bytes of a known ID of the top stand, or the end: so far an unknown item goes. Of bytes that are
+/// read in pieces, the last four are searched again with those that follow them.
+pub fn next_known(bytes: &[u8]) -> usize
     requires { 0 < length bytes.now }
     ensures some { 0 < result }
     ensures within { result ≤ length bytes.now }

@@ -18,9 +18,9 @@ pub use contents::{Content, contents_are_one, last_content, next_content};
 pub use crc::{crc32, crc32_after};
 pub use crc_element::{burst_seen_by_crc32, crc32_element, element_left, has_crc32, passes_crc32};
 pub use head::{Head, read_head, read_head_at};
-pub use items::{Item, Kind, count_items, next_item};
+pub use items::{Item, Kind, count_items, next_item, next_known};
 pub use laws::{
     cut_is_seen, heads_are_local, items_are_one, one_segment_has_items, whole_items_are_local,
 };
-pub use masters::child_ids;
+pub use masters::{CLUSTER_IDS, child_ids};
 pub use vint::{VintData, read_vint_data, unsigned};

@@ -29,8 +29,8 @@ const BLOCK_GROUP: u32 = 0xA0;
 
 const CRC32: u32 = 0xBF;
 
-/// A Cluster's: Timestamp, Position, PrevSize, SimpleBlock, BlockGroup, SilentTracks.
-pub(crate) const CLUSTER_IDS: [u32; 8] = [0xE7, 0xA7, 0xAB, 0xA3, BLOCK_GROUP, 0x5854, VOID, CRC32];
+/// The IDs of a Cluster's children: Timestamp, Position, PrevSize, SimpleBlock, BlockGroup, SilentTracks.
+pub const CLUSTER_IDS: [u32; 8] = [0xE7, 0xA7, 0xAB, 0xA3, BLOCK_GROUP, 0x5854, VOID, CRC32];
 
 /// A BlockGroup's: Block, BlockDuration, ReferencePriority, ReferenceBlock, ReferenceVirtual, CodecState, BlockAdditions, DiscardPadding,
 /// Slices, ReferenceFrame.

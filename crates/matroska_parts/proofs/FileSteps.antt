@@ -3,9 +3,8 @@ use Rattle.std.proofs.Common.{◌≡◌, ℕ, ◌+◌, ◌<◌, ◌≤◌, Bool,
 use Rattle.std.specs.Prelude.{Option, Some, None}
 use Rattle.std.proofs.lemmas.List.{append_assoc, append-nil, length-append, length-drop, length-take-le, take-append-drop, take_all, drop_all, drop-drop, drop_at}
 use Rattle.std.proofs.Math.Seq.{take-add}
-use Rattle.ebml.specs.Items.{ItemValue, IsItem, bytes_of_items, AreItems}
+use Rattle.ebml.specs.Items.{ItemValue, IsItem, bytes_of_items, AreItems, EachBefore}
 use Rattle.ebml.specs.declared.items.Kind.{Kind}
-use Rattle.ebml.specs.Inner.Passed.{EachBefore}
 use Rattle.ebml.proofs.ItemList.{some_bytes, bytes_of_snoc, each_snoc, each_to_end}
 use Rattle.matroska.specs.declared.track.Track.{Track}
 use Rattle.matroska_parts.specs.declared.parts.Part.{Part}

@@ -1,11 +1,6 @@
 -- The items that a pass over a file has gone past.
-use Rattle.std.specs.Prelude.{ℕ, ◌≡◌, ◌≤◌, List, [], ◌∷◌, ◌++◌, length, take, drop}
-use Rattle.ebml.specs.Items.{ItemValue, IsItem, bytes_of_items}
-
--- each is one by what follows it, which ends with the rest of the file
-abbrev pub EachBefore : List ItemValue → List ℕ → Type 0
-EachBefore [] rest = Unit {0}
-EachBefore (item ∷ items) rest = IsItem item.kind item.bytes (bytes_of_items items ++ rest) × EachBefore items rest
+use Rattle.std.specs.Prelude.{ℕ, ◌≡◌, ◌≤◌, List, length, take, drop}
+use Rattle.ebml.specs.Items.{ItemValue, bytes_of_items, EachBefore}
 
 pub record Passed (file : List ℕ) (place count : ℕ) : Type 0 where
   pub within : place ≤ length file

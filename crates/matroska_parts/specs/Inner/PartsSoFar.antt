@@ -1,7 +1,6 @@
 -- The parts of the items that a pass over a file has gone past.
 use Rattle.std.specs.Prelude.{ℕ, ◌≡◌, List, Option, take, drop}
-use Rattle.ebml.specs.Items.{ItemValue, AreItems, bytes_of_items}
-use Rattle.ebml.specs.Inner.Passed.{EachBefore}
+use Rattle.ebml.specs.Items.{ItemValue, AreItems, bytes_of_items, EachBefore}
 use Rattle.matroska.specs.declared.track.Track.{Track}
 use Rattle.matroska_parts.specs.declared.parts.Part.{Part}
 use Rattle.matroska_parts.specs.ItemParts.{PlacedContent, first_tracks, AreItemParts}

@@ -1,0 +1,5 @@
+pub mod Steps
+pub mod Ends
+pub mod ChildSteps
+pub mod Searches
+pub mod Given

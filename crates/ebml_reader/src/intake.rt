@@ -1,0 +1,117 @@
+//! What was read of a source and not passed yet.
+ghost use Rattle.std.specs.Prelude.{◌≡◌, ◌↔◌, ◌<◌, ◌≤◌, false, IsTrue, length, drop};
+ghost use Rattle.ebml_reader.specs.Reader.{empty};
+ghost use Rattle.ebml_reader.specs.Inner.Intake.{IsBounded, ReadsPiece, Fills};
+
+use crate::fault::ReaderFault;
+use ffv1_devices::{Source, read_some};
+use std::alloc::Global;
+use std::marker::Model;
+
+/// So many bytes are read at once, at most.
+const PIECE: usize = 65536;
+
+/// A file of so many bytes or more is not read.
+const LIMIT: u64 = 1 << 62;
+
+/// What was read and not passed yet. It lies in `room` from `start` on.
+#[derive(Drop)]
+pub(crate) struct Intake {
+    room: Vec<u8>,
+    start: usize,
+    taken: u64,
+    is_ended: bool,
+}
+
+impl Model for Intake {
+    ghost use Rattle.std.specs.Prelude.{◌≤◌, ◌<◌, ◌+◌, ◌^◌, drop, vec_len};
+    ghost use Rattle.ebml_reader.specs.Reader.{Held};
+
+    ghost Value = { Held };
+
+    ghost view = { λ s. record { bytes = drop s.start s.room.items; taken = s.taken; ended = s.is_ended } };
+
+    ghost invariant = { λ s. (s.start ≤ vec_len s.room) × (vec_len s.room ≤ s.start + s.taken) × (s.taken < 2 ^ 63) };
+}
+
+impl Intake {
+    /// Before the first byte.
+    pub(crate) fn new(alloc: Global) -> Intake
+        ensures { result ≡ empty }
+    {
+        Intake {
+            room: Vec::new(alloc),
+            start: 0,
+            taken: 0,
+            is_ended: false,
+        }
+    }
+
+    /// The bytes.
+    pub(crate) fn bytes(&self) -> &[u8]
+        ensures bytes { result.now ≡ self.now.bytes }
+        ensures bounded { IsBounded self.now }
+    {
+        &self.room[self.start..]
+    }
+
+    /// Whether the source has ended after them.
+    pub(crate) fn is_ended(&self) -> bool
+        ensures { result ≡ self.now.ended }
+    {
+        self.is_ended
+    }
+
+    /// Passes so many of them.
+    pub(crate) fn pass(&mut self, count: usize)
+        requires { count ≤ length self.old.bytes }
+        ensures { self.new ≡ record { bytes = drop count self.old.bytes; taken = self.old.taken; ended = self.old.ended } }
+    {
+        self.start += count;
+    }
+
+    /// Lets those go that were passed.
+    fn clear_passed(&mut self)
+        ensures { self.new ≡ self.old }
+    {
+        let left = self.room.len() - self.start;
+        self.room.copy_within(self.start.., 0);
+        self.room.truncate(left);
+        self.start = 0;
+    }
+
+    /// Reads one piece more.
+    fn read_piece<S: Source>(&mut self, source: &mut S) -> Result<(), ReaderFault>
+        requires { self.old.ended ≡ false }
+        ensures { ReadsPiece result self.old self.new (S.log source.old) (S.log source.new) }
+    {
+        if self.taken >= LIMIT {
+            return Err(ReaderFault::Read);
+        }
+        self.clear_passed();
+        let mut piece = [0u8; PIECE];
+        let count = read_some(source, &mut piece)?;
+        self.room.extend_from_slice(&piece[..count])?;
+        self.taken += count as u64;
+        self.is_ended = count == 0;
+        Ok(())
+    }
+
+    /// Whether the source has not ended, and fewer bytes are there.
+    fn lacks(&self, size: u64) -> bool
+        ensures lacks { IsTrue result ↔ (self.now.ended ≡ false) × (length self.now.bytes < size) }
+        ensures bounded { IsBounded self.now }
+    {
+        !self.is_ended && ((self.room.len() - self.start) as u64) < size
+    }
+
+    /// Reads on, until so many bytes are there or the source has ended.
+    pub(crate) fn fill<S: Source>(&mut self, source: &mut S, size: u64) -> Result<(), ReaderFault>
+        ensures { Fills size result self.old self.new (S.log source.old) (S.log source.new) }
+    {
+        while self.lacks(size) {
+            self.read_piece(source)?;
+        }
+        Ok(())
+    }
+}
