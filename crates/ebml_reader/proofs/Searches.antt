@@ -165,11 +165,13 @@ module _ (passed n : ℕ) (old now : Held) (x y : ReadLog) (searched : Searched 
   searched_all =
       let counted = searched.counted in
       let long = long_item in
+      let few = searched.bounded.few in
       record {
         item = searched.gone ++ take n now.bytes;
         long' = omega (arith, counted, long);
         passes = passes-trans searched.gone (take n now.bytes) old now record { bytes = drop n now.bytes; taken = now.taken; ended = now.ended } x y y
             searched.passes (passes-pass n now y);
+        bounded = record { few = omega (arith, few, length-drop n now.bytes); limit = searched.bounded.limit };
         is = λ more ends. record {
           some = omega (arith, some, long);
           no_element = λ head top has.

@@ -1,5 +1,5 @@
 -- The items that a reader gives of a source, one after the other, and when it gives none (own).
-use Rattle.std.specs.Prelude.{ℕ, ◌+◌, ◌≡◌, ◌≢◌, ◌≤◌, ◌^◌, ◌⊎◌, Bool, false, IsTrue, List, [], ◌∷◌, ◌++◌, length, Option, Some, None, Result, Ok, Err}
+use Rattle.std.specs.Prelude.{ℕ, ◌+◌, ◌≡◌, ◌≢◌, ◌<◌, ◌≤◌, ◌^◌, ◌⊎◌, Bool, false, IsTrue, List, [], ◌∷◌, ◌++◌, length, Option, Some, None, Result, Ok, Err}
 use Rattle.std.specs.Io.KnownBytes.{IsAtEnd}
 use Rattle.ffv1_devices.specs.Logs.{ReadLog, Reads, BreaksOff}
 use Rattle.ebml.specs.Items.{ItemValue, bytes_of_items, EachBefore, AreItems}
@@ -51,6 +51,7 @@ pub record GivesItem (first : ReadLog) (items : List ItemValue) (found : FoundIt
   pub long : found.length ≡ length bytes
   pub given : found.kind ≢ Unknown → reading.given ≡ bytes
   pub none : found.kind ≡ Unknown → reading.given ≡ []
+  pub few : reading.held.taken < 2 ^ 63
   pub stands : StandsAfter first (items ++ record { kind = found.kind; bytes = bytes } ∷ []) reading.held now
 
 -- After these items, what a reader gives next.

@@ -37,7 +37,7 @@ module _ (tracks : List Track) where
   item_below (kind.Endless head) first place bytes parts are = element_below first place head bytes parts are
   item_below kind.Unknown first place bytes parts are = subst (AllByRecursion Below) (sym are) (tt, tt)
 
-  items_below : (first : Option PlacedContent) (place : ℕ) (items : List ItemValue) (parts : List Part)
+  pub items_below : (first : Option PlacedContent) (place : ℕ) (items : List ItemValue) (parts : List Part)
       → AreItemParts first tracks place items parts → AllByRecursion Below parts
   items_below first place [] parts are = subst (AllByRecursion Below) (sym are) tt
   items_below first place (i ∷ is) parts are =

@@ -6,6 +6,7 @@ pub mod OpeningSteps
 pub mod RecordSteps
 pub mod ItemSteps
 pub mod FileSteps
+pub mod ReadSteps
 pub mod InnerSteps
 pub mod BelowSteps
 pub mod Vectors

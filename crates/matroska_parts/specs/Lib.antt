@@ -6,4 +6,5 @@ pub mod Openings
 pub mod RecordParts
 pub mod ItemParts
 pub mod Named
+pub mod SourceParts
 pub mod Inner

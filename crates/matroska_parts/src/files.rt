@@ -7,7 +7,8 @@ ghost use Rattle.matroska.specs.NamedTracks.{named_tracks};
 ghost use Rattle.matroska_parts.specs.ItemParts.{PlacedContent, is_tracks, content_by, first_tracks, AreTracksBy, AreNamedIn, AreItemParts, AreFileParts};
 ghost use Rattle.matroska_parts.specs.Named.{IsBelow};
 ghost use Rattle.matroska_parts.specs.Inner.FileTracks.{HasFacts};
-ghost use Rattle.matroska_parts.specs.Inner.Firsts.{SaysWhere, HasItsHead, found_of};
+ghost use Rattle.matroska_parts.specs.SourceParts.{SaysWhere, HasItsHead};
+ghost use Rattle.matroska_parts.specs.Inner.Firsts.{found_of};
 
 use crate::file_tracks::FileTracks;
 use crate::items::push_item;
@@ -68,7 +69,7 @@ fn first_tracks<'a>(file: &'a [u8]) -> Option<FirstTracks<'a>>
 }
 
 /// The content of an item, if it is a Tracks.
-fn tracks_content<'a>(kind: &Kind, bytes: &'a [u8]) -> Option<&'a [u8]>
+pub(crate) fn tracks_content<'a>(kind: &Kind, bytes: &'a [u8]) -> Option<&'a [u8]>
     requires { HasItsHead kind.now bytes.now }
     ensures { option_copied result ≡ (if is_tracks kind.now then Some (content_by kind.now bytes.now) else None) }
 {
@@ -108,7 +109,7 @@ fn tracks_of<'a>(
 }
 
 /// The tracks that the content of a Tracks describes.
-fn tracks_in<'a>(alloc: Global, content: &'a [u8]) -> Result<FileTracks<'a>, AllocError>
+pub(crate) fn tracks_in<'a>(alloc: Global, content: &'a [u8]) -> Result<FileTracks<'a>, AllocError>
     ensures tracks { IfOk result (λ file. AreNamedIn content.now file.named.tracks.items) }
     ensures facts { IfOk result HasFacts }
 {

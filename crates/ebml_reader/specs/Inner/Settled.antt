@@ -69,6 +69,7 @@ pub record PassesItem (long : ℕ) (old new : Held) (before after : ReadLog) : T
   pub item : List ℕ
   pub long' : long ≡ length item
   pub passes : Passes item old new before after
+  pub bounded : IsBounded new
   pub is : Whatever new (λ left. IsItem Unknown item left)
 
 abbrev pub PassesUnknown : Result ℕ ReaderFault → Held → Held → ReadLog → ReadLog → Type 0
@@ -80,6 +81,7 @@ pub record Settles (settled : Settled) (old new : Held) (before after : ReadLog)
   pub item : List ℕ
   pub passed : List ℕ
   pub passes : Passes passed old new before after
+  pub bounded : IsBounded new
   pub within : settled.kept ≤ length new.bytes
   pub joined : item ≡ passed ++ take settled.kept new.bytes
   pub long : settled.found.length ≡ length item
