@@ -30,7 +30,7 @@ module _ (tracks : List Track) where
   joined_below : (parts own more : List Part) → parts ≡ own ++ more → AllByRecursion Below own → AllByRecursion Below more → AllByRecursion Below parts
   joined_below parts own more e all rest = subst (AllByRecursion Below) (sym e) (all_append Below own more all rest)
 
-  item_below : (k : Kind) (first : Option PlacedContent) (place : ℕ) (bytes : List ℕ) (parts : List Part)
+  pub item_below : (k : Kind) (first : Option PlacedContent) (place : ℕ) (bytes : List ℕ) (parts : List Part)
       → AreItemPartsBy k first tracks place bytes parts → AllByRecursion Below parts
   item_below (kind.Segment head) first place bytes parts are = subst (AllByRecursion Below) (sym are) (tt, tt)
   item_below (kind.Element head) first place bytes parts are = element_below first place head bytes parts are

@@ -66,7 +66,7 @@ none_passed file place so_far end items are =
 
 -- ---- the parts so far
 
-items_snoc : (found : Option PlacedContent) (tracks : List Track) (place : ℕ) (items : List ItemValue) (parts : List Part) (item : ItemValue) (more : List Part)
+pub items_snoc : (found : Option PlacedContent) (tracks : List Track) (place : ℕ) (items : List ItemValue) (parts : List Part) (item : ItemValue) (more : List Part)
     → AreItemParts found tracks place items parts → AreItemPartsBy item.kind found tracks (place + length (bytes_of_items items)) item.bytes more
     → AreItemParts found tracks place (items ++ item ∷ []) (parts ++ more)
 items_snoc found tracks place [] parts item more have has =

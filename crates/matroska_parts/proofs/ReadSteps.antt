@@ -1,10 +1,9 @@
 -- The items that were read of a file, by all that it has: the first Tracks, and the parts so far.
-use Rattle.std.proofs.Common.{◌≡◌, ℕ, ◌+◌, ◌^◌, ◌<◌, ◌≤◌, Bool, true, false, cond, List, [], ◌∷◌, ◌++◌, length, drop, refl, sym, ap, ◌∙◌, subst, arith, inl, inr, zero-add}
-use Rattle.std.specs.Prelude.{◌⊎◌, ◌≢◌, IsTrue, IsSome, Option, Some, None, option_map, Contains}
+use Rattle.std.proofs.Common.{◌≡◌, ℕ, ◌+◌, ◌-◌, ◌^◌, ◌<◌, Bool, true, false, cond, List, [], ◌∷◌, ◌++◌, length, drop, refl, sym, ap, ◌∙◌, subst, arith, rules, inl, inr, zero-add}
+use Rattle.std.specs.Prelude.{◌≢◌, IsTrue, IsSome, Option, Some, None, option_map, Contains}
 use Rattle.std.proofs.lemmas.List.{append_assoc, append-nil, append_cancel_left, length-append, drop_at}
-use Rattle.std.specs.Io.KnownBytes.{IsAtEnd}
 use Rattle.ffv1_bits.specs.Parity.{AreBytes}
-use Rattle.ffv1_devices.specs.Logs.{ReadLog, Reads}
+use Rattle.ffv1_devices.specs.Logs.{ReadLog}
 use Rattle.ebml.specs.Items.{ItemValue, IsItem, bytes_of_items, AreItems, EachBefore, top_ids}
 use Rattle.ebml.specs.declared.items.Kind.{Kind}
 use Rattle.ebml.specs.declared.items.Kind.TheVariants as kind
@@ -12,8 +11,6 @@ use Rattle.ebml.proofs.Numbers.{bytes_drop}
 use Rattle.ebml.proofs.ItemList.{some_bytes, one_item, same_item, items_are_one, bytes_of_snoc}
 use Rattle.ebml_reader.specs.Reader.{Reading, StandsAfter, AreAllItems, GivesItem}
 use Rattle.ebml_reader.specs.declared.settled.FoundItem.{FoundItem}
-use Rattle.matroska.specs.declared.track.Track.{Track}
-use Rattle.matroska_parts.specs.declared.parts.Part.{Part}
 use Rattle.matroska_parts.specs.declared.tracks_search.FoundTracks.{FoundTracks}
 use Rattle.matroska_parts.specs.TopElements.{top_element_of}
 use Rattle.matroska_parts.specs.ItemParts.{PlacedContent, is_tracks, content_by, first_tracks}
@@ -87,23 +84,24 @@ begins_with (x ∷ xs) rest (b ∷ bs) bytes each are =
 
 -- ---- the first Tracks
 
-first_further : (place : ℕ) (items left : List ItemValue) → first_tracks place items ≡ None
-    → first_tracks place (items ++ left) ≡ first_tracks (place + length (bytes_of_items items)) left
+abbrev IsFurther : ℕ → List ItemValue → List ItemValue → Type 0
+IsFurther place items left = first_tracks place items ≡ None → first_tracks place (items ++ left) ≡ first_tracks (place + length (bytes_of_items items)) left
+
+first_by : (place : ℕ) (x : ItemValue) (xs left : List ItemValue) (b : Bool) → is_tracks x.kind ≡ b → IsFurther (place + length x.bytes) xs left
+    → IsFurther place (x ∷ xs) left
+first_by place x xs left true is further none =
+    let there : ◌≡◌ {A = Option PlacedContent} (Some record { place = place; content = content_by x.kind x.bytes }) None =
+    sym (ap (λ b. cond b (Some record { place = place; content = content_by x.kind x.bytes }) (first_tracks (place + length x.bytes) xs)) is) ∙ none in
+    absurd cc
+first_by place x xs left false is further none =
+    let rest : first_tracks (place + length x.bytes) xs ≡ None =
+    sym (ap (λ b. cond b (Some record { place = place; content = content_by x.kind x.bytes }) (first_tracks (place + length x.bytes) xs)) is) ∙ none in
+    ap (λ b. cond b (Some record { place = place; content = content_by x.kind x.bytes }) (first_tracks (place + length x.bytes) (xs ++ left))) is
+    ∙ further rest ∙ ap (λ p. first_tracks p left) (omega (arith, length-append x.bytes (bytes_of_items xs)))
+
+first_further : (place : ℕ) (items left : List ItemValue) → IsFurther place items left
 first_further place [] left none = ap (λ p. first_tracks p left) (omega arith)
-first_further place (x ∷ xs) left none =
-    first_by place x xs left (is_tracks x.kind) refl none
-  where
-    first_by : (place : ℕ) (x : ItemValue) (xs left : List ItemValue) (b : Bool) → is_tracks x.kind ≡ b → first_tracks place (x ∷ xs) ≡ None
-        → first_tracks place (x ∷ (xs ++ left)) ≡ first_tracks (place + length (bytes_of_items (x ∷ xs))) left
-    first_by place x xs left true is none =
-        let there : ◌≡◌ {A = Option PlacedContent} (Some record { place = place; content = content_by x.kind x.bytes }) None = sym (ap (λ b. cond b (Some record { place = place; content = content_by x.kind x.bytes }) (first_tracks (place + length x.bytes) xs)) is) ∙ none in
-        absurd cc
-    first_by place x xs left false is none =
-        let rest : first_tracks (place + length x.bytes) xs ≡ None =
-        sym (ap (λ b. cond b (Some record { place = place; content = content_by x.kind x.bytes }) (first_tracks (place + length x.bytes) xs)) is) ∙ none in
-        ap (λ b. cond b (Some record { place = place; content = content_by x.kind x.bytes }) (first_tracks (place + length x.bytes) (xs ++ left))) is
-        ∙ first_further (place + length x.bytes) xs left rest
-        ∙ ap (λ p. first_tracks p left) (omega (arith, length-append x.bytes (bytes_of_items xs)))
+first_further place (x ∷ xs) left none = first_by place x xs left (is_tracks x.kind) refl (first_further (place + length x.bytes) xs left) none
 
 -- the Tracks so far: none
 pub record NoTracks (first : ReadLog) (reading : Reading) (now : ReadLog) (place : ℕ) : Type 0 where
@@ -179,3 +177,32 @@ no_tracks_there first place old before now so_far tracks none are = record {
         ∙ sym so_far.none ∙ ap (first_tracks 0) (sym same),
   );
 }
+
+-- ---- as the code has them
+
+pub head_kept : (k : Kind) (kept all : List ℕ) → (k ≢ kind.Unknown → kept ≡ all) → HasItsHead k all → HasItsHead k kept
+head_kept (kind.Segment head) kept all same headed = subst (HasItsHead (kind.Segment head)) (sym (same (λ e. cc))) headed
+head_kept (kind.Element head) kept all same headed = subst (HasItsHead (kind.Element head)) (sym (same (λ e. cc))) headed
+head_kept (kind.Endless head) kept all same headed = subst (HasItsHead (kind.Endless head)) (sym (same (λ e. cc))) headed
+head_kept kind.Unknown kept all same headed = tt
+
+content_kept : (k : Kind) (kept all : List ℕ) → (k ≢ kind.Unknown → kept ≡ all) → is_tracks k ≡ true → content_by k kept ≡ content_by k all
+content_kept (kind.Segment head) kept all same is = refl
+content_kept (kind.Element head) kept all same is = ap (content_by (kind.Element head)) (same (λ e. cc))
+content_kept (kind.Endless head) kept all same is = refl
+content_kept kind.Unknown kept all same is = refl
+
+module _ (first : ReadLog) (items : List ItemValue) (found : FoundItem) (reading : Reading) (now : ReadLog) (gives : GivesItem first items found reading now)
+    (kept : List ℕ) (same : kept ≡ reading.given) where
+  pub head_given : HasItsHead found.kind kept
+  head_given = head_kept found.kind kept gives.bytes (λ known. same ∙ gives.given known)
+      (its_head found.kind gives.bytes (reading.held.bytes ++ []) (given_is first items found reading now gives))
+
+  pub content_given : (content copy : List ℕ) → is_tracks found.kind ≡ true → content ≡ content_by found.kind kept → copy ≡ [] ++ content
+      → copy ≡ content_by found.kind gives.bytes
+  content_given content copy is content_is copied = copied ∙ content_is ∙ content_kept found.kind kept gives.bytes (λ known. same ∙ gives.given known) is
+
+  pub less_left : (place : ℕ) → place ≡ length (bytes_of_items items) → 2 ^ 63 - (place + found.length) < 2 ^ 63 - place
+  less_left place at =
+      let long = gives.long in let some = given_some first items found reading now gives in let room = given_room first items found reading now gives place at in
+      omega (arith, long, some, room)

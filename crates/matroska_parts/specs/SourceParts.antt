@@ -13,6 +13,7 @@ use Rattle.ebml_reader.specs.declared.settled.FoundItem.{FoundItem}
 use Rattle.matroska.specs.declared.track.Track.{Track}
 use Rattle.matroska_parts.specs.TopElements.{top_element_of}
 use Rattle.matroska_parts.specs.ItemParts.{PlacedContent, first_tracks}
+use Rattle.matroska_parts.specs.Inner.FileTracks.{HasFacts}
 use Rattle.matroska_parts.specs.declared.tracks_search.FoundTracks.{FoundTracks}
 use Rattle.matroska_parts.specs.declared.placed_tracks.PlacedTracks.{PlacedTracks}
 
@@ -58,3 +59,7 @@ pub record IsGivenAt (place : ℕ) (item : FoundItem) (kept all : List ℕ) : Ty
 -- the tracks of a file that blocks can name
 abbrev pub tracks_in : PlacedTracks → List Track
 tracks_in tracks = tracks.file.named.tracks.items
+
+-- what is known of each of them is right
+abbrev pub AreKnown : PlacedTracks → Type 0
+AreKnown tracks = HasFacts tracks.file

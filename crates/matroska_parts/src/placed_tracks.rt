@@ -1,5 +1,4 @@
 //! The parts of items, by the tracks of a file.
-ghost use Rattle.matroska_parts.specs.Inner.Facts.{EachHasFacts};
 
 use crate::file_tracks::FileTracks;
 use crate::tracks_search::{FoundTracks, tracks_found};
@@ -15,18 +14,18 @@ use std::alloc::{AllocError, Global};
 pub struct PlacedTracks<'a> {
     pub(crate) file: FileTracks<'a>,
     pub(crate) first: Option<u64>,
-    ghost known: { EachHasFacts file.named.tracks.items file.facts.items },
 }
 
 impl<'a> PlacedTracks<'a> {
     ghost use Rattle.std.specs.Prelude.{ℕ, ◌≡◌, List, Option, IfOk, OnOk};
     ghost use Rattle.matroska_parts.specs.ItemParts.{PlacedContent, AreTracksBy, AreItemPartsBy};
-    ghost use Rattle.matroska_parts.specs.SourceParts.{found_in, SaysWhere, IsGivenAt, tracks_in};
+    ghost use Rattle.matroska_parts.specs.SourceParts.{found_in, SaysWhere, IsGivenAt, tracks_in, AreKnown};
     ghost use Rattle.matroska_parts.specs.Inner.Added.{AddsParts};
 
     /// Those that a Tracks describes. It fails only if an allocation fails.
     pub fn new(alloc: Global, found: &'a FoundTracks) -> Result<PlacedTracks<'a>, AllocError>
         ensures tracks { IfOk result (λ tracks. AreTracksBy (found_in found.now) (tracks_in tracks)) }
+        ensures known { IfOk result AreKnown }
         ensures first { IfOk result (λ tracks. SaysWhere tracks.first (found_in found.now)) }
     {
         let file = tracks_found(alloc, found)?;
@@ -50,7 +49,8 @@ impl<'a> PlacedTracks<'a> {
         bytes: &[u8],
         parts: &mut Vec<Part>,
     ) -> Result<(), AllocError>
-        requires { (all : List ℕ) × IsGivenAt place item.now bytes.now all }
+        requires known { AreKnown self.now }
+        requires given { (all : List ℕ) × IsGivenAt place item.now bytes.now all }
         ensures { (all : List ℕ) (found : Option PlacedContent) → IsGivenAt place item.now bytes.now all → SaysWhere self.now.first found
             → OnOk result (AddsParts (AreItemPartsBy item.now.kind found (tracks_in self.now) place all) parts.old.items parts.new.items) }
     {

@@ -1,5 +1,4 @@
 use Rattle.std.proofs.Common.{◌≡◌, ◌+◌, length, count_by}
-use Rattle.std.specs.Prelude.{sum_by}
 use Rattle.ffv1_scan.specs.Verdicts.{is_passing}
 use Rattle.matroska_parts.specs.Payloads.{passing_size}
 use Rattle.matroska_parts.proofs.payloads.judge_frame.Given as goal
