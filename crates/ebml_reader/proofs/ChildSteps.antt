@@ -23,15 +23,6 @@ pub record ChildrenSoFar (from end : ℕ) (old new : Held) (x y : ReadLog) : Typ
   pub at_is : from + at ≡ end
   pub so_far : SoFar cluster_ids (drop from new.bytes) at
 
-pub no_children : (from : ℕ) (held : Held) (log : ReadLog) → from ≤ length held.bytes → ChildrenSoFar from from held held log log
-no_children from held log room = record {
-  passes = passes-nil held log;
-  room = room;
-  at = 0;
-  at_is = omega arith;
-  so_far = record { within = omega arith; children = []; joined = refl; each = tt };
-}
-
 longer : (ids xs ys : List ℕ) (at : ℕ) → SoFar ids xs at → SoFar ids (xs ++ ys) at
 longer ids xs ys at so_far =
     let within = so_far.within in

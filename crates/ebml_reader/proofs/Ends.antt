@@ -122,6 +122,3 @@ no_top held begins (inl ended) = λ more ends head top has.
 no_top held begins (inr long) = λ more ends head top has.
     begins.1.no_element head top
     (subst (λ z. HasHead z head) (sym (take-append-drop begins.0 held.bytes)) ((heads_are_local held.bytes more head).1 long has))
-
-pub head_fits : (head : Head) (bytes : List ℕ) → BeginsItem (Endless head) bytes → head.length ≤ length bytes
-head_fits head bytes begins = (head_of_front bytes begins.0 head begins.1.0.has).room

@@ -10,7 +10,7 @@ use Rattle.ebml.specs.declared.items.Kind.{Kind}
 use Rattle.ebml.specs.declared.items.Kind.TheVariants.{Unknown}
 use Rattle.ebml_reader.specs.declared.settled.Settled.{Settled}
 use Rattle.ebml_reader.specs.declared.fault.ReaderFault.{ReaderFault}
-use Rattle.ebml_reader.specs.Reader.{Held, empty, StandsAfter, AreAllItems, GivesItem, IsFault}
+use Rattle.ebml_reader.specs.Reader.{Held, nothing_held, StandsAfter, AreAllItems, GivesItem, IsFault}
 use Rattle.ebml_reader.specs.Inner.Intake.{Passes}
 use Rattle.ebml_reader.specs.Inner.Settled.{EndsAt, PassesItem, Settles}
 use Rattle.ebml_reader.proofs.Steps.{passes-trans, left_is, still, fault-after}
@@ -64,7 +64,7 @@ all_given first x y items old new stands step none ended =
 pub fault_given : (fault : ReaderFault) (first x y : ReadLog) (items : List ItemValue) (old : Held) → StandsAfter first items old x → IsFault fault old.taken x y
     → IsFault fault 0 first y
 fault_given fault first x y items old stands is =
-    fault-after fault (bytes_of_items items) empty old first x y
+    fault-after fault (bytes_of_items items) nothing_held old first x y
     record {
       read = bytes_of_items items ++ old.bytes;
       reads = stands.reads;
@@ -95,21 +95,6 @@ kept_item kind kept old new x y known ends =
           let rest : drop kept (new.bytes ++ more) ≡ drop kept new.bytes ++ more = drop-append-le kept new.bytes more ends.within in
           subst (λ l. IsItem kind l (drop kept new.bytes ++ more)) front (subst (λ l. IsItem kind (take kept (new.bytes ++ more)) l) rest (ends.is more end));
     }
-
-pub passed_item : (kind : Kind) (long : ℕ) (old new : Held) (x y : ReadLog) → kind ≡ Unknown → PassesItem long old new x y
-    → Settles record { found = record { kind = kind; length = long }; kept = 0 } old new x y
-passed_item kind long old new x y unknown passed = record {
-  item = passed.item;
-  passed = passed.item;
-  passes = passed.passes;
-  bounded = passed.bounded;
-  within = omega arith;
-  joined = sym (append-nil passed.item);
-  long = passed.long';
-  kept = λ known. absurd (known unknown);
-  none = λ _. refl;
-  is = λ more ends. subst (λ k. IsItem k passed.item (new.bytes ++ more)) (sym unknown) (passed.is more ends);
-}
 
 -- an item was read after what had been read
 pub settles-after : (settled : Settled) (old mid new : Held) (x y z : ReadLog) → Passes [] old mid x y → Settles settled mid new y z → Settles settled old new x z

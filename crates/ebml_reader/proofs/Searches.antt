@@ -59,12 +59,6 @@ not_searched held log some room bounded = record {
   bounded = bounded;
 }
 
--- what was passed and what is held is no more than what was read
-pub searched_few : (passed : ℕ) (old now : Held) (x y : ReadLog) → IsBounded old → Searched passed old now x y → passed + length now.bytes ≤ now.taken
-searched_few passed old now x y bounded searched =
-    let step = searched.passes in let few = bounded.few in let counted = searched.counted in
-    omega (arith, few, counted, step.counted, ap length step.joined, length-append old.bytes step.read, length-append searched.gone now.bytes)
-
 -- a piece more
 module _ (passed n : ℕ) (old now new : Held) (x y z : ReadLog) (searched : Searched passed old now x y) (unended : IsTrue now.ended → ⊥) (all : n ≡ length now.bytes)
     (none : NoneBefore n now.bytes) where

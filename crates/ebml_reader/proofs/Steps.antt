@@ -63,10 +63,6 @@ left_is p a b x y step more = sym (append_assoc a.bytes step.read more) ∙ ap (
 pub still : (p : List ℕ) (a b : Held) (x y : ReadLog) (step : Passes p a b x y) (more : List ℕ) → (IsTrue b.ended → more ≡ []) → IsTrue a.ended → step.read ++ more ≡ []
 still p a b x y step more ends ended = let stays = step.stays ended in ap (λ l. l ++ more) stays.0 ∙ ends stays.1
 
-pub whatever-after : (P : List ℕ → Type 0) (p : List ℕ) (a b : Held) (x y : ReadLog) → Passes p a b x y → Whatever a P → Whatever b (λ left. P (p ++ left))
-whatever-after P p a b x y step holds =
-    λ more ends. subst P (left_is p a b x y step more) (holds (step.read ++ more) (still p a b x y step more ends))
-
 -- ---- how much can be read
 
 abbrev pub left_to_read : Held → ℕ

@@ -23,11 +23,11 @@ pub record Held : Type 0 where
   pub taken : ℕ
   pub ended : Bool
 
-abbrev pub empty : Held
-empty = record { bytes = []; taken = 0; ended = false }
+abbrev pub nothing_held : Held
+nothing_held = record { bytes = []; taken = 0; ended = false }
 
 -- what a reader has: the bytes of the element that it gave last, and what was read and not given
-pub record Reading : Type 0 where
+pub record ReaderState : Type 0 where
   pub given : List ℕ
   pub held : Held
 
@@ -46,7 +46,7 @@ pub record AreAllItems (first : ReadLog) (items : List ItemValue) (now : ReadLog
   pub are : AreItems (bytes_of_items items) items
 
 -- One item more was given, of so many bytes; those of an unknown one are let go.
-pub record GivesItem (first : ReadLog) (items : List ItemValue) (found : FoundItem) (reading : Reading) (now : ReadLog) : Type 0 where
+pub record GivesItem (first : ReadLog) (items : List ItemValue) (found : FoundItem) (reading : ReaderState) (now : ReadLog) : Type 0 where
   pub bytes : List ℕ
   pub long : found.length ≡ length bytes
   pub given : found.kind ≢ Unknown → reading.given ≡ bytes
@@ -55,7 +55,7 @@ pub record GivesItem (first : ReadLog) (items : List ItemValue) (found : FoundIt
   pub stands : StandsAfter first (items ++ record { kind = found.kind; bytes = bytes } ∷ []) reading.held now
 
 -- After these items, what a reader gives next.
-abbrev pub GivesNext : ReadLog → List ItemValue → Result (Option FoundItem) ReaderFault → Reading → ReadLog → Type 0
+abbrev pub GivesNext : ReadLog → List ItemValue → Result (Option FoundItem) ReaderFault → ReaderState → ReadLog → Type 0
 GivesNext first items (Ok (Some found)) reading now = GivesItem first items found reading now
 GivesNext first items (Ok None) reading now = AreAllItems first items now
 GivesNext first items (Err fault) reading now = IsFault fault 0 first now

@@ -1,6 +1,6 @@
 //! What was read of a source and not passed yet.
 ghost use Rattle.std.specs.Prelude.{◌≡◌, ◌↔◌, ◌<◌, ◌≤◌, false, IsTrue, length, drop};
-ghost use Rattle.ebml_reader.specs.Reader.{empty};
+ghost use Rattle.ebml_reader.specs.Reader.{nothing_held};
 ghost use Rattle.ebml_reader.specs.Inner.Intake.{IsBounded, ReadsPiece, Fills};
 
 use crate::fault::ReaderFault;
@@ -37,7 +37,7 @@ impl Model for Intake {
 impl Intake {
     /// Before the first byte.
     pub(crate) fn new(alloc: Global) -> Intake
-        ensures { result ≡ empty }
+        ensures { result ≡ nothing_held }
     {
         Intake {
             room: Vec::new(alloc),

@@ -2,7 +2,7 @@
 ghost use Rattle.std.specs.Prelude.{◌≡◌, List, []};
 ghost use Rattle.ebml.specs.Items.{ItemValue};
 ghost use Rattle.ffv1_devices.specs.Logs.{ReadLog};
-ghost use Rattle.ebml_reader.specs.Reader.{empty, StandsAfter, GivesNext};
+ghost use Rattle.ebml_reader.specs.Reader.{nothing_held, StandsAfter, GivesNext};
 
 use crate::fault::ReaderFault;
 use crate::intake::Intake;
@@ -22,9 +22,9 @@ pub struct ItemReader {
 
 impl Model for ItemReader {
     ghost use Rattle.std.specs.Prelude.{◌≤◌, length, take, drop};
-    ghost use Rattle.ebml_reader.specs.Reader.{Reading};
+    ghost use Rattle.ebml_reader.specs.Reader.{ReaderState};
 
-    ghost Value = { Reading };
+    ghost Value = { ReaderState };
 
     ghost view = { λ s. record { given = take s.given s.intake.bytes; held = record s.intake { bytes = drop s.given s.intake.bytes } } };
 
@@ -34,7 +34,7 @@ impl Model for ItemReader {
 impl ItemReader {
     /// Before the first item.
     pub fn new(alloc: Global) -> ItemReader
-        ensures { result ≡ record { given = []; held = empty } }
+        ensures { result ≡ record { given = []; held = nothing_held } }
     {
         ItemReader {
             intake: Intake::new(alloc),

@@ -9,13 +9,12 @@ use Rattle.ebml.specs.declared.items.Kind.{Kind}
 use Rattle.ebml.specs.declared.items.Kind.TheVariants as kind
 use Rattle.ebml.proofs.Numbers.{bytes_drop}
 use Rattle.ebml.proofs.ItemList.{some_bytes, one_item, same_item, items_are_one, bytes_of_snoc}
-use Rattle.ebml_reader.specs.Reader.{Reading, StandsAfter, AreAllItems, GivesItem}
+use Rattle.ebml_reader.specs.Reader.{ReaderState, StandsAfter, AreAllItems, GivesItem}
 use Rattle.ebml_reader.specs.declared.settled.FoundItem.{FoundItem}
 use Rattle.matroska_parts.specs.declared.tracks_search.FoundTracks.{FoundTracks}
 use Rattle.matroska_parts.specs.TopElements.{top_element_of}
 use Rattle.matroska_parts.specs.ItemParts.{PlacedContent, is_tracks, content_by, first_tracks}
 use Rattle.matroska_parts.specs.SourceParts.{found_in, IsFirstTracksOf, FindsTracks, HasItsHead, IsGivenAt}
-
 
 -- ---- items by what was given of them
 
@@ -35,7 +34,7 @@ last_item (x ∷ xs) item rest each = last_item xs item rest each.1
 abbrev pub item_of : FoundItem → List ℕ → ItemValue
 item_of found bytes = record { kind = found.kind; bytes = bytes }
 
-module _ (first : ReadLog) (items : List ItemValue) (found : FoundItem) (reading : Reading) (now : ReadLog) (gives : GivesItem first items found reading now) where
+module _ (first : ReadLog) (items : List ItemValue) (found : FoundItem) (reading : ReaderState) (now : ReadLog) (gives : GivesItem first items found reading now) where
   pub given_is : IsItem found.kind gives.bytes (reading.held.bytes ++ [])
   given_is = last_item items (item_of found gives.bytes) (reading.held.bytes ++ []) (gives.stands.each [] (λ _. refl))
 
@@ -104,13 +103,13 @@ first_further place [] left none = ap (λ p. first_tracks p left) (omega arith)
 first_further place (x ∷ xs) left none = first_by place x xs left (is_tracks x.kind) refl (first_further (place + length x.bytes) xs left) none
 
 -- the Tracks so far: none
-pub record NoTracks (first : ReadLog) (reading : Reading) (now : ReadLog) (place : ℕ) : Type 0 where
+pub record NoTracks (first : ReadLog) (reading : ReaderState) (now : ReadLog) (place : ℕ) : Type 0 where
   pub items : List ItemValue
   pub stands : StandsAfter first items reading.held now
   pub at : place ≡ length (bytes_of_items items)
   pub none : first_tracks 0 items ≡ None
 
-pub no_tracks_yet : (first now : ReadLog) (reading : Reading) → StandsAfter first [] reading.held now → NoTracks first reading now 0
+pub no_tracks_yet : (first now : ReadLog) (reading : ReaderState) → StandsAfter first [] reading.held now → NoTracks first reading now 0
 no_tracks_yet first now reading stands = record { items = []; stands = stands; at = refl; none = refl }
 
 one_first : (place : ℕ) (item : ItemValue) (left : List ItemValue) (b : Bool) → is_tracks item.kind ≡ b
@@ -118,7 +117,7 @@ one_first : (place : ℕ) (item : ItemValue) (left : List ItemValue) (b : Bool) 
 one_first place item left b is =
     ap (λ b. cond b (Some record { place = place; content = content_by item.kind item.bytes }) (first_tracks (place + length item.bytes) left)) is
 
-pub other_item : (first : ReadLog) (place : ℕ) (found : FoundItem) (old reading : Reading) (before now : ReadLog) (so_far : NoTracks first old before place)
+pub other_item : (first : ReadLog) (place : ℕ) (found : FoundItem) (old reading : ReaderState) (before now : ReadLog) (so_far : NoTracks first old before place)
     → GivesItem first so_far.items found reading now → is_tracks found.kind ≡ false → NoTracks first reading now (place + found.length)
 other_item first place found old reading before now so_far gives isnt = record {
   items = so_far.items ++ item_of found gives.bytes ∷ [];
@@ -128,7 +127,7 @@ other_item first place found old reading before now so_far gives isnt = record {
 }
 
 -- what was read of the file, and its items, whatever follows
-module _ (first : ReadLog) (place : ℕ) (found : FoundItem) (old reading : Reading) (before now : ReadLog) (so_far : NoTracks first old before place)
+module _ (first : ReadLog) (place : ℕ) (found : FoundItem) (old reading : ReaderState) (before now : ReadLog) (so_far : NoTracks first old before place)
     (gives : GivesItem first so_far.items found reading now) (is : is_tracks found.kind ≡ true) (tracks : FoundTracks)
     (placed : tracks.place ≡ Some place) (content : tracks.content.items ≡ content_by found.kind gives.bytes) where
   abbrev given : List ItemValue
@@ -163,7 +162,7 @@ module _ (first : ReadLog) (place : ℕ) (found : FoundItem) (old reading : Read
   pub tracks_there : FindsTracks tracks first now
   tracks_there = finds reading.held.ended refl
 
-pub no_tracks_there : (first : ReadLog) (place : ℕ) (old : Reading) (before now : ReadLog) (so_far : NoTracks first old before place) (tracks : FoundTracks)
+pub no_tracks_there : (first : ReadLog) (place : ℕ) (old : ReaderState) (before now : ReadLog) (so_far : NoTracks first old before place) (tracks : FoundTracks)
     → tracks.place ≡ None → AreAllItems first so_far.items now → FindsTracks tracks first now
 no_tracks_there first place old before now so_far tracks none are = record {
   read = bytes_of_items so_far.items;
@@ -171,7 +170,6 @@ no_tracks_there first place old before now so_far tracks none are = record {
   is = inr (
     are.end,
     λ all bytes is.
-
         let same : all ≡ so_far.items = items_are_one (bytes_of_items so_far.items) all so_far.items bytes is are.are in
         ap (λ o. option_map (λ p. let v : PlacedContent = record { place = p; content = tracks.content.items } in v) o) none
         ∙ sym so_far.none ∙ ap (first_tracks 0) (sym same),
@@ -192,7 +190,7 @@ content_kept (kind.Element head) kept all same is = ap (content_by (kind.Element
 content_kept (kind.Endless head) kept all same is = refl
 content_kept kind.Unknown kept all same is = refl
 
-module _ (first : ReadLog) (items : List ItemValue) (found : FoundItem) (reading : Reading) (now : ReadLog) (gives : GivesItem first items found reading now)
+module _ (first : ReadLog) (items : List ItemValue) (found : FoundItem) (reading : ReaderState) (now : ReadLog) (gives : GivesItem first items found reading now)
     (kept : List ℕ) (same : kept ≡ reading.given) where
   pub head_given : HasItsHead found.kind kept
   head_given = head_kept found.kind kept gives.bytes (λ known. same ∙ gives.given known)

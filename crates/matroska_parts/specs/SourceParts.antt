@@ -1,4 +1,4 @@
--- The parts of a file that is read from sources: its first Tracks is looked for in one, and the parts of its items are told in another.
+-- The parts of a file that is read from sources: its first Tracks is looked for in one, and the parts of its items are reported of another.
 use Rattle.std.specs.Prelude.{ℕ, ◌+◌, ◌^◌, ◌<◌, ◌≡◌, ◌≢◌, ◌⊎◌, List, ◌++◌, length, Option, option_map, IsSome, Result, Ok, Err}
 use Rattle.std.specs.Io.KnownBytes.{IsAtEnd}
 use Rattle.ffv1_bits.specs.Parity.{AreBytes}
@@ -12,10 +12,9 @@ use Rattle.ebml_reader.specs.declared.fault.ReaderFault.{ReaderFault}
 use Rattle.ebml_reader.specs.declared.settled.FoundItem.{FoundItem}
 use Rattle.matroska.specs.declared.track.Track.{Track}
 use Rattle.matroska_parts.specs.TopElements.{top_element_of}
-use Rattle.matroska_parts.specs.ItemParts.{PlacedContent, first_tracks}
-use Rattle.matroska_parts.specs.Inner.FileTracks.{HasFacts}
+use Rattle.matroska_parts.specs.ItemParts.{PlacedContent, first_tracks, AreItemPartsBy}
 use Rattle.matroska_parts.specs.declared.tracks_search.FoundTracks.{FoundTracks}
-use Rattle.matroska_parts.specs.declared.placed_tracks.PlacedTracks.{PlacedTracks}
+use Rattle.matroska_parts.specs.declared.parts.Part.{Part}
 
 -- ---- the first Tracks
 
@@ -56,10 +55,11 @@ pub record IsGivenAt (place : ℕ) (item : FoundItem) (kept all : List ℕ) : Ty
   pub headed : HasItsHead item.kind all
   pub room : place + length all < 2 ^ 63
 
--- the tracks of a file that blocks can name
-abbrev pub tracks_in : PlacedTracks → List Track
-tracks_in tracks = tracks.file.named.tracks.items
+-- parts like these of an item were added to others
+abbrev pub AddsItemParts : Kind → Option PlacedContent → List Track → ℕ → List ℕ → (old new : List Part) → Type 0
+AddsItemParts kind first tracks place bytes old new = (more : List Part) × (new ≡ old ++ more) × AreItemPartsBy kind first tracks place bytes more
 
--- what is known of each of them is right
-abbrev pub AreKnown : PlacedTracks → Type 0
-AreKnown tracks = HasFacts tracks.file
+-- the tracks of a file that blocks can name, and where its first Tracks begins
+pub record KnownTracks : Type 0 where
+  pub tracks : List Track
+  pub first : Option ℕ

@@ -5,7 +5,6 @@ mod blocks;
 mod facts;
 mod file_tracks;
 mod files;
-mod tracks_search;
 mod items;
 mod masters;
 mod openings;
@@ -14,11 +13,12 @@ mod payloads;
 mod placed_tracks;
 mod records;
 mod top_elements;
+mod tracks_search;
 
 pub use files::{FileParts, file_parts};
-pub use tracks_search::{FoundTracks, find_tracks};
 pub use parts::{
     BlockPart, Closing, Crc32, Opening, Part, Payload, RecordPart, Span, Standing, TrackBlock,
 };
 pub use placed_tracks::PlacedTracks;
 pub use top_elements::{TopElement, top_element};
+pub use tracks_search::{FoundTracks, find_tracks};

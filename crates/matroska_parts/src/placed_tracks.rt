@@ -1,31 +1,41 @@
 //! The parts of items, by the tracks of a file.
 
 use crate::file_tracks::FileTracks;
-use crate::tracks_search::{FoundTracks, tracks_found};
 use crate::items::push_item;
 use crate::parts::{Part, Span};
+use crate::tracks_search::{FoundTracks, tracks_found};
 use ebml::Kind;
 use ebml_reader::FoundItem;
 use matroska::Track;
 use std::alloc::{AllocError, Global};
+use std::marker::Model;
 
-/// The tracks of a file that blocks can name, and where the Tracks that describes them begins: by these the parts of its items are told.
+/// The tracks of a file that blocks can name, and where the Tracks that describes them begins: by these the parts of its items are found.
 #[derive(Drop)]
 pub struct PlacedTracks<'a> {
-    pub(crate) file: FileTracks<'a>,
-    pub(crate) first: Option<u64>,
+    file: FileTracks<'a>,
+    first: Option<u64>,
+}
+
+impl<'a> Model for PlacedTracks<'a> {
+    ghost use Rattle.matroska_parts.specs.SourceParts.{KnownTracks};
+    ghost use Rattle.matroska_parts.specs.Inner.FileTracks.{HasFacts};
+
+    ghost Value = { KnownTracks };
+
+    ghost view = { λ s. record { tracks = s.file.named.tracks.items; first = s.first } };
+
+    ghost invariant = { λ s. HasFacts s.file };
 }
 
 impl<'a> PlacedTracks<'a> {
     ghost use Rattle.std.specs.Prelude.{ℕ, ◌≡◌, List, Option, IfOk, OnOk};
-    ghost use Rattle.matroska_parts.specs.ItemParts.{PlacedContent, AreTracksBy, AreItemPartsBy};
-    ghost use Rattle.matroska_parts.specs.SourceParts.{found_in, SaysWhere, IsGivenAt, tracks_in, AreKnown};
-    ghost use Rattle.matroska_parts.specs.Inner.Added.{AddsParts};
+    ghost use Rattle.matroska_parts.specs.ItemParts.{PlacedContent, AreTracksBy};
+    ghost use Rattle.matroska_parts.specs.SourceParts.{found_in, SaysWhere, IsGivenAt, AddsItemParts};
 
     /// Those that a Tracks describes. It fails only if an allocation fails.
     pub fn new(alloc: Global, found: &'a FoundTracks) -> Result<PlacedTracks<'a>, AllocError>
-        ensures tracks { IfOk result (λ tracks. AreTracksBy (found_in found.now) (tracks_in tracks)) }
-        ensures known { IfOk result AreKnown }
+        ensures tracks { IfOk result (λ tracks. AreTracksBy (found_in found.now) tracks.tracks) }
         ensures first { IfOk result (λ tracks. SaysWhere tracks.first (found_in found.now)) }
     {
         let file = tracks_found(alloc, found)?;
@@ -35,7 +45,7 @@ impl<'a> PlacedTracks<'a> {
 
     /// The tracks, in the order of the file's Tracks.
     pub fn as_slice(&self) -> &[Track<'a>]
-        ensures { result.now ≡ tracks_in self.now }
+        ensures { result.now ≡ self.now.tracks }
     {
         self.file.named.as_slice()
     }
@@ -49,10 +59,9 @@ impl<'a> PlacedTracks<'a> {
         bytes: &[u8],
         parts: &mut Vec<Part>,
     ) -> Result<(), AllocError>
-        requires known { AreKnown self.now }
-        requires given { (all : List ℕ) × IsGivenAt place item.now bytes.now all }
+        requires { (all : List ℕ) × IsGivenAt place item.now bytes.now all }
         ensures { (all : List ℕ) (found : Option PlacedContent) → IsGivenAt place item.now bytes.now all → SaysWhere self.now.first found
-            → OnOk result (AddsParts (AreItemPartsBy item.now.kind found (tracks_in self.now) place all) parts.old.items parts.new.items) }
+            → OnOk result (AddsItemParts item.now.kind found self.now.tracks place all parts.old.items parts.new.items) }
     {
         if let Kind::Unknown = item.kind {
             let size = item.length;
