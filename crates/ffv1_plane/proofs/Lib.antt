@@ -11,6 +11,7 @@ pub mod OnePlane
 pub mod OneRange
 pub mod OneRice
 pub mod OneStuck
+pub mod Orders
 pub mod Medians
 pub mod Pictures
 pub mod Prefixes

@@ -290,18 +290,6 @@ begins f g step (suc n) m h = elim (cases_eq m (suc n)) [
       (before.0 ++ g n, step n ∙ ap (λ l. l ++ g n) before.1 ∙ append_assoc (f m) before.0 (g n))
 ]
 
-pub rows_begin : (p n m : ℕ) → m ≤ n → (rest : List Line) × (lines_of_plane p n ≡ lines_of_plane p m ++ rest)
-unfolding lines_of_plane
-rows_begin p n m h = begins (lines_of_plane p) (λ n. line_at p n ∷ []) (λ n. refl) n m h
-
-pub planes_begin : (height : ℕ → ℕ) (n m : ℕ) → m ≤ n → (rest : List Line) × (plane_after_plane height n ≡ plane_after_plane height m ++ rest)
-unfolding plane_after_plane
-planes_begin height n m h = begins (plane_after_plane height) (λ n. lines_of_plane n (height n)) (λ n. refl) n m h
-
-pub row_begins : (row n m : ℕ) → m ≤ n → (rest : List Line) × (lines_of_row row n ≡ lines_of_row row m ++ rest)
-unfolding lines_of_row
-row_begins row n m h = begins (lines_of_row row) (λ n. line_at n row ∷ []) (λ n. refl) n m h
-
 pub all_rows_begin : (count n m : ℕ) → m ≤ n → (rest : List Line) × (row_after_row count n ≡ row_after_row count m ++ rest)
 unfolding row_after_row
 all_rows_begin count n m h = begins (row_after_row count) (λ n. lines_of_row n count) (λ n. refl) n m h
@@ -313,11 +301,3 @@ grown_place n row old new h empty is =
     let sum : length new.samples ≡ length old.samples + length h.samples = ap length h.pushed ∙ length-append old.samples h.samples in
     let longer : length h.samples ≡ row * new.width = h.longer ∙ ap (λ k. k * old.width) is ∙ ap (λ w. row * w) (sym h.width) in
     omega (arith, sum, longer, empty)
-
--- .. and where it stands still
-pub grown_after : (n row : ℕ) (old new : RowsRead) → IsGrown n old new → length old.samples ≡ row * old.width → n ≡ 0 → length new.samples ≡ row * new.width
-grown_after n row old new h place is =
-    let sum : length new.samples ≡ length old.samples + length h.samples = ap length h.pushed ∙ length-append old.samples h.samples in
-    let none : length h.samples ≡ 0 * old.width = h.longer ∙ ap (λ k. k * old.width) is in
-    let same : row * old.width ≡ row * new.width = ap (λ w. row * w) (sym h.width) in
-    omega (arith, sum, none, place, same)

@@ -1,14 +1,15 @@
 -- A row of a plane of a slice, by the group of its plane.
-use Rattle.std.proofs.Common.{◌++◌, ◌^◌, add-one, ◌≡◌, ◌≢◌, ℕ, zero, suc, ◌+◌, ◌*◌, ◌<◌, List, [], ◌∷◌, length, get_or, set, refl, sym, ap, ◌∙◌, subst, arith}
+use Rattle.std.proofs.Common.{◌++◌, ◌^◌, ◌≡◌, ◌≢◌, ℕ, zero, suc, ◌*◌, ◌<◌, List, [], ◌∷◌, length, get_or, set, refl, sym, ap, ◌∙◌, subst, arith, append_assoc}
 use Rattle.std.specs.Prelude.{IsOk}
 use Rattle.std.proofs.lemmas.List.{get_or_read}
 use Rattle.ffv1_plane.specs.Samples.{coding_at}
 use Rattle.ffv1_range.proofs.Forms.{IsAtPlace, is_at_place}
-use Rattle.ffv1_plane.specs.Lines.{Line, line_at, lines_of_plane, plane_after_plane, lines_of_row, row_after_row}
+use Rattle.ffv1_plane.specs.Lines.{Line, line_at}
 use Rattle.ffv1_plane.specs.Inner.Rows.{RowsRead}
 use Rattle.ffv1_plane.specs.Inner.RangeRows.{IsSameShape, IsRangeRowRead, IsRangeRowRefused, IsRowFaultOf}
 use Rattle.ffv1_plane.specs.Inner.RangeLines.{PlanesCoding, LinesReader, no_rows, rows_at, AreLinesRead, AreLinesCut}
-use Rattle.ffv1_plane.specs.Inner.Planes.{coding_of_planes, lines_reader, HaveStates, HaveRead, lines_fault, IsLinesFaultOf}
+use Rattle.ffv1_plane.specs.Inner.Planes.{coding_of_planes, lines_reader, HaveStates, HaveRead, lines_fault, IsLinesFaultOf, HasReadLine, IsLineFaultOf}
+use Rattle.ffv1_plane.specs.Inner.InTurn.{AreReadInTurn, none, more, AreCutInTurn}
 use Rattle.ffv1_plane.specs.RangeReading.{group_states}
 use Rattle.ffv1_plane.specs.declared.planes.RangeLines.{RangeLines}
 use Rattle.ffv1_plane.specs.declared.planes.SlicePlanes.{SlicePlanes}
@@ -101,54 +102,38 @@ none_read planes reader alive states =
     let at = is_at_place reader.decoder alive in
     record { same = refl; states = states; read = no_lines (coding_of_planes planes) planes.lines.items (lines_reader reader) at.0 at.1 }
 
-pub read_alive : (old new : SlicePlanes) (reader after : RangeLines) (lines : List Line) → HaveRead old reader lines new after → IsOk after.decoder.at
-read_alive old new reader after lines h = subst (λ r. IsOk r.at) (sym h.read.to) refl
-
--- lines that were read after others, by what was planes and reader then
-pub read_more : (xs ys all : List Line) (old mid new : SlicePlanes) (reader between after : RangeLines) → HaveRead old reader xs mid between
-    → coding_of_planes new ≡ coding_of_planes mid → HaveStates new after
-    → AreLinesRead (coding_of_planes mid) ys mid.lines.items (lines_reader between) new.lines.items (lines_reader after) → all ≡ xs ++ ys
-    → HaveRead old reader all new after
-read_more xs ys all old mid new reader between after h same states read is =
+-- lines that were read after others
+pub read_more : (old mid new : SlicePlanes) (reader between after : RangeLines) (xs ys : List Line) → HaveRead old reader xs mid between
+    → HaveRead mid between ys new after → HaveRead old reader (xs ++ ys) new after
+read_more old mid new reader between after xs ys h k =
     record {
-      same = same ∙ h.same;
-      states = states;
+      same = k.same ∙ h.same;
+      states = k.states;
       read =
-          subst (λ lines. AreLinesRead (coding_of_planes old) lines old.lines.items (lines_reader reader) new.lines.items (lines_reader after)) (sym is)
-          (lines_read_both (coding_of_planes old) xs ys old.lines.items mid.lines.items new.lines.items (lines_reader reader) (lines_reader between) (lines_reader after) h.read
-          (subst (λ c. AreLinesRead c ys mid.lines.items (lines_reader between) new.lines.items (lines_reader after)) h.same read));
+          lines_read_both (coding_of_planes old) xs ys old.lines.items mid.lines.items new.lines.items (lines_reader reader) (lines_reader between) (lines_reader after) h.read
+          (subst (λ c. AreLinesRead c ys mid.lines.items (lines_reader between) new.lines.items (lines_reader after)) h.same k.read);
     }
 
--- lines that are cut after others, which begin a whole order
-pub cut_in : (xs ys all rest : List Line) (old mid : SlicePlanes) (reader between : RangeLines) (fault : LinesFault) → HaveRead old reader xs mid between
-    → IsLinesFaultOf (coding_of_planes mid) ys mid.lines.items (lines_reader between) fault → all ≡ (xs ++ ys) ++ rest
-    → IsLinesFaultOf (coding_of_planes old) all old.lines.items (lines_reader reader) fault
-cut_in xs ys all rest old mid reader between (lines_faults.Sample fault plane y x) h cut is =
-    subst (λ lines. AreLinesCut (coding_of_planes old) lines old.lines.items (lines_reader reader) fault plane y x) (sym is)
-    (cut_before (coding_of_planes old) (xs ++ ys) rest old.lines.items (lines_reader reader) fault plane y x
+-- lines that are cut after others, before the rest of an order
+pub cut_in : (old mid : SlicePlanes) (reader between : RangeLines) (xs ys rest : List Line) (fault : LinesFault) → HaveRead old reader xs mid between
+    → IsLinesFaultOf (coding_of_planes mid) ys mid.lines.items (lines_reader between) fault
+    → IsLinesFaultOf (coding_of_planes old) ((xs ++ ys) ++ rest) old.lines.items (lines_reader reader) fault
+cut_in old mid reader between xs ys rest (lines_faults.Sample fault plane y x) h cut =
+    cut_before (coding_of_planes old) (xs ++ ys) rest old.lines.items (lines_reader reader) fault plane y x
     (cut_after (coding_of_planes old) xs ys old.lines.items mid.lines.items (lines_reader reader) (lines_reader between) fault plane y x h.read
-    (subst (λ c. AreLinesCut c ys mid.lines.items (lines_reader between) fault plane y x) h.same cut)))
-cut_in xs ys all rest old mid reader between lines_faults.Memory h cut is = tt
+    (subst (λ c. AreLinesCut c ys mid.lines.items (lines_reader between) fault plane y x) h.same cut))
+cut_in old mid reader between xs ys rest lines_faults.Memory h cut = tt
 
--- ---- the coded orders, one step further
+-- ---- lines in turn
 
-pub rows_more : (plane n : ℕ) → lines_of_plane plane (n + 1) ≡ lines_of_plane plane n ++ line_at plane n ∷ []
-unfolding lines_of_plane
-rows_more plane n = ap (lines_of_plane plane) (add-one n)
+pub all_read : (old new : SlicePlanes) (reader after : RangeLines) (lines : List Line) → IsOk reader.decoder.at → HaveStates old reader
+    → AreReadInTurn HasReadLine lines old reader new after → HaveRead old reader lines new after
+all_read old new reader after lines alive states (none planes r) = none_read old reader alive states
+all_read old new reader after lines alive states (more xs line o mid n r between a before one) =
+    read_more old mid new reader between after xs (line ∷ []) (all_read old mid reader between xs alive states before) one
 
-pub planes_more : (height : ℕ → ℕ) (n : ℕ) → plane_after_plane height (n + 1) ≡ plane_after_plane height n ++ lines_of_plane n (height n)
-unfolding plane_after_plane
-planes_more height n = ap (plane_after_plane height) (add-one n)
-
-pub row_more : (row n : ℕ) → lines_of_row row (n + 1) ≡ lines_of_row row n ++ line_at n row ∷ []
-unfolding lines_of_row
-row_more row n = ap (lines_of_row row) (add-one n)
-
-pub all_rows_more : (count n : ℕ) → row_after_row count (n + 1) ≡ row_after_row count n ++ lines_of_row n count
-unfolding row_after_row
-all_rows_more count n = ap (row_after_row count) (add-one n)
-
--- the whole order, from a step on
-pub rest_of : (f : ℕ → List Line) (xs ys : List Line) (n : ℕ) (whole : List Line) → f (n + 1) ≡ xs ++ ys → (b : (rest : List Line) × (whole ≡ f (n + 1) ++ rest))
-    → whole ≡ (xs ++ ys) ++ b.0
-rest_of f xs ys n whole more b = b.1 ∙ ap (λ l. l ++ b.0) more
+pub all_cut : (old : SlicePlanes) (reader : RangeLines) (lines : List Line) (fault : LinesFault) → IsOk reader.decoder.at → HaveStates old reader
+    → AreCutInTurn HasReadLine IsLineFaultOf lines old reader fault → IsLinesFaultOf (coding_of_planes old) lines old.lines.items (lines_reader reader) fault
+all_cut old reader lines fault alive states k =
+    subst (λ l. IsLinesFaultOf (coding_of_planes old) l old.lines.items (lines_reader reader) fault) (append_assoc k.done (k.line ∷ []) k.later ∙ sym k.order)
+    (cut_in old k.planes reader k.between k.done (k.line ∷ []) k.later fault (all_read old k.planes reader k.between k.done alive states k.read) k.refused)

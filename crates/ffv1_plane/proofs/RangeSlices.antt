@@ -19,7 +19,7 @@ use Rattle.ffv1_plane.specs.RangeSlices.{slice_shape, lines_of, size_at, height_
 use Rattle.ffv1_plane.specs.Inner.Rows.{RowsRead}
 use Rattle.ffv1_plane.specs.Inner.RangeRows.{at_place, range_plane, next_row}
 use Rattle.ffv1_plane.specs.Inner.RangeLines.{PlanesCoding, no_rows, rows_at, plane_with, planes_with, count_in, IsGrown, AreSmall, AreLinesCut}
-use Rattle.ffv1_plane.specs.Inner.Planes.{group_tables, coding_of_planes, lines_reader, new_rows, AreNewPlanes, HaveStates, HaveRead, IsFresh, IsLinesFaultOf}
+use Rattle.ffv1_plane.specs.Inner.Planes.{group_tables, coding_of_planes, lines_reader, new_rows, AreNewPlanes, HaveRead, IsFresh, IsLinesFaultOf}
 use Rattle.ffv1_plane.specs.RangeReading.{group_states, HaveSliceStates, IsSliceRead, IsSliceFaultOf}
 use Rattle.ffv1_plane.specs.declared.planes.LinesFault.{LinesFault}
 use Rattle.ffv1_plane.specs.declared.planes.LinesFault.TheVariants as lines_faults
@@ -156,13 +156,15 @@ part_is_read r sets sizes planes rows n p more others new inside grown is =
 
 -- ---- states, and planes before their first row
 
-pub have_states : (r : RecordingValue) (sets : List ℕ) (sizes : List PlaneSize) (planes : SlicePlanes) (reader : RangeLines) → AreNewPlanes r sets sizes planes
-    → HaveSliceStates (slice_shape r sets sizes) reader → HaveStates planes reader
-have_states r sets sizes planes reader new h = λ p less.
+pub have_counts : (r : RecordingValue) (sets : List ℕ) (sizes : List PlaneSize) (planes : SlicePlanes) (count : ℕ → ℕ) → AreNewPlanes r sets sizes planes
+    → ((p : ℕ) → p < length sizes → count (slice_group r.setup.has_chroma p) ≡ set_contexts r.setup (slice_index sets (slice_group r.setup.has_chroma p)))
+    → (p : ℕ) → p < length planes.lines.items
+    → count (slice_group planes.has_chroma p) ≡ set_contexts (group_tables planes (slice_group planes.has_chroma p)).setup (group_tables planes (slice_group planes.has_chroma p)).set
+have_counts r sets sizes planes count new h p less =
     let inside : p < length sizes = omega (arith, less, ap length new.lines, length-map sizes (new_rows (coded_depth_of r))) in
     let tables = tables_of_group r sets sizes planes (slice_group r.setup.has_chroma p) (group_small r.setup.has_chroma p) new in
-    subst (λ b. length (group_states reader (slice_group b p)) ≡ set_contexts (group_tables planes (slice_group b p)).setup (group_tables planes (slice_group b p)).set)
-    (sym new.has_chroma) (h p inside ∙ sym (ap (λ (t : SetTables). set_contexts t.setup t.set) tables))
+    subst (λ b. count (slice_group b p) ≡ set_contexts (group_tables planes (slice_group b p)).setup (group_tables planes (slice_group b p)).set) (sym new.has_chroma)
+    (h p inside ∙ sym (ap (λ (t : SetTables). set_contexts t.setup t.set) tables))
 
 pub are_fresh : (r : RecordingValue) (sets : List ℕ) (sizes : List PlaneSize) (planes : SlicePlanes) → AreNewPlanes r sets sizes planes
     → (p : ℕ) → p < length sizes → IsFresh (rows_at planes.lines.items p)

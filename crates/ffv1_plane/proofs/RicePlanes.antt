@@ -1,5 +1,5 @@
 -- A row of Golomb-Rice codes of a plane of a slice, by the group of its plane.
-use Rattle.std.proofs.Common.{◌++◌, ◌^◌, ◌≡◌, ◌≢◌, ℕ, zero, suc, ◌<◌, List, Bool, [], ◌∷◌, length, get_or, set, refl, sym, ap, ◌∙◌, subst, arith}
+use Rattle.std.proofs.Common.{◌++◌, ◌^◌, ◌≡◌, ◌≢◌, ℕ, zero, suc, ◌<◌, List, Bool, [], ◌∷◌, length, get_or, set, refl, sym, ap, ◌∙◌, subst, arith, append_assoc}
 use Rattle.ffv1_plane.specs.Samples.{coding_at}
 use Rattle.ffv1_plane.specs.Lines.{Line, line_at}
 use Rattle.ffv1_range.specs.Setup.{set_contexts}
@@ -10,7 +10,8 @@ use Rattle.ffv1_plane.specs.Inner.RangeRows.{IsSameShape}
 use Rattle.ffv1_plane.specs.Inner.RangeLines.{PlanesCoding, rows_at}
 use Rattle.ffv1_plane.specs.Inner.Planes.{group_tables, coding_of_planes}
 use Rattle.ffv1_plane.specs.Inner.RiceRows.{RowPlace, IsCodeRowRead, IsCodeRowRefused, IsRowCodesFaultOf}
-use Rattle.ffv1_plane.specs.Inner.RiceLines.{CodesPlace, rice_lines, codes_place, row_start, AreCodesRead, AreCodesCut, HaveCodes, HaveReadCodes, codes_fault, IsCutFor}
+use Rattle.ffv1_plane.specs.Inner.RiceLines.{CodesPlace, rice_lines, codes_place, row_start, AreCodesRead, AreCodesCut, HaveCodes, HaveReadCodes, codes_fault, IsCutFor, HasReadCodesOf, IsCodesFaultAt}
+use Rattle.ffv1_plane.specs.Inner.InTurn.{AreReadInTurn, none, more, AreCutInTurn}
 use Rattle.ffv1_plane.specs.declared.planes.SlicePlanes.{SlicePlanes}
 use Rattle.ffv1_plane.specs.declared.rice_planes.RiceLines.{RiceLines}
 use Rattle.ffv1_plane.specs.declared.rice_planes.OpenLines.{OpenLines}
@@ -100,33 +101,46 @@ still_have planes n reader after count same h p less =
 
 -- ---- lines after lines
 
-pub none_read : (is_rgb : Bool) (planes : SlicePlanes) (reader : OpenLines) → HaveCodes planes reader → HaveReadCodes is_rgb planes reader [] planes reader
-none_read is_rgb planes reader states =
-    record { same = refl; states = states; read = no_codes is_rgb (coding_of_planes planes) planes.lines.items (codes_place reader) }
+pub none_read : (planes : SlicePlanes) (reader : OpenLines) → HaveCodes planes reader → HaveReadCodes planes reader [] planes reader
+none_read planes reader states =
+    record { same = refl; states = states; rgb = refl; read = no_codes reader.is_rgb (coding_of_planes planes) planes.lines.items (codes_place reader) }
 
--- lines that were read after others, by what was planes and reader then
-pub read_more : (is_rgb : Bool) (xs ys all : List Line) (old mid new : SlicePlanes) (reader between after : OpenLines) → HaveReadCodes is_rgb old reader xs mid between
-    → coding_of_planes new ≡ coding_of_planes mid → HaveCodes new after
-    → AreCodesRead is_rgb (coding_of_planes mid) ys mid.lines.items (codes_place between) new.lines.items (codes_place after) → all ≡ xs ++ ys
-    → HaveReadCodes is_rgb old reader all new after
-read_more is_rgb xs ys all old mid new reader between after h same states read is =
+-- lines that were read after others
+pub read_more : (old mid new : SlicePlanes) (reader between after : OpenLines) (xs ys : List Line) → HaveReadCodes old reader xs mid between
+    → HaveReadCodes mid between ys new after → HaveReadCodes old reader (xs ++ ys) new after
+read_more old mid new reader between after xs ys h k =
     record {
-      same = same ∙ h.same;
-      states = states;
+      same = k.same ∙ h.same;
+      states = k.states;
+      rgb = k.rgb ∙ h.rgb;
       read =
-          subst (λ lines. AreCodesRead is_rgb (coding_of_planes old) lines old.lines.items (codes_place reader) new.lines.items (codes_place after)) (sym is)
-          (codes_both is_rgb (coding_of_planes old) xs ys old.lines.items mid.lines.items new.lines.items (codes_place reader) (codes_place between) (codes_place after) h.read
-          (subst (λ c. AreCodesRead is_rgb c ys mid.lines.items (codes_place between) new.lines.items (codes_place after)) h.same read));
+          codes_both reader.is_rgb (coding_of_planes old) xs ys old.lines.items mid.lines.items new.lines.items (codes_place reader) (codes_place between) (codes_place after) h.read
+          (subst (λ b. AreCodesRead b (coding_of_planes old) ys mid.lines.items (codes_place between) new.lines.items (codes_place after)) h.rgb
+          (subst (λ c. AreCodesRead between.is_rgb c ys mid.lines.items (codes_place between) new.lines.items (codes_place after)) h.same k.read));
     }
 
--- lines that are cut after others, which begin a whole order
-pub cut_in : (is_rgb : Bool) (xs ys all rest : List Line) (old mid : SlicePlanes) (reader between : OpenLines) (fault : CodesFault)
-    → HaveReadCodes is_rgb old reader xs mid between
-    → IsCutFor is_rgb (coding_of_planes mid) ys mid.lines.items (codes_place between) fault → all ≡ (xs ++ ys) ++ rest
-    → IsCutFor is_rgb (coding_of_planes old) all old.lines.items (codes_place reader) fault
-cut_in is_rgb xs ys all rest old mid reader between (codes_faults.Sample fault plane y x) h cut is =
-    subst (λ lines. AreCodesCut is_rgb (coding_of_planes old) lines old.lines.items (codes_place reader) fault plane y x) (sym is)
-    (cut_before is_rgb (coding_of_planes old) (xs ++ ys) rest old.lines.items (codes_place reader) fault plane y x
-    (cut_after is_rgb (coding_of_planes old) xs ys old.lines.items mid.lines.items (codes_place reader) (codes_place between) fault plane y x h.read
-    (subst (λ c. AreCodesCut is_rgb c ys mid.lines.items (codes_place between) fault plane y x) h.same cut)))
-cut_in is_rgb xs ys all rest old mid reader between codes_faults.Memory h cut is = tt
+-- lines that are cut after others, before the rest of an order
+pub cut_in : (old mid : SlicePlanes) (reader between : OpenLines) (xs ys rest : List Line) (fault : CodesFault) → HaveReadCodes old reader xs mid between
+    → IsCutFor between.is_rgb (coding_of_planes mid) ys mid.lines.items (codes_place between) fault
+    → IsCutFor reader.is_rgb (coding_of_planes old) ((xs ++ ys) ++ rest) old.lines.items (codes_place reader) fault
+cut_in old mid reader between xs ys rest (codes_faults.Sample fault plane y x) h cut =
+    cut_before reader.is_rgb (coding_of_planes old) (xs ++ ys) rest old.lines.items (codes_place reader) fault plane y x
+    (cut_after reader.is_rgb (coding_of_planes old) xs ys old.lines.items mid.lines.items (codes_place reader) (codes_place between) fault plane y x h.read
+    (subst (λ b. AreCodesCut b (coding_of_planes old) ys mid.lines.items (codes_place between) fault plane y x) h.rgb
+    (subst (λ c. AreCodesCut between.is_rgb c ys mid.lines.items (codes_place between) fault plane y x) h.same cut)))
+cut_in old mid reader between xs ys rest codes_faults.Memory h cut = tt
+
+-- ---- lines in turn
+
+pub all_read : (old new : SlicePlanes) (reader after : OpenLines) (lines : List Line) → HaveCodes old reader
+    → AreReadInTurn HasReadCodesOf lines old reader new after → HaveReadCodes old reader lines new after
+all_read old new reader after lines states (none planes r) = none_read old reader states
+all_read old new reader after lines states (more xs line o mid n r between a before one) =
+    read_more old mid new reader between after xs (line ∷ []) (all_read old mid reader between xs states before) one
+
+pub all_cut : (old : SlicePlanes) (reader : OpenLines) (lines : List Line) (fault : CodesFault) → HaveCodes old reader
+    → AreCutInTurn HasReadCodesOf IsCodesFaultAt lines old reader fault
+    → IsCutFor reader.is_rgb (coding_of_planes old) lines old.lines.items (codes_place reader) fault
+all_cut old reader lines fault states k =
+    subst (λ l. IsCutFor reader.is_rgb (coding_of_planes old) l old.lines.items (codes_place reader) fault) (append_assoc k.done (k.line ∷ []) k.later ∙ sym k.order)
+    (cut_in old k.planes reader k.between k.done (k.line ∷ []) k.later fault (all_read old k.planes reader k.between k.done states k.read) k.refused)

@@ -15,7 +15,7 @@ use Rattle.ffv1_plane.specs.RiceReading.{group_codes, HaveSliceCodes, AreValuesO
 use Rattle.ffv1_plane.specs.Inner.Rows.{RowsRead}
 use Rattle.ffv1_plane.specs.Inner.RangeLines.{no_rows, rows_at, planes_with, count_in}
 use Rattle.ffv1_plane.specs.Inner.Planes.{coding_of_planes, AreNewPlanes}
-use Rattle.ffv1_plane.specs.Inner.RiceLines.{rice_lines, codes_place, HaveDepth, AreCodesCut, IsCutFor, HaveReadCodes}
+use Rattle.ffv1_plane.specs.Inner.RiceLines.{rice_lines, codes_place, HaveDepth, AreCodesRead, AreCodesCut, IsCutFor}
 use Rattle.ffv1_plane.specs.declared.planes.PlaneSize.{PlaneSize}
 use Rattle.ffv1_plane.specs.declared.planes.SlicePlanes.{SlicePlanes}
 use Rattle.ffv1_plane.specs.declared.rice_planes.OpenLines.{OpenLines}
@@ -84,33 +84,33 @@ new_depth r sets sizes planes new p less =
 pub slice_is_decoded : (r : RecordingValue) (sets : List ℕ) (sizes : List PlaneSize) (planes now : SlicePlanes) (reader after : OpenLines)
     → AreNewPlanes r sets sizes planes → reader.codes.index ≡ 0 → HaveSliceCodes (slice_shape r sets sizes) (rice_lines reader)
     → ((p : ℕ) → p < length sizes → r.is_rgb ≡ true → height_at sizes p ≡ height_at sizes 0)
-    → HaveReadCodes r.is_rgb planes reader (lines_of r.is_rgb sizes) now after
+    → AreCodesRead r.is_rgb (coding_of_planes planes) (lines_of r.is_rgb sizes) planes.lines.items (codes_place reader) now.lines.items (codes_place after)
     → AreCodesDecoded (slice_shape r sets sizes) (rice_lines reader) (rice_lines after) (map (λ rows. rows.samples) now.lines.items)
 slice_is_decoded r sets sizes planes now reader after new start states same h =
     let shape = slice_shape r sets sizes in
     let n = coded_depth_of r in
     let lines : List Line = lines_of r.is_rgb sizes in
     let c = coding_of_planes planes in
-    let count : length now.lines.items ≡ length sizes = h.read.count ∙ new_count r sets sizes planes new in
+    let count : length now.lines.items ≡ length sizes = h.count ∙ new_count r sets sizes planes new in
     let samples : List (List ℕ) = map (λ (rows : RowsRead). rows.samples) now.lines.items in
     let f : ℕ → Plane = λ p. (planes_with c now.lines.items (λ q. []) p).plane in
     let g : ℕ → Plane = λ p. (slice_plane shape samples p).plane in
     let alike : (p : ℕ) → p < length sizes → f p ≡ g p = λ p less.
-    ap (λ z. z.plane) (part_is_read r sets sizes planes now.lines.items (count_in p lines) p [] samples new less (h.read.grown p)
+    ap (λ z. z.plane) (part_is_read r sets sizes planes now.lines.items (count_in p lines) p [] samples new less (h.grown p)
     (append-nil (rows_at now.lines.items p).samples ∙ sym (get_or-map (λ (z : RowsRead). z.samples) now.lines.items p no_rows [] (omega (arith, less, count))))) in
     let groups : c.group ≡ group_at shape = ap slice_group new.has_chroma in
     let below = orders_below r.is_rgb sizes in
     let sizes_are : ArePlanesOfSizes n sizes samples = record {
       count = length-map now.lines.items (λ (rows : RowsRead). rows.samples) ∙ count;
       each = λ p less.
-          plane_is_whole r sets sizes planes now.lines.items new (count_in p lines) p less (omega (arith, less, count)) (h.read.grown p)
+          plane_is_whole r sets sizes planes now.lines.items new (count_in p lines) p less (omega (arith, less, count)) (h.grown p)
           (order_counts r.is_rgb sizes p less (same p less));
     } in
     record {
       sizes = sizes_are;
-      states = λ p less. h.read.same_states (group_at shape p) (group_small r.setup.has_chroma p) ∙ states p less;
+      states = λ p less. h.same_states (group_at shape p) (group_small r.setup.has_chroma p) ∙ states p less;
       spelled = λ values fresh.
-          let one = h.read.spelled n (new_depth r sets sizes planes new) values fresh (λ q. []) in
+          let one = h.spelled n (new_depth r sets sizes planes new) values fresh (λ q. []) in
           record {
             sizes = sizes_are;
             words = one.front;
@@ -122,7 +122,7 @@ slice_is_decoded r sets sizes planes now reader after new start states same h =
                 one.spells);
           };
       left = λ values fresh.
-          let one = h.read.spelled n (new_depth r sets sizes planes new) values fresh (λ q. []) in
+          let one = h.spelled n (new_depth r sets sizes planes new) values fresh (λ q. []) in
           subst (λ v. AreGroupsAfter n v (group_codes (rice_lines after)))
           (leaves_as f g c.group (group_at shape) (is_anew_at r.is_rgb) (length sizes) values lines alike groups below) one.states_are;
     }

@@ -7,6 +7,8 @@ pub mod RangeLines
 pub mod RiceRows
 pub mod RiceLines
 pub mod Planes
+pub mod Orders
+pub mod InTurn
 pub mod Readers
 pub mod Rows
 pub mod Sums

@@ -1,6 +1,7 @@
 //! The picture of a tile, from the content of its slice (RFC 9043, sections 3.1 to 3.5, 3.8.2 and 4.7).
 #![tactic(auto)]
 
+mod coded_order;
 mod first_rows;
 mod lines;
 mod neighbours;
@@ -9,6 +10,7 @@ mod planes;
 mod range_rows;
 mod rice_planes;
 mod rice_rows;
+mod row_reader;
 mod run;
 mod tables;
 mod tile;

@@ -10,8 +10,10 @@ ghost use Rattle.ffv1_plane.specs.RangeLaws.{OneRangeReading, StuckRangeCodesNot
 ghost use Rattle.ffv1_plane.specs.RangeReading.{IsPlaneSize, group_states, start_states, HaveSliceStates, IsSliceRead, IsSliceFaultOf, AreCodedAt};
 ghost use Rattle.ffv1_plane.specs.declared.planes.LinesFault.TheVariants as LinesFault;
 
+use crate::coded_order::PlaneRow;
 use crate::lines::Lines;
 use crate::range_rows::{DifferenceFault, RowFault, read_range_row};
+use crate::row_reader::{RowReader, read_lines};
 use crate::tables::Tables;
 use ffv1_range::{RangeDecoder, Recording};
 use std::alloc::{AllocError, Global};
@@ -243,118 +245,6 @@ impl SlicePlanes<'_> {
         }
     }
 
-    /// Reads the first rows of a plane, of which none was read.
-    fn read_plane<'a>(
-        &mut self,
-        reader: RangeLines<'a>,
-        plane: usize,
-        height: usize,
-    ) -> Result<RangeLines<'a>, LinesFault>
-        requires alive { IsOk reader.decoder.at }
-        requires states { HaveStates self.old reader }
-        requires inside { plane < length self.old.lines.items }
-        requires fresh { IsFresh (rows_at self.old.lines.items plane) }
-        ensures count { length self.new.lines.items ≡ length self.old.lines.items }
-        ensures read { IfOk result (HaveRead self.old reader.entry (lines_of_plane plane height) self.new) }
-        ensures err { IfErr result (IsLinesFaultOf (coding_of_planes self.old) (lines_of_plane plane height) self.old.lines.items (lines_reader reader.entry)) }
-    {
-        let mut reader = reader;
-        for row in 0..height {
-            reader = self.read_line(reader, plane, row)?;
-        }
-        Ok(reader)
-    }
-
-    /// Reads all rows of planes of these sizes, of which none was read, one plane after the other.
-    fn read_plane_after_plane<'a>(
-        &mut self,
-        reader: RangeLines<'a>,
-        sizes: &[PlaneSize],
-    ) -> Result<RangeLines<'a>, LinesFault>
-        requires alive { IsOk reader.decoder.at }
-        requires states { HaveStates self.old reader }
-        requires inside { length sizes.now ≤ length self.old.lines.items }
-        requires fresh { (p : ℕ) → p < length sizes.now → IsFresh (rows_at self.old.lines.items p) }
-        ensures count { length self.new.lines.items ≡ length self.old.lines.items }
-        ensures read { IfOk result (HaveRead self.old reader.entry (plane_after_plane (height_at sizes.now) (length sizes.now)) self.new) }
-        ensures err { IfErr result (IsLinesFaultOf (coding_of_planes self.old) (plane_after_plane (height_at sizes.now) (length sizes.now))
-            self.old.lines.items (lines_reader reader.entry)) }
-    {
-        let mut reader = reader;
-        for plane in 0..sizes.len() {
-            reader = self.read_plane(reader, plane, sizes[plane].height)?;
-        }
-        Ok(reader)
-    }
-
-    /// Reads a row of each of the first planes, of which the same rows were read.
-    fn read_row<'a>(
-        &mut self,
-        reader: RangeLines<'a>,
-        count: usize,
-        row: usize,
-    ) -> Result<RangeLines<'a>, LinesFault>
-        requires alive { IsOk reader.decoder.at }
-        requires states { HaveStates self.old reader }
-        requires inside { count ≤ length self.old.lines.items }
-        requires start { (p : ℕ) → p < count → (rows_at self.old.lines.items p).x ≡ 0 }
-        requires place { (p : ℕ) → p < count → length (rows_at self.old.lines.items p).samples ≡ row * (rows_at self.old.lines.items p).width }
-        ensures count { length self.new.lines.items ≡ length self.old.lines.items }
-        ensures read { IfOk result (HaveRead self.old reader.entry (lines_of_row row count) self.new) }
-        ensures err { IfErr result (IsLinesFaultOf (coding_of_planes self.old) (lines_of_row row count) self.old.lines.items (lines_reader reader.entry)) }
-    {
-        let mut reader = reader;
-        for plane in 0..count {
-            reader = self.read_line(reader, plane, row)?;
-        }
-        Ok(reader)
-    }
-
-    /// Reads the first rows of the first planes, of which none was read, each row in all of them before the next.
-    fn read_row_after_row<'a>(
-        &mut self,
-        reader: RangeLines<'a>,
-        count: usize,
-        height: usize,
-    ) -> Result<RangeLines<'a>, LinesFault>
-        requires alive { IsOk reader.decoder.at }
-        requires states { HaveStates self.old reader }
-        requires inside { count ≤ length self.old.lines.items }
-        requires fresh { (p : ℕ) → p < count → IsFresh (rows_at self.old.lines.items p) }
-        ensures count { length self.new.lines.items ≡ length self.old.lines.items }
-        ensures read { IfOk result (HaveRead self.old reader.entry (row_after_row count height) self.new) }
-        ensures err { IfErr result (IsLinesFaultOf (coding_of_planes self.old) (row_after_row count height) self.old.lines.items (lines_reader reader.entry)) }
-    {
-        let mut reader = reader;
-        for row in 0..height {
-            reader = self.read_row(reader, count, row)?;
-        }
-        Ok(reader)
-    }
-
-    /// Reads all lines of new planes in coded order: those of RGB row after row, others plane after plane.
-    fn read_all<'a>(
-        &mut self,
-        reader: RangeLines<'a>,
-        is_rgb: bool,
-        sizes: &[PlaneSize],
-    ) -> Result<RangeLines<'a>, LinesFault>
-        requires alive { IsOk reader.decoder.at }
-        requires states { HaveStates self.old reader }
-        requires some { 1 ≤ length sizes.now }
-        requires inside { length sizes.now ≤ length self.old.lines.items }
-        requires fresh { (p : ℕ) → p < length sizes.now → IsFresh (rows_at self.old.lines.items p) }
-        ensures count { length self.new.lines.items ≡ length self.old.lines.items }
-        ensures read { IfOk result (HaveRead self.old reader.entry (lines_of is_rgb sizes.now) self.new) }
-        ensures err { IfErr result (IsLinesFaultOf (coding_of_planes self.old) (lines_of is_rgb sizes.now) self.old.lines.items (lines_reader reader.entry)) }
-    {
-        if is_rgb {
-            self.read_row_after_row(reader, sizes.len(), sizes[0].height)
-        } else {
-            self.read_plane_after_plane(reader, sizes)
-        }
-    }
-
     /// The samples of planes whose rows are ended.
     pub(crate) fn into_samples(self, alloc: Global) -> Result<Vec<Vec<u32>>, AllocError>
         requires { (p : ℕ) → p < length self.lines.items → (rows_at self.lines.items p).x ≡ 0 }
@@ -373,6 +263,27 @@ impl SlicePlanes<'_> {
             planes.push(plane.into_rows())?;
         }
         Ok(planes)
+    }
+}
+
+impl<'a> RowReader for RangeLines<'a> {
+    type Fault = LinesFault;
+
+    ghost use Rattle.std.specs.Prelude.{IsOk};
+    ghost use Rattle.ffv1_plane.specs.Inner.Planes.{HaveStates, HasReadLine, IsLineFaultOf};
+
+    ghost can_read = { λ planes reader. IsOk reader.decoder.at × HaveStates planes reader };
+
+    ghost reads = { HasReadLine };
+
+    ghost refuses = { IsLineFaultOf };
+
+    fn read_row(
+        self,
+        planes: &mut SlicePlanes,
+        line: PlaneRow,
+    ) -> Result<RangeLines<'a>, LinesFault> {
+        planes.read_line(self, line.plane, line.row)
     }
 }
 
@@ -425,7 +336,7 @@ pub fn read_range_planes<'a>(
     let Ok(mut planes) = SlicePlanes::new(alloc, recording, sets, sizes) else {
         return Err(LinesFault::Memory);
     };
-    let reader = planes.read_all(reader, recording.is_rgb(), sizes)?;
+    let reader = read_lines(&mut planes, reader, recording.is_rgb(), sizes)?;
     let Ok(samples) = planes.into_samples(alloc) else {
         return Err(LinesFault::Memory);
     };

@@ -14,9 +14,11 @@ ghost use Rattle.ffv1_plane.specs.Inner.RangeLines.{rows_at};
 ghost use Rattle.ffv1_plane.specs.Inner.RiceLines.{codes_place, HaveCodes, AreCodesRead, IsCutFor, HaveReadCodes, codes_fault};
 ghost use Rattle.ffv1_plane.specs.declared.rice_planes.CodesFault.TheVariants as CodesFault;
 
+use crate::coded_order::PlaneRow;
 use crate::lines::Lines;
 use crate::planes::{Group, PlaneSize, SlicePlanes, group_of};
 use crate::rice_rows::{RowCodes, RowCodesFault, read_rice_row};
+use crate::row_reader::{RowReader, read_lines};
 use ffv1_bits::Bits;
 use ffv1_range::Recording;
 use ffv1_rice::{CodeFault, RunIndex, VlcState};
@@ -98,6 +100,7 @@ pub(crate) struct OpenLines<'b> {
     luma: Vec<VlcState>,
     chroma: Vec<VlcState>,
     alpha: Vec<VlcState>,
+    is_rgb: bool,
 }
 
 /// The run index at which a row of a plane begins, where the line before leaves this one.
@@ -116,7 +119,6 @@ impl<'b> OpenLines<'b> {
     fn read_line(
         self,
         planes: &mut SlicePlanes,
-        is_rgb: bool,
         plane: usize,
         row: usize,
     ) -> Result<OpenLines<'b>, CodesFault>
@@ -125,17 +127,19 @@ impl<'b> OpenLines<'b> {
         requires start { (rows_at planes.old.lines.items plane).x ≡ 0 }
         requires place { length (rows_at planes.old.lines.items plane).samples ≡ row * (rows_at planes.old.lines.items plane).width }
         ensures same { OnOk result (coding_of_planes planes.new ≡ coding_of_planes planes.old) }
+        ensures rgb { IfOk result (λ after. after.is_rgb ≡ self.entry.is_rgb) }
         ensures count { length planes.new.lines.items ≡ length planes.old.lines.items }
         ensures states { IfOk result (HaveCodes planes.new) }
-        ensures read { IfOk result (λ after. AreCodesRead is_rgb (coding_of_planes planes.old) (line_at plane row ∷ []) planes.old.lines.items
+        ensures read { IfOk result (λ after. AreCodesRead self.entry.is_rgb (coding_of_planes planes.old) (line_at plane row ∷ []) planes.old.lines.items
             (codes_place self.entry) planes.new.lines.items (codes_place after)) }
-        ensures err { IfErr result (IsCutFor is_rgb (coding_of_planes planes.old) (line_at plane row ∷ []) planes.old.lines.items (codes_place self.entry)) }
+        ensures err { IfErr result (IsCutFor self.entry.is_rgb (coding_of_planes planes.old) (line_at plane row ∷ []) planes.old.lines.items (codes_place self.entry)) }
     {
         let OpenLines {
             codes: RowCodes { bits, index, spare },
             luma,
             chroma,
             alpha,
+            is_rgb,
         } = self;
         let index = index_at(is_rgb, plane, row, index);
         let codes = RowCodes { bits, index, spare };
@@ -147,6 +151,7 @@ impl<'b> OpenLines<'b> {
                     luma,
                     chroma,
                     alpha,
+                    is_rgb,
                 }),
                 Err(fault) => Err(placed(fault, plane, row)),
             },
@@ -156,6 +161,7 @@ impl<'b> OpenLines<'b> {
                     luma,
                     chroma,
                     alpha,
+                    is_rgb,
                 }),
                 Err(fault) => Err(placed(fault, plane, row)),
             },
@@ -165,121 +171,31 @@ impl<'b> OpenLines<'b> {
                     luma,
                     chroma,
                     alpha,
+                    is_rgb,
                 }),
                 Err(fault) => Err(placed(fault, plane, row)),
             },
         }
     }
+}
 
-    /// Reads the first rows of a plane, of which none was read.
-    fn read_plane(
-        self,
-        planes: &mut SlicePlanes,
-        is_rgb: bool,
-        plane: usize,
-        height: usize,
-    ) -> Result<OpenLines<'b>, CodesFault>
-        requires states { HaveCodes planes.old self }
-        requires inside { plane < length planes.old.lines.items }
-        requires fresh { IsFresh (rows_at planes.old.lines.items plane) }
-        ensures count { length planes.new.lines.items ≡ length planes.old.lines.items }
-        ensures read { IfOk result (HaveReadCodes is_rgb planes.old self.entry (lines_of_plane plane height) planes.new) }
-        ensures err { IfErr result (IsCutFor is_rgb (coding_of_planes planes.old) (lines_of_plane plane height) planes.old.lines.items (codes_place self.entry)) }
-    {
-        let mut reader = self;
-        for row in 0..height {
-            reader = reader.read_line(planes, is_rgb, plane, row)?;
-        }
-        Ok(reader)
-    }
+impl<'b> RowReader for OpenLines<'b> {
+    type Fault = CodesFault;
 
-    /// Reads all rows of planes of these sizes, of which none was read, one plane after the other.
-    fn read_plane_after_plane(
-        self,
-        planes: &mut SlicePlanes,
-        is_rgb: bool,
-        sizes: &[PlaneSize],
-    ) -> Result<OpenLines<'b>, CodesFault>
-        requires states { HaveCodes planes.old self }
-        requires inside { length sizes.now ≤ length planes.old.lines.items }
-        requires fresh { (p : ℕ) → p < length sizes.now → IsFresh (rows_at planes.old.lines.items p) }
-        ensures count { length planes.new.lines.items ≡ length planes.old.lines.items }
-        ensures read { IfOk result (HaveReadCodes is_rgb planes.old self.entry (plane_after_plane (height_at sizes.now) (length sizes.now)) planes.new) }
-        ensures err { IfErr result (IsCutFor is_rgb (coding_of_planes planes.old) (plane_after_plane (height_at sizes.now) (length sizes.now))
-            planes.old.lines.items (codes_place self.entry)) }
-    {
-        let mut reader = self;
-        for plane in 0..sizes.len() {
-            reader = reader.read_plane(planes, is_rgb, plane, sizes[plane].height)?;
-        }
-        Ok(reader)
-    }
+    ghost use Rattle.ffv1_plane.specs.Inner.RiceLines.{HaveCodes, HasReadCodesOf, IsCodesFaultAt};
 
-    /// Reads a row of each of the first planes, of which the same rows were read.
+    ghost can_read = { HaveCodes };
+
+    ghost reads = { HasReadCodesOf };
+
+    ghost refuses = { IsCodesFaultAt };
+
     fn read_row(
         self,
         planes: &mut SlicePlanes,
-        is_rgb: bool,
-        count: usize,
-        row: usize,
-    ) -> Result<OpenLines<'b>, CodesFault>
-        requires states { HaveCodes planes.old self }
-        requires inside { count ≤ length planes.old.lines.items }
-        requires start { (p : ℕ) → p < count → (rows_at planes.old.lines.items p).x ≡ 0 }
-        requires place { (p : ℕ) → p < count → length (rows_at planes.old.lines.items p).samples ≡ row * (rows_at planes.old.lines.items p).width }
-        ensures count { length planes.new.lines.items ≡ length planes.old.lines.items }
-        ensures read { IfOk result (HaveReadCodes is_rgb planes.old self.entry (lines_of_row row count) planes.new) }
-        ensures err { IfErr result (IsCutFor is_rgb (coding_of_planes planes.old) (lines_of_row row count) planes.old.lines.items (codes_place self.entry)) }
-    {
-        let mut reader = self;
-        for plane in 0..count {
-            reader = reader.read_line(planes, is_rgb, plane, row)?;
-        }
-        Ok(reader)
-    }
-
-    /// Reads the first rows of the first planes, of which none was read, each row in all of them before the next.
-    fn read_row_after_row(
-        self,
-        planes: &mut SlicePlanes,
-        is_rgb: bool,
-        count: usize,
-        height: usize,
-    ) -> Result<OpenLines<'b>, CodesFault>
-        requires states { HaveCodes planes.old self }
-        requires inside { count ≤ length planes.old.lines.items }
-        requires fresh { (p : ℕ) → p < count → IsFresh (rows_at planes.old.lines.items p) }
-        ensures count { length planes.new.lines.items ≡ length planes.old.lines.items }
-        ensures read { IfOk result (HaveReadCodes is_rgb planes.old self.entry (row_after_row count height) planes.new) }
-        ensures err { IfErr result (IsCutFor is_rgb (coding_of_planes planes.old) (row_after_row count height) planes.old.lines.items (codes_place self.entry)) }
-    {
-        let mut reader = self;
-        for row in 0..height {
-            reader = reader.read_row(planes, is_rgb, count, row)?;
-        }
-        Ok(reader)
-    }
-
-    /// Reads all lines of new planes in coded order: those of RGB row after row, others plane after plane.
-    fn read_all(
-        self,
-        planes: &mut SlicePlanes,
-        is_rgb: bool,
-        sizes: &[PlaneSize],
-    ) -> Result<OpenLines<'b>, CodesFault>
-        requires states { HaveCodes planes.old self }
-        requires some { 1 ≤ length sizes.now }
-        requires inside { length sizes.now ≤ length planes.old.lines.items }
-        requires fresh { (p : ℕ) → p < length sizes.now → IsFresh (rows_at planes.old.lines.items p) }
-        ensures count { length planes.new.lines.items ≡ length planes.old.lines.items }
-        ensures read { IfOk result (HaveReadCodes is_rgb planes.old self.entry (lines_of is_rgb sizes.now) planes.new) }
-        ensures err { IfErr result (IsCutFor is_rgb (coding_of_planes planes.old) (lines_of is_rgb sizes.now) planes.old.lines.items (codes_place self.entry)) }
-    {
-        if is_rgb {
-            self.read_row_after_row(planes, is_rgb, sizes.len(), sizes[0].height)
-        } else {
-            self.read_plane_after_plane(planes, is_rgb, sizes)
-        }
+        line: PlaneRow,
+    ) -> Result<OpenLines<'b>, CodesFault> {
+        self.read_line(planes, line.plane, line.row)
     }
 }
 
@@ -343,18 +259,21 @@ pub fn read_rice_planes<'b>(
         alpha,
     } = reader;
     let index = RunIndex::start();
+    let is_rgb = recording.is_rgb();
     let begun = OpenLines {
         codes: RowCodes { bits, index, spare },
         luma,
         chroma,
         alpha,
+        is_rgb,
     };
     let OpenLines {
         codes,
         luma,
         chroma,
         alpha,
-    } = begun.read_all(&mut planes, recording.is_rgb(), sizes)?;
+        is_rgb: _,
+    } = read_lines(&mut planes, begun, is_rgb, sizes)?;
     let Ok(samples) = planes.into_samples(alloc) else {
         return Err(CodesFault::Memory);
     };

@@ -1,5 +1,5 @@
 -- The planes of a slice and the reader of its lines, as those of the definitions.
-use Rattle.std.specs.Prelude.{◌≡◌, ℕ, zero, suc, ◌<◌, List, [], length, map, slice_index}
+use Rattle.std.specs.Prelude.{◌≡◌, ℕ, zero, suc, ◌<◌, List, [], ◌∷◌, length, map, slice_index}
 use Rattle.ffv1_range.specs.Setup.{RecordingValue, set_entry, set_contexts}
 use Rattle.ffv1_plane.specs.SetTables.{SetTables}
 use Rattle.ffv1_plane.specs.Lines.{Line}
@@ -65,6 +65,14 @@ pub record HaveRead (old : SlicePlanes) (reader : RangeLines) (lines : List Line
   pub same : coding_of_planes new ≡ coding_of_planes old
   pub states : HaveStates new after
   pub read : AreLinesRead (coding_of_planes old) lines old.lines.items (lines_reader reader) new.lines.items (lines_reader after)
+
+-- .. a line was
+abbrev pub HasReadLine : SlicePlanes → RangeLines → Line → SlicePlanes → RangeLines → Type 0
+HasReadLine old reader line new after = HaveRead old reader (line ∷ []) new after
+
+-- why it was not
+abbrev pub IsLineFaultOf : SlicePlanes → RangeLines → Line → LinesFault → Type 0
+IsLineFaultOf planes reader line fault = IsLinesFaultOf (coding_of_planes planes) (line ∷ []) planes.lines.items (lines_reader reader) fault
 
 -- the planes of a slice before their first sample
 abbrev pub new_rows : ℕ → PlaneSize → RowsRead

@@ -99,7 +99,16 @@ IsCutFor is_rgb c lines old a (codes_faults.Sample fault plane y x) = AreCodesCu
 IsCutFor is_rgb c lines old a codes_faults.Memory = Unit {0}
 
 -- Lines were read, from planes and a reader to others.
-pub record HaveReadCodes (is_rgb : Bool) (old : SlicePlanes) (reader : OpenLines) (lines : List Line) (new : SlicePlanes) (after : OpenLines) : Type 0 where
+pub record HaveReadCodes (old : SlicePlanes) (reader : OpenLines) (lines : List Line) (new : SlicePlanes) (after : OpenLines) : Type 0 where
   pub same : coding_of_planes new ≡ coding_of_planes old
   pub states : HaveCodes new after
-  pub read : AreCodesRead is_rgb (coding_of_planes old) lines old.lines.items (codes_place reader) new.lines.items (codes_place after)
+  pub rgb : after.is_rgb ≡ reader.is_rgb
+  pub read : AreCodesRead reader.is_rgb (coding_of_planes old) lines old.lines.items (codes_place reader) new.lines.items (codes_place after)
+
+-- .. a line was
+abbrev pub HasReadCodesOf : SlicePlanes → OpenLines → Line → SlicePlanes → OpenLines → Type 0
+HasReadCodesOf old reader line new after = HaveReadCodes old reader (line ∷ []) new after
+
+-- why it was not
+abbrev pub IsCodesFaultAt : SlicePlanes → OpenLines → Line → CodesFault → Type 0
+IsCodesFaultAt planes reader line fault = IsCutFor reader.is_rgb (coding_of_planes planes) (line ∷ []) planes.lines.items (codes_place reader) fault

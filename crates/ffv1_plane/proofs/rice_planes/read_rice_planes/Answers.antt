@@ -1,17 +1,18 @@
-use Rattle.std.proofs.Common.{sym, subst, arith}
+use Rattle.std.proofs.Common.{sym, subst, arith, length}
 use Rattle.std.proofs.lemmas.Result.{err_from_is_err_and}
 use Rattle.ffv1_plane.specs.RangeSlices.{slice_shape, lines_of}
-use Rattle.ffv1_plane.specs.RiceReading.{AreCodesDecoded}
+use Rattle.ffv1_plane.specs.RiceReading.{group_codes, AreCodesDecoded}
 use Rattle.ffv1_plane.specs.Inner.Planes.{coding_of_planes}
-use Rattle.ffv1_plane.specs.Inner.RiceLines.{codes_place, IsCutFor, HaveReadCodes}
+use Rattle.ffv1_plane.specs.Inner.RiceLines.{codes_place, IsCutFor, AreCodesRead}
 use Rattle.ffv1_plane.specs.declared.rice_planes.OpenLines.{OpenLines}
-use Rattle.ffv1_plane.proofs.RangeSlices.{are_fresh, new_count}
+use Rattle.ffv1_plane.proofs.RangeSlices.{have_counts, are_fresh, new_count}
+use Rattle.ffv1_plane.proofs.RicePlanes.{all_read, all_cut}
 use Rattle.ffv1_plane.proofs.RiceSlices.{slice_is_decoded, codes_fault_of}
 use Rattle.ffv1_plane.proofs.OneRice.{found_is_decoded, found_not_stuck}
 use Rattle.ffv1_plane.proofs.rice_planes.read_rice_planes.Goals as goal
 
-pub read_all-requires-clause-fresh : goal.read_all-requires-clause-fresh
-read_all-requires-clause-fresh c = are_fresh c.args.recording.now c.args.sets.now c.args.sizes.now c.in-Ok.planes c.in-Ok.ensures
+pub read_lines-requires-clause-fresh : goal.read_lines-requires-clause-fresh
+read_lines-requires-clause-fresh c = are_fresh c.args.recording.now c.args.sets.now c.args.sizes.now c.in-Ok.planes c.in-Ok.ensures
 
 pub returns-in_err-codes-clause-err : goal.returns-in_err-codes-clause-err
 returns-in_err-codes-clause-err c =
@@ -21,11 +22,12 @@ returns-in_err-codes-clause-err c =
       luma = c.args.reader.luma;
       chroma = c.args.reader.chroma;
       alpha = c.args.reader.alpha;
+      is_rgb = c.is_rgb-is_rgb.result;
     } in
     rw (p.1, p.2)
     (codes_fault_of c.args.recording.now c.args.sets.now c.args.sizes.now c.in-Ok.planes begun _ c.in-Ok.ensures c.start-index.ensures
     (subst (λ b. IsCutFor b (coding_of_planes c.in-Ok.planes) (lines_of b c.args.sizes.now) c.in-Ok.planes.lines.items (codes_place begun) c.in_err-codes.field-0.0)
-    c.is_rgb.ensures c.in_err-codes.ensures.err))
+    c.is_rgb-is_rgb.ensures (all_cut c.in-Ok.planes begun _ _ (have_counts c.args.recording.now c.args.sets.now c.args.sizes.now c.in-Ok.planes (λ g. length (group_codes c.args.reader g)) c.in-Ok.ensures c.requires.states) c.in_err-codes.ensures.err)))
 
 pub returns-in_err-codes-clause-found : goal.returns-in_err-codes-clause-found
 returns-in_err-codes-clause-found c = λ planes spelled.
@@ -35,18 +37,19 @@ returns-in_err-codes-clause-found c = λ planes spelled.
       luma = c.args.reader.luma;
       chroma = c.args.reader.chroma;
       alpha = c.args.reader.alpha;
+      is_rgb = c.is_rgb-is_rgb.result;
     } in
     rw (p.1, p.2)
     (found_not_stuck c.args.recording.now c.args.sets.now c.args.sizes.now c.args.reader planes _ c.keeps_version_3.ensures c.requires.sizes
     (codes_fault_of c.args.recording.now c.args.sets.now c.args.sizes.now c.in-Ok.planes begun _ c.in-Ok.ensures c.start-index.ensures
     (subst (λ b. IsCutFor b (coding_of_planes c.in-Ok.planes) (lines_of b c.args.sizes.now) c.in-Ok.planes.lines.items (codes_place begun) c.in_err-codes.field-0.0)
-    c.is_rgb.ensures c.in_err-codes.ensures.err)) spelled)
+    c.is_rgb-is_rgb.ensures (all_cut c.in-Ok.planes begun _ _ (have_counts c.args.recording.now c.args.sets.now c.args.sizes.now c.in-Ok.planes (λ g. length (group_codes c.args.reader g)) c.in-Ok.ensures c.requires.states) c.in_err-codes.ensures.err))) spelled)
 
 pub into_samples-requires : goal.into_samples-requires
 into_samples-requires c = λ p less.
     let count = new_count c.args.recording.now c.args.sets.now c.args.sizes.now c.in-Ok.planes c.in-Ok.ensures in
-    (c.in_ok-codes.ensures.read.read.grown p).ended
-    (are_fresh c.args.recording.now c.args.sets.now c.args.sizes.now c.in-Ok.planes c.in-Ok.ensures p (omega (arith, less, c.in_ok-codes.ensures.count, count))).ended
+    (c.in_ok-codes.ensures.grown.grown p).ended
+    (are_fresh c.args.recording.now c.args.sets.now c.args.sizes.now c.in-Ok.planes c.in-Ok.ensures p (omega (arith, less, c.in_ok-codes.ensures.grown.count, count))).ended
 
 pub returns-clause-read : goal.returns-clause-read
 returns-clause-read c =
@@ -55,14 +58,15 @@ returns-clause-read c =
       luma = c.args.reader.luma;
       chroma = c.args.reader.chroma;
       alpha = c.args.reader.alpha;
+      is_rgb = c.is_rgb-is_rgb.result;
     } in
     let after : OpenLines = c.in_ok-codes.field-0 in
     subst (AreCodesDecoded (slice_shape c.args.recording.now c.args.sets.now c.args.sizes.now) c.args.reader
     (record { bits = after.codes.bits; luma = after.luma; chroma = after.chroma; alpha = after.alpha })) (sym c.in-Ok-into_samples.ensures)
-    (slice_is_decoded c.args.recording.now c.args.sets.now c.args.sizes.now c.in-Ok.planes c.read_all.new.planes begun after c.in-Ok.ensures c.start-index.ensures
+    (slice_is_decoded c.args.recording.now c.args.sets.now c.args.sizes.now c.in-Ok.planes c.read_lines.new.planes begun after c.in-Ok.ensures c.start-index.ensures
     c.requires.states (λ p less is. c.requires.same is p less)
-    (subst (λ b. HaveReadCodes b c.in-Ok.planes begun (lines_of b c.args.sizes.now) c.read_all.new.planes after) c.is_rgb.ensures
-    c.in_ok-codes.ensures.read))
+    (subst (λ b. AreCodesRead b (coding_of_planes c.in-Ok.planes) (lines_of b c.args.sizes.now) c.in-Ok.planes.lines.items (codes_place begun) c.read_lines.new.planes.lines.items
+    (codes_place after)) c.is_rgb-is_rgb.ensures (all_read c.in-Ok.planes c.read_lines.new.planes begun after _ (have_counts c.args.recording.now c.args.sets.now c.args.sizes.now c.in-Ok.planes (λ g. length (group_codes c.args.reader g)) c.in-Ok.ensures c.requires.states) c.in_ok-codes.ensures.read).read))
 
 pub returns-clause-found : goal.returns-clause-found
 returns-clause-found c = λ planes spelled.
