@@ -13,7 +13,6 @@ ghost use Rattle.ffv1_range.specs.TileHeaders.{is_in_profile, scope_by, rules_of
 ghost use Rattle.ffv1_range.specs.Inner.Forms.{ReadsFormAs};
 ghost use Rattle.ffv1_range.specs.Inner.HeaderForms.{ReadsKey, ReadsHeader, IsAtPlace};
 ghost use Rattle.ffv1_range.specs.Inner.SliceHeader.{FollowsDecoder, EndsHeader};
-ghost use Rattle.ffv1_range.specs.Inner.Views.{limits_of};
 ghost use Rattle.ffv1_range.specs.declared.head.SliceHead.{SliceHead};
 ghost use Rattle.ffv1_range.specs.declared.head.SliceHeader.{SliceHeader};
 ghost use Rattle.ffv1_range.specs.declared.head.SliceStart.{SliceStart};
@@ -24,15 +23,15 @@ use crate::scope::Scope;
 use crate::setup::Setup;
 
 /// Why a slice's content has no header, of the profile or of any recording. `Range` and `NotKey` are returned where they are met; the others
-/// are returned, in this order, after all of the header was read. Of slices of any recording `NotKey`, `Spans` and `FirstElsewhere` are not
-/// returned.
+/// are returned, in this order, after all of the header was read. `NotKey` is returned of recordings of the profile alone; `read_slice_head`
+/// returns neither it nor `Spans` nor `FirstElsewhere`.
 #[derive(Clone, Copy, Debug, PartialEq, Eq)]
 pub enum HeadFault {
     /// A range-coded value can't be read.
     Range(RangeFault),
     /// The keyframe bit of the payload's first slice is 0.
     NotKey,
-    /// A tile of the slice is outside the grid. Of a slice of the profile the first tile alone is judged so.
+    /// A tile of the slice is outside the grid: the first tile, or where `read_slice_head` judges, any.
     OutsideGrid,
     /// The slice spans more than one tile.
     Spans,
@@ -116,14 +115,6 @@ struct HeaderFields {
     fields: [u32; MOST_FIELDS],
 }
 
-/// What judges a header: the tiles across and down, and the sets of quantization tables.
-#[derive(Clone, Copy)]
-struct Limits {
-    across: u32,
-    down: u32,
-    sets: usize,
-}
-
 /// The header that a slice's content begins with, and the place of its first Golomb-Rice byte: how many bytes of the
 /// content stand before it. The content is the slice without its footer; it is `first` where it is the payload's first,
 /// and then the keyframe bit stands before its header. It takes no memory.
@@ -139,32 +130,21 @@ pub fn read_head(
     ensures only { (head : SliceHead) (place : ℕ) → IsHeadOf (header_limits setup.now) content.now first head place → result ≡ Ok (head, place) }
     ensures fault { result ≡ head_read (header_limits setup.now) content.now first }
 {
-    read_head_within(limits_of(setup), content, first)
-}
-
-/// What judges the headers of a setup's slices.
-fn limits_of(setup: &Setup) -> Limits
-    ensures { limits_of result ≡ header_limits setup.now }
-{
-    Limits {
-        across: setup.recording.counts.across,
-        down: setup.recording.counts.down,
-        sets: setup.recording.sets.len(),
-    }
+    read_head_within(setup, content, first)
 }
 
 /// The header that a content begins with, as it is read from left to right.
 fn read_head_within(
-    limits: Limits,
+    setup: &Setup,
     content: &[u8],
     first: bool,
 ) -> Result<(SliceHead, usize), HeadFault>
-    ensures { result ≡ head_read (limits_of limits) content.now first }
+    ensures { result ≡ head_read (header_limits setup.now) content.now first }
 {
     let mut decoder = RangeDecoder::sentinel(content)?;
     let header = read_header(Scope::Profile, &mut decoder, first, HEAD_FIELDS)?;
     let place = decoder.finish()?;
-    let head = judged(limits, first, &header.fields)?;
+    let head = judged(setup, first, &header.fields)?;
     Ok((head, place))
 }
 
@@ -186,7 +166,7 @@ pub fn read_slice_head<'a>(
     let mut decoder = slice_decoder(recording, content)?;
     let count = field_count(recording.has_alpha());
     let header = read_header(Scope::Version3, &mut decoder, first, count)?;
-    let start = slice_start(recording, decoder)?;
+    let start = samples_or_codes(recording, decoder)?;
     let header = slice_header(recording, &header)?;
     Ok((header, start))
 }
@@ -300,7 +280,7 @@ fn field_count(has_alpha: bool) -> usize
 }
 
 /// How a slice goes on after its header.
-fn slice_start<'a>(
+fn samples_or_codes<'a>(
     recording: &Recording,
     decoder: RangeDecoder<'a>,
 ) -> Result<SliceStart<'a>, HeadFault>
@@ -453,15 +433,15 @@ fn is_within(first: u32, less: u32, among: u32) -> bool
 }
 
 /// The fields as a head, or the first fault of them.
-#[tactic(auto, using(crate::proofs::HeaderSteps::tile_fits))]
-fn judged(limits: Limits, first: bool, fields: &[u32; MOST_FIELDS]) -> Result<SliceHead, HeadFault>
-    ensures { result ≡ head_judged (limits_of limits) first (take 9 fields.now) }
+fn judged(setup: &Setup, first: bool, fields: &[u32; MOST_FIELDS]) -> Result<SliceHead, HeadFault>
+    ensures { result ≡ head_judged (header_limits setup.now) first (take 9 fields.now) }
 {
+    let tile = judged_tile(setup.recording(), first, fields)?;
     let [
-        slice_x,
-        slice_y,
-        less_width,
-        less_height,
+        _,
+        _,
+        _,
+        _,
         table_y,
         table_c,
         picture_structure,
@@ -469,24 +449,10 @@ fn judged(limits: Limits, first: bool, fields: &[u32; MOST_FIELDS]) -> Result<Sl
         sar_den,
         _,
     ] = *fields;
-    let (table_y, table_c) = (table_y as usize, table_c as usize);
-    if slice_x >= limits.across || slice_y >= limits.down {
-        return Err(HeadFault::OutsideGrid);
-    }
-    if less_width != 0 || less_height != 0 {
-        return Err(HeadFault::Spans);
-    }
-    if table_y >= limits.sets || table_c >= limits.sets {
-        return Err(HeadFault::TableIndex);
-    }
-    let tile = slice_y as usize * limits.across as usize + slice_x as usize;
-    if first != (tile == 0) {
-        return Err(HeadFault::FirstElsewhere);
-    }
     Ok(SliceHead {
         tile,
-        table_y,
-        table_c,
+        table_y: table_y as usize,
+        table_c: table_c as usize,
         picture_structure,
         sar_num,
         sar_den,

@@ -1,20 +1,15 @@
 -- The values of private types.
 use Rattle.std.specs.Prelude.{ℕ, List, map, take}
 use Rattle.ffv1_range.specs.Coding.{Coder}
-use Rattle.ffv1_range.specs.Header.{HeadLimits}
 use Rattle.ffv1_range.specs.HeaderForms.{HeaderRead}
 use Rattle.ffv1_range.specs.SetupForms.{FrontValue}
 use Rattle.ffv1_range.specs.declared.fields.Front.{Front}
 use Rattle.ffv1_range.specs.declared.head.HeaderFields.{HeaderFields}
-use Rattle.ffv1_range.specs.declared.head.Limits.{Limits}
 use Rattle.ffv1_range.specs.declared.tables.TableSet.{TableSet}
 use Rattle.ffv1_range.specs.Views.{shape_value, counts_of}
 
 abbrev pub front_value : Front → FrontValue
 front_value x = record { micro = x.micro; shape = shape_value x.shape; tiles = counts_of x.counts; sets = x.sets }
-
-abbrev pub limits_of : Limits → HeadLimits
-limits_of x = record { across = x.across; down = x.down; sets = x.sets }
 
 -- the number of contexts of each set
 abbrev pub contexts_of : List TableSet → List ℕ
