@@ -681,11 +681,11 @@ def lost_place(copies):
     if (not pieces_that_begin(copies, end, top) or pieces_that_end(copies, end)
             or {start for _, start in claimed_starts(copies, end)} != {0}):
         return None
-    return place_before(copies, end)
+    return place_ending_at(copies, end)
 
 
 # FORMAT: Splicing copies of one length
-def place_before(copies, end):
+def place_ending_at(copies, end):
     """The place that ends there: how it stands, and the bytes that stand there; None where what lies before it can't be divided."""
     pieces, starts = pieces_that_end(copies, end), {start for _, start in claimed_starts(copies, end)}
     if len(pieces) == 1:
@@ -715,7 +715,7 @@ def place_before(copies, end):
 def divided(copies):
     """What lies between the two walks, from its end: how each place stands and its bytes; and how many bytes can't be divided."""
     found, end = [], len(copies[0])
-    while end and (place := place_before(copies, end)):
+    while end and (place := place_ending_at(copies, end)):
         found.append(place)
         end -= len(place[1])
     return found, end

@@ -76,7 +76,7 @@ pub use Rattle.ffv1_splice.specs.Inner.Placing.{IsPlaced, IsPlacedOrStop}
 pub use Rattle.ffv1_splice.specs.Inner.Several.{AreMissing, AreTriedBefore, IsNextClaimedStart, TriedValue, capped, tried_more, tried_tally}
 pub use Rattle.ffv1_splice.specs.Inner.Several.TriedValue.{none_woven, one_woven, undecided}
 pub use Rattle.ffv1_splice.specs.Inner.Splice.{IsNextClaimed}
-pub use Rattle.ffv1_splice.specs.Inner.Tally.{Tallies, TalliesBoth, TalliesMore, Tally, pieces_tally, starts_tally}
+pub use Rattle.ffv1_splice.specs.Inner.Tally.{Tallies, TalliesBoth, TalliesMore, Tally, pieces_tally, claimed_tally}
 pub use Rattle.ffv1_splice.specs.Inner.Tally.Tally.{none, one, two}
 pub use Rattle.ffv1_splice.specs.Laws.{ClaimedAloneIsOriginal, GivenBackIsOriginal, IsClaimedAsIn, IsItsLink, IsLinkIfSettled, IsNearSplice, IsSplicedOriginal, KeepsLink, LinksAreTried, NearCopiesSplice, OriginalIsSpliced, RepairedIsOriginal, SameCopiesSplice, SettledInHoleIsOriginal, SettledIsOriginal, SettledWalksAreOriginal, SizedIsOriginal, VotedIsOriginal, WalkAcrossIsOriginal, WovenIsOriginal}
 pub use Rattle.ffv1_splice.specs.Originals.{AreConsistentFromBelow, AreConsistentWith, AreCopiesOf, AreNearCopies, AreWeavable, HaveEachLink, IsAmong, IsIntact, IsIntactInSome, IsNearCopy, IsTriedAt, IsUndamaged}
@@ -90,5 +90,5 @@ pub use Rattle.ffv1_splice.specs.declared.place.Standing.{Standing}
 pub use Rattle.ffv1_splice.specs.declared.place.Standing.TheVariants.{Disputed, Missing, Repaired, Settled, Undivided, Voted, Woven}
 pub use Rattle.ffv1_splice.specs.declared.several.Tried.{Tried}
 pub use Rattle.ffv1_splice.specs.declared.tally.Pieces.{Pieces}
-pub use Rattle.ffv1_splice.specs.declared.tally.Starts.{Starts}
-pub use Rattle.ffv1_splice.specs.declared.tally.Starts.TheVariants.{One}
+pub use Rattle.ffv1_splice.specs.declared.tally.Claimed.{Claimed}
+pub use Rattle.ffv1_splice.specs.declared.tally.Claimed.TheVariants.{One}

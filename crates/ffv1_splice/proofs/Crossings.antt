@@ -1,7 +1,7 @@
 -- The walk over slices that are lost in all copies: where its places lie, and one more of them.
-use Rattle.ffv1_splice.proofs.Common.{◌≡◌, ℕ, ◌+◌, ◌-◌, ◌<◌, ◌≤◌, List, [], ◌∷◌, ◌++◌, length, take, refl, sym, ap, ◌∙◌, subst, arith, ◌⊎◌, All, slice_range, drop-append_seam, flat_map-append, append_assoc, append-nil, length-append, length-take-le, take-append-le, All-nil, All-cons, All-append, All-weaker, IsOnly, IsOfNone, HasContent, IsPiece, IsClaimedStart, PieceFrom, IsPieceFrom, IsShortest, Tallies, pieces_tally, starts_tally, Pieces, Starts, IsPlaced, versions_at, StandsAs, RiseFrom, IsSettledUp, IsWalkUp, IsClaimedEnd, IsLostUpTo, IsCrossed, Crossing, AreCrossings, IsWalkAcross, crossing_places, Standing, Settled, Place}
+use Rattle.ffv1_splice.proofs.Common.{◌≡◌, ℕ, ◌+◌, ◌-◌, ◌<◌, ◌≤◌, List, [], ◌∷◌, ◌++◌, length, take, refl, sym, ap, ◌∙◌, subst, arith, ◌⊎◌, All, slice_range, drop-append_seam, flat_map-append, append_assoc, append-nil, length-append, length-take-le, take-append-le, All-nil, All-cons, All-append, All-weaker, IsOnly, IsOfNone, HasContent, IsPiece, IsClaimedStart, PieceFrom, IsPieceFrom, IsShortest, Tallies, pieces_tally, claimed_tally, Pieces, Claimed, IsPlaced, versions_at, StandsAs, RiseFrom, IsSettledUp, IsWalkUp, IsClaimedEnd, IsLostUpTo, IsCrossed, Crossing, AreCrossings, IsWalkAcross, crossing_places, Standing, Settled, Place}
 use Rattle.ffv1_splice.specs.declared.tally.Pieces.TheVariants as pieces
-use Rattle.ffv1_splice.specs.declared.tally.Starts.TheVariants as starts
+use Rattle.ffv1_splice.specs.declared.tally.Claimed.TheVariants as starts
 use Rattle.ffv1_splice.specs.declared.crossing.TheConstants.{MOST_CROSSED}
 use Rattle.ffv1_splice.proofs.Narrowed.{piece_in}
 use Rattle.ffv1_splice.proofs.PlaceSteps.{no_claim}
@@ -22,7 +22,7 @@ crossing_places-append crossings crossing = grind (arith, flat_map-append, appen
 -- ---- a lost slice
 
 module _ (copies : List (List ℕ)) (reach : ℕ) where
-  pub lost_where_claimed : (claim : Starts) → Tallies (IsClaimedEnd copies reach) (starts_tally claim) → ((end : ℕ) → claim ≡ starts.One end → ⊥)
+  pub lost_where_claimed : (claim : Claimed) → Tallies (IsClaimedEnd copies reach) (claimed_tally claim) → ((end : ℕ) → claim ≡ starts.One end → ⊥)
       → (end : ℕ) → IsLostUpTo copies reach end → ⊥
   lost_where_claimed claim are none end lost = no_claim (IsClaimedEnd copies reach) claim are none end lost.end'
 
@@ -36,7 +36,7 @@ module _ (copies : List (List ℕ)) (reach : ℕ) where
     lost_where_no_piece (pieces.One start bytes) are some end lost = (lost_there end lost).none _ are.there
     lost_where_no_piece pieces.Two are some end lost = (lost_there end lost).none _ are.one_there
 
-    pub lost_where_claim : (claim : Starts) → Tallies (IsClaimedStart copies claimed) (starts_tally claim) → ((start : ℕ) → claim ≡ starts.One start → ⊥)
+    pub lost_where_claim : (claim : Claimed) → Tallies (IsClaimedStart copies claimed) (claimed_tally claim) → ((start : ℕ) → claim ≡ starts.One start → ⊥)
         → (end : ℕ) → IsLostUpTo copies reach end → ⊥
     lost_where_claim claim are none end lost = no_claim (IsClaimedStart copies claimed) claim are none 0 (lost_there end lost).start
 

@@ -1,6 +1,6 @@
 -- The place that ends at an end of the splice: how long it is, and how it stands.
-use Rattle.ffv1_splice.proofs.Common.{◌≡◌, ℕ, ◌+◌, ◌≤◌, List, length, refl, sym, ◌∙◌, inl, inr, arith, FooterGives, LinkValue, length-range, IsOnly, IsOfTwo, IsOfNone, AllReach, IsPiece, IsClaimedStart, IsLeast, Weave, IsWeaveOf, missing, too_many, Slice, versions_at, IsWeaveAt, IsUnwovenAt, IsMissingAt, StandsAs, IsGap, IsPlaced, written, Standing, Tallies, starts_tally, Starts}
-use Rattle.ffv1_splice.specs.declared.tally.Starts.TheVariants as starts
+use Rattle.ffv1_splice.proofs.Common.{◌≡◌, ℕ, ◌+◌, ◌≤◌, List, length, refl, sym, ◌∙◌, inl, inr, arith, FooterGives, LinkValue, length-range, IsOnly, IsOfTwo, IsOfNone, AllReach, IsPiece, IsClaimedStart, IsLeast, Weave, IsWeaveOf, missing, too_many, Slice, versions_at, IsWeaveAt, IsUnwovenAt, IsMissingAt, StandsAs, IsGap, IsPlaced, written, Standing, Tallies, claimed_tally, Claimed}
+use Rattle.ffv1_splice.specs.declared.tally.Claimed.TheVariants as starts
 
 -- ---- how many differ
 
@@ -11,7 +11,7 @@ pub two_not_only : {X : Type 0} (P : X → Type 0) → IsOfTwo P → (x : X) →
 two_not_only P two x h = two.differ (h.others two.one two.one_there ∙ sym (h.others two.other two.other_there))
 
 -- where not one start alone is claimed, none is
-pub no_claim : (P : ℕ → Type 0) (claim : Starts) → Tallies P (starts_tally claim) → ((x : ℕ) → claim ≡ starts.One x → ⊥) → (start : ℕ) → IsOnly P start → ⊥
+pub no_claim : (P : ℕ → Type 0) (claim : Claimed) → Tallies P (claimed_tally claim) → ((x : ℕ) → claim ≡ starts.One x → ⊥) → (start : ℕ) → IsOnly P start → ⊥
 no_claim P starts.None h apart = none_not_only P h
 no_claim P (starts.One x) h apart = λ start only. apart x refl
 no_claim P starts.Two h apart = two_not_only P h

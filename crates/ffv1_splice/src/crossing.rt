@@ -1,19 +1,18 @@
 //! The walk of a splice up from its start: places are settled, and where that stops, the walk goes on over slices that are lost in all
 //! copies.
-ghost use Rattle.std.specs.Prelude.{◌≡◌, ◌+◌, ◌-◌, ◌++◌, ◌<◌, ◌≤◌, ℕ, List, [], ◌∷◌, length, take, All, IfOk, MatchOption};
+ghost use Rattle.std.specs.Prelude.{◌≡◌, ◌+◌, ◌-◌, ◌<◌, ◌≤◌, ℕ, [], ◌∷◌, length, take, All, IfOk, MatchOption};
 ghost use Rattle.ffv1_slice.specs.Chain.{FooterGives};
 ghost use Rattle.ffv1_weave.specs.References.{values_of};
 ghost use Rattle.ffv1_splice.specs.Standings.{versions_at};
-ghost use Rattle.ffv1_splice.specs.Inner.Tally.{Tallies, starts_tally};
-ghost use Rattle.ffv1_splice.specs.Splice.{IsWalkUp, IsWalkAcross, IsCrossed, IsClaimedEnd, IsLostUpTo, Crossing, crossing_places};
-ghost use Rattle.ffv1_splice.specs.Inner.Splice.{IsNextClaimed};
-ghost use Rattle.ffv1_splice.specs.declared.place.Place.{Place};
+ghost use Rattle.ffv1_splice.specs.Inner.Tally.{Tallies, claimed_tally};
+ghost use Rattle.ffv1_splice.specs.Splice.{IsCrossed, IsClaimedEnd, IsLostUpTo};
+ghost use Rattle.ffv1_splice.specs.Inner.Splice.{IsNextClaimed, IsWalkFromStart};
 
 use crate::place::Place;
 use crate::placing::{versions_at, weave_at};
 use crate::settling::settle_up;
 use crate::shortest::{first_claim, first_from};
-use crate::tally::{Pieces, Starts, tally_at};
+use crate::tally::{Claimed, Pieces, tally_at};
 use ffv1_bits::SLICE_LIMIT;
 use ffv1_slice::FOOTER_LENGTH;
 use std::alloc::{AllocError, Global};
@@ -30,10 +29,7 @@ pub(crate) fn walk_up(
 ) -> Result<(Vec<Place>, usize), AllocError>
     requires some { 0 < length copies.now }
     requires long { All (λ copy. length payload.old ≤ length copy.now) copies.now }
-    ensures walk { IfOk result (λ walk. (below : List Place) × (crossings : List Crossing) × (floor : ℕ)
-        × (walk.0.items ≡ below ++ crossing_places crossings)
-        × IsWalkUp (values_of copies.now) (length payload.old) payload.new 0 below floor
-        × IsWalkAcross (values_of copies.now) (length payload.old) payload.new floor crossings walk.1) }
+    ensures walk { IfOk result (λ walk. IsWalkFromStart (values_of copies.now) (length payload.old) payload.new walk.0.items walk.1) }
     ensures within { IfOk result (λ walk. walk.1 ≤ length payload.new) }
     ensures long { IfOk result (λ _. length payload.new ≡ length payload.old) }
 {
@@ -87,14 +83,14 @@ fn lost_up_to(copies: &[&[u8]], reach: usize) -> Option<usize>
     ensures { MatchOption result ((end : ℕ) → IsLostUpTo (values_of copies.now) reach end → ⊥)
         (IsLostUpTo (values_of copies.now) reach) }
 {
-    let Starts::One(end) = claimed_ends(copies, reach) else {
+    let Claimed::One(end) = claimed_ends(copies, reach) else {
         return None;
     };
     let (pieces, starts) = tally_at(copies, end);
     let Pieces::None = pieces else {
         return None;
     };
-    let Starts::One(_) = starts else {
+    let Claimed::One(_) = starts else {
         return None;
     };
     match first_from(copies, end, reach) {
@@ -104,31 +100,31 @@ fn lost_up_to(copies: &[&[u8]], reach: usize) -> Option<usize>
 }
 
 /// The ends up to a reach at which copies claim that the slice ends with which they begin. Each copy has the reach.
-fn claimed_ends(copies: &[&[u8]], reach: usize) -> Starts
+fn claimed_ends(copies: &[&[u8]], reach: usize) -> Claimed
     requires { All (λ copy. reach ≤ length copy.now) copies.now }
-    ensures { Tallies (IsClaimedEnd (values_of copies.now) reach) (starts_tally result) }
+    ensures { Tallies (IsClaimedEnd (values_of copies.now) reach) (claimed_tally result) }
 {
-    let mut ends = Starts::None;
+    let mut ends = Claimed::None;
     for copy in copies {
         ends = ends.joined(claimed_by(copy, reach));
-        if let Starts::Two = ends {
-            return Starts::Two;
+        if let Claimed::Two = ends {
+            return Claimed::Two;
         }
     }
     ends
 }
 
 /// The ends up to a reach that one copy claims.
-fn claimed_by(copy: &[u8], reach: usize) -> Starts
+fn claimed_by(copy: &[u8], reach: usize) -> Claimed
     requires { reach ≤ length copy.now }
-    ensures { Tallies (IsClaimedEnd (copy.now ∷ []) reach) (starts_tally result) }
+    ensures { Tallies (IsClaimedEnd (copy.now ∷ []) reach) (claimed_tally result) }
 {
     let Some(first) = next_claimed(copy, FOOTER_LENGTH, reach) else {
-        return Starts::None;
+        return Claimed::None;
     };
     match next_claimed(copy, first, reach) {
-        Some(_) => Starts::Two,
-        None => Starts::One(first),
+        Some(_) => Claimed::Two,
+        None => Claimed::One(first),
     }
 }
 

@@ -4,7 +4,7 @@ ghost use Rattle.ffv1_weave.specs.References.{values_of};
 ghost use Rattle.ffv1_splice.specs.Splice.{IsDivisionOf};
 
 use crate::place::Place;
-use crate::placing::{place_before, write_at};
+use crate::placing::{place_ending_at, write_at};
 use crate::tally::least_at;
 use std::alloc::{AllocError, Global};
 
@@ -23,7 +23,7 @@ pub(crate) fn divide(
 {
     let mut places = Vec::new(alloc);
     let mut end = payload.len();
-    while let Some(place) = place_before(alloc, copies, end, payload)? {
+    while let Some(place) = place_ending_at(alloc, copies, end, payload)? {
         places.push(place)?;
         end = place.start;
     }

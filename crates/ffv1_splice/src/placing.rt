@@ -8,17 +8,17 @@ ghost use Rattle.ffv1_weave.specs.Weave.Weave.{missing, too_many};
 ghost use Rattle.ffv1_splice.specs.Standings.{versions_at, IsWeaveAt};
 ghost use Rattle.ffv1_splice.specs.Inner.Placing.{IsPlaced, IsPlacedOrStop};
 ghost use Rattle.ffv1_weave.specs.Parts.{written};
-ghost use Rattle.ffv1_splice.specs.Inner.Tally.{Tallies, starts_tally};
+ghost use Rattle.ffv1_splice.specs.Inner.Tally.{Tallies, claimed_tally};
 
 use crate::first::first_woven;
 use crate::place::{Place, Standing};
 use crate::several::several_woven;
-use crate::tally::{Pieces, Starts, least_at, tally_at};
+use crate::tally::{Claimed, Pieces, least_at, tally_at};
 use ffv1_weave::{Check, WeaveResult, repair, vote, weave};
 use std::alloc::{AllocError, Global};
 
 /// The place that ends there, which is written over the payload's bytes. Each copy has the end, and so has the payload.
-pub(crate) fn place_before(
+pub(crate) fn place_ending_at(
     alloc: Global,
     copies: &[&[u8]],
     end: usize,
@@ -48,7 +48,7 @@ pub(crate) fn place_before(
 /// The place that ends there, where two pieces that differ do.
 fn disputed_before(
     copies: &[&[u8]],
-    starts: Starts,
+    starts: Claimed,
     end: usize,
     payload: &mut [u8],
 ) -> Option<Place>
@@ -56,10 +56,10 @@ fn disputed_before(
     requires within { All (λ copy. end ≤ length copy.now) copies.now }
     requires room { end ≤ length payload.old }
     requires two { IsOfTwo (IsPiece (values_of copies.now) end) }
-    requires claim { Tallies (IsClaimedStart (values_of copies.now) end) (starts_tally starts) }
+    requires claim { Tallies (IsClaimedStart (values_of copies.now) end) (claimed_tally starts) }
     ensures { IsPlacedOrStop (values_of copies.now) end payload.old payload.new result }
 {
-    let Starts::One(start) = starts else {
+    let Claimed::One(start) = starts else {
         return None;
     };
     write_at(payload, start, least_at(copies, start, end));
@@ -76,7 +76,7 @@ fn disputed_before(
 fn woven_before(
     alloc: Global,
     copies: &[&[u8]],
-    starts: Starts,
+    starts: Claimed,
     end: usize,
     payload: &mut [u8],
 ) -> Result<Option<Place>, AllocError>
@@ -84,11 +84,11 @@ fn woven_before(
     requires within { All (λ copy. end ≤ length copy.now) copies.now }
     requires room { end ≤ length payload.old }
     requires none { IsOfNone (IsPiece (values_of copies.now) end) }
-    requires claim { Tallies (IsClaimedStart (values_of copies.now) end) (starts_tally starts) }
+    requires claim { Tallies (IsClaimedStart (values_of copies.now) end) (claimed_tally starts) }
     ensures { IfOk result (IsPlacedOrStop (values_of copies.now) end payload.old payload.new) }
 {
     let (start, bytes, count) = match starts {
-        Starts::One(start) => {
+        Claimed::One(start) => {
             let standing = weave_at(alloc, copies, start, end, payload)?;
             return Ok(Some(Place {
                 start,
@@ -96,11 +96,11 @@ fn woven_before(
                 standing,
             }));
         }
-        Starts::None => match first_woven(alloc, copies, end)? {
+        Claimed::None => match first_woven(alloc, copies, end)? {
             Some((bytes, count)) => (0, bytes, count),
             None => return Ok(None),
         },
-        Starts::Two => match several_woven(alloc, copies, end)? {
+        Claimed::Two => match several_woven(alloc, copies, end)? {
             Some(woven) => woven,
             None => return Ok(None),
         },
@@ -145,12 +145,12 @@ pub(crate) fn weave_at(
         WeaveResult::Missing(_) => true,
         WeaveResult::TooMany => false,
     };
-    vote_at(alloc, copies, versions, all_tried, start, end, payload)
+    unwoven_at(alloc, copies, versions, all_tried, start, end, payload)
 }
 
 /// How the place between these ends stands, whose versions are not woven: no combination is a slice, if all are tried, or there are too
 /// many. It is voted or repaired, or the lexicographically smallest of the copies' bytes are written.
-fn vote_at(
+fn unwoven_at(
     alloc: Global,
     copies: &[&[u8]],
     versions: &[&[u8]],

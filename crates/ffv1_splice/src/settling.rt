@@ -1,10 +1,11 @@
 //! The settled walks of a splice: down from its end, and up from its start.
-ghost use Rattle.std.specs.Prelude.{◌≡◌, ◌+◌, ◌++◌, ◌<◌, ◌≤◌, List, length, take, All, IfOk, MatchOption};
+ghost use Rattle.std.specs.Prelude.{◌≡◌, ◌++◌, ◌<◌, ◌≤◌, List, length, take, All, IfOk, MatchOption};
 ghost use Rattle.ffv1_slice.specs.Chain.{LinkValue};
 ghost use Rattle.ffv1_slice.specs.Members.{IsOnly};
 ghost use Rattle.ffv1_weave.specs.References.{values_of};
-ghost use Rattle.ffv1_splice.specs.Pieces.{IsPiece, PieceFrom, IsShortest};
+ghost use Rattle.ffv1_splice.specs.Pieces.{IsPiece};
 ghost use Rattle.ffv1_splice.specs.Splice.{IsWalkDown, IsBound, IsWalkUp};
+ghost use Rattle.ffv1_splice.specs.Inner.Splice.{IsSettledFrom, NoneIsSettledFrom};
 ghost use Rattle.ffv1_splice.specs.declared.place.Place.{Place};
 
 use crate::place::{Place, Standing, add_place};
@@ -69,10 +70,8 @@ pub(crate) fn bound_below(copies: &[&[u8]], end: usize) -> usize
 fn settled_from<'a>(copies: &[&'a [u8]], start: usize, bound: usize) -> Option<&'a [u8]>
     requires { All (λ copy. bound ≤ length copy.now) copies.now }
     ensures { MatchOption result
-        ((piece : PieceFrom) → IsShortest (values_of copies.now) bound start piece
-        → IsOnly (IsPiece (values_of copies.now) piece.end) (record { start = start; bytes = piece.bytes }) → ⊥)
-        (λ bytes. IsShortest (values_of copies.now) bound start (record { end = start + length bytes.now; bytes = bytes.now })
-        × IsOnly (IsPiece (values_of copies.now) (start + length bytes.now)) (record { start = start; bytes = bytes.now })) }
+        (NoneIsSettledFrom (values_of copies.now) bound start)
+        (λ bytes. IsSettledFrom (values_of copies.now) bound start bytes.now) }
 {
     let bytes = first_from(copies, start, bound)?;
     match only_piece(copies, start + bytes.len()) {

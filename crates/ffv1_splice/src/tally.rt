@@ -3,7 +3,7 @@ ghost use Rattle.std.specs.Prelude.{◌≡◌, ◌≤◌, ◌<◌, ◌↔◌, �
 ghost use Rattle.ffv1_slice.specs.Chain.{FooterGives};
 ghost use Rattle.ffv1_weave.specs.References.{values_of};
 ghost use Rattle.ffv1_splice.specs.Pieces.{HasContent, IsPiece, IsClaimedStart, IsLeast};
-ghost use Rattle.ffv1_splice.specs.Inner.Tally.{Tallies, TalliesMore, TalliesBoth, pieces_tally, starts_tally};
+ghost use Rattle.ffv1_splice.specs.Inner.Tally.{Tallies, TalliesMore, TalliesBoth, pieces_tally, claimed_tally};
 
 use ffv1_bits::passes;
 use ffv1_slice::{FOOTER_LENGTH, slice_start};
@@ -21,7 +21,7 @@ pub(crate) enum Pieces<'a> {
 
 /// What footers claim of slices with content: the starts of those that end at a place, or the ends of those that begin at one.
 #[derive(Clone, Copy)]
-pub(crate) enum Starts {
+pub(crate) enum Claimed {
     /// None claims one.
     None,
     /// All that claim one claim this.
@@ -54,26 +54,26 @@ impl<'a> Pieces<'a> {
     }
 }
 
-impl Starts {
-    /// The same with one more start.
-    fn with(self, start: usize) -> Starts
-        ensures { TalliesMore (starts_tally self) start (starts_tally result) }
+impl Claimed {
+    /// The same with one more that is claimed.
+    fn with(self, place: usize) -> Claimed
+        ensures { TalliesMore (claimed_tally self) place (claimed_tally result) }
     {
         match self {
-            Starts::None => Starts::One(start),
-            Starts::One(same) if same == start => self,
-            _ => Starts::Two,
+            Claimed::None => Claimed::One(place),
+            Claimed::One(same) if same == place => self,
+            _ => Claimed::Two,
         }
     }
 
     /// The same with all that others are.
-    pub(crate) fn joined(self, others: Starts) -> Starts
-        ensures { TalliesBoth (starts_tally self) (starts_tally others) (starts_tally result) }
+    pub(crate) fn joined(self, others: Claimed) -> Claimed
+        ensures { TalliesBoth (claimed_tally self) (claimed_tally others) (claimed_tally result) }
     {
         match others {
-            Starts::None => self,
-            Starts::One(start) => self.with(start),
-            Starts::Two => Starts::Two,
+            Claimed::None => self,
+            Claimed::One(place) => self.with(place),
+            Claimed::Two => Claimed::Two,
         }
     }
 }
@@ -92,13 +92,13 @@ pub(crate) fn claimed_start(copy: &[u8], end: usize) -> Option<usize>
 }
 
 /// The pieces that end at a place, and the starts that are claimed there. Each copy has the place.
-pub(crate) fn tally_at<'a>(copies: &[&'a [u8]], end: usize) -> (Pieces<'a>, Starts)
+pub(crate) fn tally_at<'a>(copies: &[&'a [u8]], end: usize) -> (Pieces<'a>, Claimed)
     requires { All (λ copy. end ≤ length copy.now) copies.now }
     ensures pieces { Tallies (IsPiece (values_of copies.now) end) (pieces_tally result.0) }
-    ensures starts { Tallies (IsClaimedStart (values_of copies.now) end) (starts_tally result.1) }
+    ensures starts { Tallies (IsClaimedStart (values_of copies.now) end) (claimed_tally result.1) }
 {
     let mut pieces = Pieces::None;
-    let mut starts = Starts::None;
+    let mut starts = Claimed::None;
     for copy in copies {
         if let Some(start) = claimed_start(copy, end) {
             let bytes = &copy[start..end];

@@ -4,8 +4,8 @@ use Rattle.ffv1_slice.specs.Chain.{LinkValue}
 use Rattle.ffv1_slice.specs.Members.{IsOnly, IsOfTwo, IsOfNone}
 use Rattle.ffv1_splice.specs.declared.tally.Pieces.{Pieces}
 use Rattle.ffv1_splice.specs.declared.tally.Pieces.TheVariants as pieces
-use Rattle.ffv1_splice.specs.declared.tally.Starts.{Starts}
-use Rattle.ffv1_splice.specs.declared.tally.Starts.TheVariants as starts
+use Rattle.ffv1_splice.specs.declared.tally.Claimed.{Claimed}
+use Rattle.ffv1_splice.specs.declared.tally.Claimed.TheVariants as claims
 
 pub data Tally (X : Type 0) : Type 0 where
   none : Tally X
@@ -37,7 +37,7 @@ pieces_tally pieces.None = none
 pieces_tally (pieces.One start bytes) = one (record { start = start; bytes = bytes.now })
 pieces_tally pieces.Two = two
 
-abbrev pub starts_tally : Starts → Tally ℕ
-starts_tally starts.None = none
-starts_tally (starts.One start) = one start
-starts_tally starts.Two = two
+abbrev pub claimed_tally : Claimed → Tally ℕ
+claimed_tally claims.None = none
+claimed_tally (claims.One place) = one place
+claimed_tally claims.Two = two

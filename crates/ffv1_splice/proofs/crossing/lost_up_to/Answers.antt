@@ -1,11 +1,11 @@
-use Rattle.ffv1_splice.proofs.Common.{◌≡◌, ◌+◌, ℕ, List, length, subst, IsOnly, IsPiece, IsClaimedStart, PieceFrom, IsClaimedEnd, Tallies, pieces_tally, starts_tally, Starts, One, values_of}
+use Rattle.ffv1_splice.proofs.Common.{◌≡◌, ◌+◌, ℕ, List, length, subst, IsOnly, IsPiece, IsClaimedStart, PieceFrom, IsClaimedEnd, Tallies, pieces_tally, claimed_tally, Claimed, One, values_of}
 use Rattle.ffv1_splice.proofs.Crossings.{lost_where_claimed, lost_where_no_piece, lost_where_claim, lost_where_borne_out, is_lost}
 use Rattle.ffv1_splice.proofs.crossing.lost_up_to.Goals as goal
 
 -- the one end that is claimed
-only_end : (copies : List (List ℕ)) (reach : ℕ) (claim : Starts) (end : ℕ) → claim ≡ One end → Tallies (IsClaimedEnd copies reach) (starts_tally claim)
+only_end : (copies : List (List ℕ)) (reach : ℕ) (claim : Claimed) (end : ℕ) → claim ≡ One end → Tallies (IsClaimedEnd copies reach) (claimed_tally claim)
     → IsOnly (IsClaimedEnd copies reach) end
-only_end copies reach claim end is tallies = subst (λ ends. Tallies (IsClaimedEnd copies reach) (starts_tally ends)) is tallies
+only_end copies reach claim end is tallies = subst (λ ends. Tallies (IsClaimedEnd copies reach) (claimed_tally ends)) is tallies
 
 pub returns-in_default : goal.returns-in_default
 returns-in_default c =
@@ -27,7 +27,7 @@ returns-in-Some c =
     let only = only_end copies c.args.reach _ c.in-One.end c.in-One.is c.claimed_ends.ensures in
     let next : PieceFrom = record { end = c.in-One.end + length c.in-Some.field-0.now; bytes = c.in-Some.field-0.now } in
     is_lost copies c.args.reach c.in-One.end only c.in-One-starts.field-0 next
-    (subst (λ claim. Tallies (IsClaimedStart copies c.in-One.end) (starts_tally claim)) c.in-One-starts.is c.tally_at-starts.ensures.starts)
+    (subst (λ claim. Tallies (IsClaimedStart copies c.in-One.end) (claimed_tally claim)) c.in-One-starts.is c.tally_at-starts.ensures.starts)
     (subst (λ claim. Tallies (IsPiece copies c.in-One.end) (pieces_tally claim)) c.in-None.is c.tally_at-starts.ensures.pieces)
     c.in-Some.ensures
 

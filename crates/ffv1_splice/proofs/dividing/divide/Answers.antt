@@ -13,8 +13,8 @@ pub loop-places-preserved : goal.loop-places-preserved
 loop-places-preserved c =
     let payload : List ℕ = c.loop-places.payload in
     let start : ℕ = c.in-Some.place.start in
-    let placed : IsPlaced (values_of c.args.copies.now) c.loop-places.end payload c.place_before.new.payload c.in-Some.place =
-    subst (IsPlacedOrStop (values_of c.args.copies.now) c.loop-places.end payload c.place_before.new.payload) c.in-Some.is c.in_ok-place.ensures in
+    let placed : IsPlaced (values_of c.args.copies.now) c.loop-places.end payload c.place_ending_at.new.payload c.in-Some.place =
+    subst (IsPlacedOrStop (values_of c.args.copies.now) c.loop-places.end payload c.place_ending_at.new.payload) c.in-Some.is c.in_ok-place.ensures in
     let bytes : List ℕ = placed.bytes in
     let size = placed.size in
     let within = c.loop-places.invariant.within in
@@ -35,8 +35,8 @@ returns c =
     let bytes : List ℕ = c.least_at.result.now in
     let same = c.loop-places.invariant.same_length in
     let within = c.loop-places.invariant.within in
-    let stopped : IsPlacedOrStop (values_of c.args.copies.now) c.loop-places.end payload c.place_before.new.payload None =
-    subst (IsPlacedOrStop (values_of c.args.copies.now) c.loop-places.end payload c.place_before.new.payload) c.in_default.is c.in_ok-place.ensures in
+    let stopped : IsPlacedOrStop (values_of c.args.copies.now) c.loop-places.end payload c.place_ending_at.new.payload None =
+    subst (IsPlacedOrStop (values_of c.args.copies.now) c.loop-places.end payload c.place_ending_at.new.payload) c.in_default.is c.in_ok-place.ensures in
     let reach = reach_end c.args.copies.now _ _ c.loop-places.end c.requires.long same within in
     let size = least_size (values_of c.args.copies.now) 0 c.loop-places.end bytes
     (each_value c.args.copies.now (λ copy. c.loop-places.end ≤ length copy) reach) (omega arith) c.least_at.ensures in

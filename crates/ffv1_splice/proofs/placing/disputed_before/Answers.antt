@@ -1,5 +1,5 @@
 use Rattle.std.proofs.lemmas.Grind.{common_steps}
-use Rattle.ffv1_splice.proofs.Common.{◌≤◌, length, refl, inl, arith, IsOnly, IsPiece, IsClaimedStart, starts_tally, values_of, each_value}
+use Rattle.ffv1_splice.proofs.Common.{◌≤◌, length, refl, inl, arith, IsOnly, IsPiece, IsClaimedStart, claimed_tally, values_of, each_value}
 use Rattle.ffv1_splice.proofs.PlaceSteps.{two_not_only, two_not_none, no_claim, least_size, claim_below}
 use Rattle.ffv1_splice.proofs.placing.disputed_before.Goals as goal
 
@@ -16,7 +16,7 @@ returns-in_default c = (
 
 pub returns : goal.returns
 returns c =
-    let claim : IsOnly (IsClaimedStart (values_of c.args.copies.now) c.args.end) c.in-One.start = grind (arith, common_steps, values_of, starts_tally) in
+    let claim : IsOnly (IsClaimedStart (values_of c.args.copies.now) c.args.end) c.in-One.start = grind (arith, common_steps, values_of, claimed_tally) in
     let below = claim_below (values_of c.args.copies.now) c.in-One.start c.args.end claim.there in
     record {
       bytes = c.least_at.result.now;

@@ -57,8 +57,8 @@ returns-in-Disputed c =
     (gap_size (values_of c.args.copies.now) c.args.start c.args.end c.least_at.result.now
     (each_value c.args.copies.now (λ copy. c.args.end ≤ length copy) c.requires.within) gap) c.write_at-in-Disputed.ensures
 
-pub vote_at-requires-clause-missed : goal.vote_at-requires-clause-missed
-vote_at-requires-clause-missed c all =
+pub unwoven_at-requires-clause-missed : goal.unwoven_at-requires-clause-missed
+unwoven_at-requires-clause-missed c all =
     let is : values_of c.as_slice-versions.result.now ≡ versions_at (values_of c.args.copies.now) c.args.start c.args.end =
     ap values_of c.as_slice-versions.ensures.value ∙ c.in_ok-versions.ensures in
     elim c.match-branch-3.branch [

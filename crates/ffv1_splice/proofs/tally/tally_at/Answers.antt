@@ -1,5 +1,5 @@
 use Rattle.std.proofs.lemmas.Grind.{common_steps}
-use Rattle.ffv1_splice.proofs.Common.{◌≡◌, ℕ, List, [], ◌∷◌, ◌++◌, get_or, take, arith, sym, subst, slice_range, PassesParity, FooterGives, HasContent, IsPiece, IsClaimedStart, Tallies, pieces_tally, starts_tally, Pieces, Starts, values_of, next_value, all_values, nowhere}
+use Rattle.ffv1_splice.proofs.Common.{◌≡◌, ℕ, List, [], ◌∷◌, ◌++◌, get_or, take, arith, sym, subst, slice_range, PassesParity, FooterGives, HasContent, IsPiece, IsClaimedStart, Tallies, pieces_tally, claimed_tally, Pieces, Claimed, values_of, next_value, all_values, nowhere}
 use Rattle.ffv1_splice.proofs.TallySteps.{pieces-uncut, starts-uncut, pieces-failed, pieces-kept, pieces-passed, starts-cut}
 use Rattle.ffv1_splice.proofs.tally.tally_at.Goals as goal
 use Rattle.ffv1_splice.proofs.tally.tally_at.Goals.{in-Some+then-not-stays_with+then-passes, in-Some+else-not-stays_with, else-not-stays_with-via-then-not-stays_with+else-passes, else-not-stays_with-via-else-not-stays_with, in_default}
@@ -12,10 +12,10 @@ loop-copy-preserved c =
     let next_pieces = λ (pieces : Pieces) (is : c.match-claimed_start.pieces ≡ pieces) (claim : Tallies (IsPiece (before ++ copy ∷ []) c.args.end) (pieces_tally pieces)).
     subst (λ z. Tallies (IsPiece z c.args.end) (pieces_tally c.match-claimed_start.pieces)) more
     (subst (λ p. Tallies (IsPiece (before ++ copy ∷ []) c.args.end) (pieces_tally p)) (sym is) claim) in
-    let next_starts = λ (starts : Starts) (is : c.match-claimed_start.starts ≡ starts)
-    (claim : Tallies (IsClaimedStart (before ++ copy ∷ []) c.args.end) (starts_tally starts)).
-    subst (λ z. Tallies (IsClaimedStart z c.args.end) (starts_tally c.match-claimed_start.starts)) more
-    (subst (λ p. Tallies (IsClaimedStart (before ++ copy ∷ []) c.args.end) (starts_tally p)) (sym is) claim) in
+    let next_starts = λ (starts : Claimed) (is : c.match-claimed_start.starts ≡ starts)
+    (claim : Tallies (IsClaimedStart (before ++ copy ∷ []) c.args.end) (claimed_tally starts)).
+    subst (λ z. Tallies (IsClaimedStart z c.args.end) (claimed_tally c.match-claimed_start.starts)) more
+    (subst (λ p. Tallies (IsClaimedStart (before ++ copy ∷ []) c.args.end) (claimed_tally p)) (sym is) claim) in
     elim c.match-claimed_start.branch [
       | in-Some+then-not-stays_with+then-passes w ↦
           let cut : FooterGives copy w.in-Some.start c.args.end = w.in-Some.ensures.0 in
@@ -23,7 +23,7 @@ loop-copy-preserved c =
           let passes : PassesParity (slice_range copy w.in-Some.start c.args.end) = w.passes.ensures.0 w.if-passes.true in
           record {
             pieces = grind (arith, common_steps, pieces-passed, pieces_tally);
-            starts = grind (arith, common_steps, starts-cut, starts_tally);
+            starts = grind (arith, common_steps, starts-cut, claimed_tally);
           }
       | in-Some+else-not-stays_with w ↦
           let cut : FooterGives copy w.in-Some.start c.args.end = w.in-Some.ensures.0 in
@@ -39,13 +39,13 @@ loop-copy-preserved c =
                       pieces-kept before copy c.args.end (pieces_tally c.loop-copy.pieces) w.in-Some.start cut
                       (w.stays_with.ensures.0 v.if-not-stays_with.false) c.loop-copy.invariant.pieces
                 ]);
-            starts = grind (arith, common_steps, starts-cut, starts_tally);
+            starts = grind (arith, common_steps, starts-cut, claimed_tally);
           }
       | in_default w ↦
           let none : (start : ℕ) → FooterGives copy start c.args.end → HasContent start c.args.end → ⊥ = w.in_default.ensures in
           record {
             pieces = grind (arith, common_steps, pieces-uncut, pieces_tally);
-            starts = grind (arith, common_steps, starts-uncut, starts_tally);
+            starts = grind (arith, common_steps, starts-uncut, claimed_tally);
           }
     ]
 
@@ -56,5 +56,5 @@ returns-clause-pieces c =
 
 pub returns-clause-starts : goal.returns-clause-starts
 returns-clause-starts c =
-    subst (λ z. Tallies (IsClaimedStart z c.args.end) (starts_tally c.loop-copy.starts)) (all_values c.args.copies.now c.loop-copy.copy-index (omega arith))
+    subst (λ z. Tallies (IsClaimedStart z c.args.end) (claimed_tally c.loop-copy.starts)) (all_values c.args.copies.now c.loop-copy.copy-index (omega arith))
     c.loop-copy.invariant.starts

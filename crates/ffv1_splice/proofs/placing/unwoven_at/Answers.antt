@@ -3,8 +3,8 @@ use Rattle.ffv1_splice.proofs.Common.{◌≡◌, ◌-◌, ◌≤◌, ℕ, ◌+�
 use Rattle.ffv1_splice.proofs.PlaceSteps.{gap_size, unwoven_weave, missing_unwoven, placed_as}
 use Rattle.ffv1_splice.proofs.RepairSteps.{IsResult, unwoven_by, is_voted, is_unvoted, is_repaired, is_missing}
 use Rattle.ffv1_splice.proofs.Versions.{version_length, one_length, vote_size, repair_size}
-use Rattle.ffv1_splice.proofs.placing.vote_at.Goals as goal
-use Rattle.ffv1_splice.proofs.placing.vote_at.Goals.{then-all_tried+in_ok-repaired+in_default-2, else-all_tried}
+use Rattle.ffv1_splice.proofs.placing.unwoven_at.Goals as goal
+use Rattle.ffv1_splice.proofs.placing.unwoven_at.Goals.{then-all_tried+in_ok-repaired+in_default-2, else-all_tried}
 
 -- the versions of a place are as long as the first
 versions_long : (copies versions : List (Bor (List ℕ))) (start end : ℕ) → IsUnwovenAt (values_of copies) start end → All (λ copy. end ≤ length copy.now) copies

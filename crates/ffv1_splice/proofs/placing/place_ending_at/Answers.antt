@@ -1,6 +1,6 @@
 use Rattle.ffv1_splice.proofs.Common.{◌≤◌, length, subst, refl, IsOnly, IsPiece, Tallies, pieces_tally, values_of, each_value}
 use Rattle.ffv1_splice.proofs.PlaceSteps.{piece_size}
-use Rattle.ffv1_splice.proofs.placing.place_before.Goals as goal
+use Rattle.ffv1_splice.proofs.placing.place_ending_at.Goals as goal
 
 pub returns-in-One : goal.returns-in-One
 returns-in-One c =
