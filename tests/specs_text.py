@@ -78,14 +78,20 @@ def exported(crate: str) -> typing.Set[str]:
     return {*names, *(other for name, other in kinds if name in names)}
 
 
-def contracts(text: str, public: typing.Set[str]) -> typing.Iterator[str]:
-    """What is promised of public items: the heads of functions, and what types and traits say beside their functions' bodies."""
+def own_traits(texts: typing.Iterable[str]) -> typing.Set[str]:
+    """The traits that a crate keeps to itself: what they say of a public type is no promise."""
+    return {name for text in texts for name in re.findall(r"^pub\(crate\) trait (\w+)", text, re.M)}
+
+
+def contracts(text: str, public: typing.Set[str], hidden: typing.Container[str] = ()) -> typing.Iterator[str]:
+    """What is promised of public items: the heads of functions, and what types and traits say beside their functions' bodies, but for traits
+    that are hidden."""
     starts = r"^(?:pub (?:const )?fn|pub struct|pub enum|pub trait|impl)\b"
     for item in re.findall(rf"{starts}[^\n]*;$|{starts}.*?^(?:\}}|\{{\}})$", text, re.S | re.M):
         head = re.sub(r"<[^{]*?>(?= |\()", "", item.split("\n")[0].split("{")[0])
         name = re.search(r"(?:fn|struct|enum|trait|impl|for) (\w+)(?!.* for )", head)
         of_trait = re.search(r"^impl (\w+) for ", head)
-        if not public & {found.group(1) for found in (name, of_trait) if found}:
+        if of_trait and of_trait.group(1) in hidden or not public & {found.group(1) for found in (name, of_trait) if found}:
             continue
         item = re.sub(r"^( *)\{$.*?^\1\}$", "", item, flags=re.S | re.M)
         if item.startswith("impl") and " for " not in head:
@@ -97,9 +103,10 @@ def contracts(text: str, public: typing.Set[str]) -> typing.Iterator[str]:
 def cited_by_contracts() -> typing.Iterator[typing.Tuple[str, str]]:
     for crate in crates():
         public = exported(crate)
-        for path in sorted((TOP / "crates" / crate / "src").glob("*.rt")):
-            text = re.sub(r"^ *//.*\n", "", path.read_text(), flags=re.M)
-            for contract in contracts(text, public):
+        texts = [re.sub(r"^ *//.*\n", "", path.read_text(), flags=re.M) for path in sorted((TOP / "crates" / crate / "src").glob("*.rt"))]
+        hidden = own_traits(texts)
+        for text in texts:
+            for contract in contracts(text, public, hidden):
                 yield from citations(text, contract)
 
 

@@ -107,6 +107,8 @@ class Citations(unittest.TestCase):
         for word in ("bits_of", "after_a_blank_line", "meaning", "seen", "given", "statement"):
             self.assertIn(word, found)
         self.assertNotIn("given", "".join(specs_text.contracts(CODE, {"Shown", "law"})))
+        self.assertNotIn("given", "".join(specs_text.contracts(CODE, {"Shown", "Given", "law"}, {"Given"})))
+        self.assertEqual(specs_text.own_traits(["pub(crate) trait Own {\n}\npub trait Given {\n}\n"]), {"Own"})
         for word in ("body", "hidden", "other", "elsewhere"):
             self.assertNotIn(word, found)
 

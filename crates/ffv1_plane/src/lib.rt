@@ -18,7 +18,8 @@ mod tile;
 pub use first_rows::{first_rows_of_codes, first_rows_of_range};
 pub use neighbours::Neighbours;
 pub use planes::{
-    LinesFault, PlaneSize, RangeLines, one_range_fault, one_range_reading, read_range_planes,
+    LinesFault, PlaneSize, RangeLines, group_of, one_range_fault, one_range_reading,
+    read_range_planes,
 };
 pub use range_rows::DifferenceFault;
 pub use rice_planes::{

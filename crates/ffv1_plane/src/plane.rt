@@ -1,7 +1,7 @@
 //! A plane, sample by sample and run by run (RFC 9043, sections 3.8.2 and 4.8).
 //!
 //! A `PlaneReader` has a state for each context of its tables.
-ghost use Rattle.std.specs.Prelude.{◌≡◌, ℕ, ◌<◌, ◌≤◌, ◌+◌, ◌^◌, length, slice_index, List, Bool, OnOk, IfOk, IfErr, nat_abs, true};
+ghost use Rattle.std.specs.Prelude.{◌≡◌, ◌<◌, ◌≤◌, ◌+◌, length, List, Bool, OnOk, IfOk, IfErr, nat_abs, true};
 ghost use Rattle.ffv1_bits.specs.Limits.{greatest_side};
 ghost use Rattle.ffv1_range.specs.Setup.{set_contexts, set_entry};
 ghost use Rattle.ffv1_rice.specs.States.{IsCodedDepth};
@@ -9,7 +9,7 @@ ghost use Rattle.ffv1_plane.specs.Samples.{IsPlaneOfSize, coding_at, neighbours_
 ghost use Rattle.ffv1_plane.specs.Inner.Progress.{IsContinued, RowStart, IsSampleRead, IsPlaneRead};
 ghost use Rattle.ffv1_plane.specs.Inner.Halts.{IsSampleHalted, IsDecodingHalted};
 ghost use Rattle.ffv1_plane.specs.Inner.Rows.{left_of, IsLeftOfNext};
-ghost use Rattle.ffv1_plane.specs.Inner.Readers.{coding_of, HasStates, IsSamePlane, HasRead, IsHaltedAt};
+ghost use Rattle.ffv1_plane.specs.Inner.Readers.{coding_of, HasStates, IsSamePlane, HasRead, HasReadRow, IsHaltedAt};
 
 use crate::lines::Lines;
 use crate::neighbours::{Neighbours, sample_of};
@@ -104,7 +104,6 @@ impl PlaneReader<'_, '_, '_> {
     /// Reads a scalar, or a run with the level that ends it, after the sample to the left, and returns the last sample:
     /// it stays at hand, where a look into the line would wait for it. After a run up to the line's end it is any.
     #[inline(always)]
-    #[inline(always)]
     fn read_next(&mut self, left: u32, depth: u32) -> Result<u32, PlaneFault>
         requires states { HasStates self.old }
         requires depth { depth ≡ self.old.lines.depth }
@@ -147,11 +146,7 @@ impl PlaneReader<'_, '_, '_> {
         requires depth { depth ≡ self.old.lines.depth }
         requires start { self.old.lines.x ≡ 0 }
         ensures same { IsSamePlane self.old self.new }
-        ensures read { OnOk result ((start : RowStart) (whole : List Bool) → HasRead start whole self.old → HasRead start whole self.new) }
-        ensures continued { OnOk result (IsContinued self.old.lines.samples self.new.lines.samples) }
-        ensures full { OnOk result (self.new.lines.x ≡ self.new.lines.width) }
-        ensures count { OnOk result (length self.new.lines.samples ≡ length self.old.lines.samples + self.old.lines.width) }
-        ensures small { OnOk result ((s : ℕ) → slice_index self.new.lines.samples s < 2 ^ self.old.lines.depth) }
+        ensures read { OnOk result (HasReadRow self.old self.new) }
         ensures err { IfErr result (IsHaltedAt self.old) }
     {
         let width = self.lines.width();
@@ -167,11 +162,7 @@ impl PlaneReader<'_, '_, '_> {
         requires states { HasStates self.old }
         requires start { self.old.lines.x ≡ 0 }
         ensures same { IsSamePlane self.old self.new }
-        ensures read { OnOk result ((start : RowStart) (whole : List Bool) → HasRead start whole self.old → HasRead start whole self.new) }
-        ensures continued { OnOk result (IsContinued self.old.lines.samples self.new.lines.samples) }
-        ensures full { OnOk result (self.new.lines.x ≡ self.new.lines.width) }
-        ensures count { OnOk result (length self.new.lines.samples ≡ length self.old.lines.samples + self.old.lines.width) }
-        ensures small { OnOk result ((s : ℕ) → slice_index self.new.lines.samples s < 2 ^ self.old.lines.depth) }
+        ensures read { OnOk result (HasReadRow self.old self.new) }
         ensures err { IfErr result (IsHaltedAt self.old) }
     {
         let depth = self.lines.depth();
@@ -185,40 +176,10 @@ impl PlaneReader<'_, '_, '_> {
     }
 }
 
-/// Reads a plane of this coded depth and size. The states are those that planes before it have left, and come back as this one leaves
-/// them; bits after its last sample are left.
-pub(crate) fn decode_plane(
-    alloc: Global,
-    depth: u32,
-    width: usize,
-    height: usize,
-    tables: &Tables,
-    states: Vec<VlcState>,
-    bits: &mut Bits,
-) -> Result<(Vec<u32>, Vec<VlcState>), PlaneFault>
-    requires depth { IsCodedDepth depth }
-    requires some { 1 ≤ width }
-    requires width { width ≤ greatest_side }
-    requires height { height ≤ greatest_side }
-    requires contexts { length states.items ≡ set_contexts tables.now.setup tables.now.set }
-    ensures len { IfOk result (λ read. length read.1.items ≡ length states.items) }
-    ensures size { IfOk result (λ read. IsPlaneOfSize depth width height read.0.items) }
-    ensures read { IfOk result (λ read. IsPlaneRead width height (coding_at depth (set_entry tables.now.setup tables.now.set))
-        states.items bits.old.left read.0.items read.1.items bits.new.left) }
-    ensures err { IfErr result (IsDecodingHalted width height (coding_at depth (set_entry tables.now.setup tables.now.set))
-        states.items bits.old.left) }
-{
-    // The codes of bytes are read faster where their depth is a constant.
-    if depth == BYTE_DEPTH {
-        read_plane(alloc, BYTE_DEPTH, width, height, tables, states, bits)
-    } else {
-        read_plane(alloc, depth, width, height, tables, states, bits)
-    }
-}
-
-/// Reads a plane as `decode_plane` does, by a body of its own for each constant depth.
+/// Reads a plane of this coded depth and size, by a body of its own where the depth is a constant: the codes are read faster there. The states
+/// are those that planes before it have left, and come back as this one leaves them; bits after its last sample are left.
 #[inline(always)]
-fn read_plane(
+pub(crate) fn decode_plane(
     alloc: Global,
     depth: u32,
     width: usize,

@@ -1,11 +1,11 @@
 //! The planes of a slice that are read together, line by line in coded order (RFC 9043, section 4.7).
-ghost use Rattle.std.specs.Prelude.{◌≡◌, ◌<◌, ◌≤◌, ◌+◌, ◌*◌, ◌∷◌, [], ℕ, IsOk, IfOk, IfErr, IsTrue, MatchResult, OnOk, List, length, map, replicate, slice_index, nat_lt, if◌then◌else◌};
+ghost use Rattle.std.specs.Prelude.{◌≡◌, ◌<◌, ◌≤◌, ◌*◌, ◌∷◌, [], ℕ, IsOk, IfOk, IfErr, IsTrue, MatchResult, OnOk, List, length, map, replicate, slice_index, if◌then◌else◌};
 ghost use Rattle.std.specs.List.{All};
 ghost use Rattle.ffv1_range.specs.Setup.{set_contexts};
-ghost use Rattle.ffv1_plane.specs.Lines.{line_at, lines_of_plane, plane_after_plane, lines_of_row, row_after_row};
+ghost use Rattle.ffv1_plane.specs.Lines.{line_at};
 ghost use Rattle.ffv1_plane.specs.Inner.RangeLines.{rows_at, AreLinesRead};
-ghost use Rattle.ffv1_plane.specs.RangeSlices.{slice_shape, slice_group, are_signed, height_at, lines_of};
-ghost use Rattle.ffv1_plane.specs.Inner.Planes.{group_number, coding_of_planes, lines_reader, HaveStates, IsFresh, AreNewPlanes, HaveRead, lines_fault, IsLinesFaultOf};
+ghost use Rattle.ffv1_plane.specs.RangeSlices.{slice_shape, slice_group, are_signed, height_at};
+ghost use Rattle.ffv1_plane.specs.Inner.Planes.{group_number, coding_of_planes, lines_reader, HaveStates, AreNewPlanes, lines_fault, IsLinesFaultOf};
 ghost use Rattle.ffv1_plane.specs.RangeLaws.{OneRangeReading, StuckRangeCodesNothing, StuckRangeIsOne};
 ghost use Rattle.ffv1_plane.specs.RangeReading.{IsPlaneSize, group_states, start_states, HaveSliceStates, IsSliceRead, IsSliceFaultOf, AreCodedAt};
 ghost use Rattle.ffv1_plane.specs.declared.planes.LinesFault.TheVariants as LinesFault;
@@ -71,9 +71,9 @@ impl<'a> RangeLines<'a> {
         ensures begins { IfOk result (λ reader. (group : ℕ) → group < 3 → group_states reader group ≡ start_states recording.now (slice_index sets.now group)) }
         ensures states { IfOk result (λ reader. (sizes : List PlaneSize) → HaveSliceStates (slice_shape recording.now sets.now sizes) reader) }
     {
-        let luma = start_states(alloc, recording, sets[0])?;
-        let chroma = start_states(alloc, recording, sets[1])?;
-        let alpha = start_states(alloc, recording, sets[2])?;
+        let luma = initial_rows(alloc, recording, sets[0])?;
+        let chroma = initial_rows(alloc, recording, sets[1])?;
+        let alpha = initial_rows(alloc, recording, sets[2])?;
         Ok(RangeLines {
             decoder,
             luma,
@@ -84,7 +84,7 @@ impl<'a> RangeLines<'a> {
 }
 
 /// The states that a slice of a keyframe begins with, a row of 32 for each context of a set.
-fn start_states(
+fn initial_rows(
     alloc: Global,
     recording: &Recording,
     set: usize,
@@ -128,16 +128,31 @@ pub enum LinesFault {
     Memory,
 }
 
-/// The group of a plane.
-pub(crate) fn group_of(has_chroma: bool, plane: usize) -> Group
-    ensures { group_number result ≡ slice_group has_chroma plane }
+/// The group of a plane, counted from 0 in coded order: 0 for the first plane, 1 for the second and third where there are three of colour, 2 for alpha. A plane's
+/// adaptive states and its table set are those of its group.
+pub fn group_of(has_chroma: bool, plane: usize) -> usize
+    ensures value { result ≡ slice_group has_chroma plane }
+    ensures few { result < 3 }
 {
     if plane == 0 {
-        Group::Luma
+        0
     } else if has_chroma && plane < 3 {
-        Group::Chroma
+        1
     } else {
-        Group::Alpha
+        2
+    }
+}
+
+impl Group {
+    /// The group of a plane.
+    pub(crate) fn of(has_chroma: bool, plane: usize) -> Group
+        ensures { group_number result ≡ slice_group has_chroma plane }
+    {
+        match group_of(has_chroma, plane) {
+            0 => Group::Luma,
+            1 => Group::Chroma,
+            _ => Group::Alpha,
+        }
     }
 }
 
@@ -214,7 +229,7 @@ impl SlicePlanes<'_> {
         } = reader;
         let lines = &mut self.lines[plane];
         let signed = self.is_signed;
-        match group_of(self.has_chroma, plane) {
+        match Group::of(self.has_chroma, plane) {
             Group::Luma => match read_range_row(decoder, luma, lines, &self.luma, signed) {
                 Ok((decoder, luma)) => Ok(RangeLines {
                     decoder,

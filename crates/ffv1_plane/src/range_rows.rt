@@ -8,7 +8,7 @@ ghost use Rattle.ffv1_rice.specs.States.{IsCodedDepth, IsDifference};
 ghost use Rattle.ffv1_plane.specs.Samples.{coding_at, prediction_of};
 ghost use Rattle.ffv1_plane.specs.RangeRows.{signed_16, signed_prediction_of, difference_form, fault_of_difference};
 ghost use Rattle.ffv1_plane.specs.Inner.Rows.{left_of, IsLeftOfNext};
-ghost use Rattle.ffv1_plane.specs.Inner.RangeRows.{IsSameShape, IsRangeSampleRead, IsRangeSampleRefused, IsRangeRowRead, IsRangeRowRefused, IsRowFaultOf};
+ghost use Rattle.ffv1_plane.specs.Inner.RangeRows.{IsSameShape, IsRangeSampleRead, IsRangeSampleRefused, IsNextRowRead, IsNextRowRefused, IsRowFaultOf};
 
 use crate::lines::Lines;
 use crate::neighbours::{Neighbours, sample_of};
@@ -163,12 +163,8 @@ fn read_row<'a>(
     ensures count { length states.new ≡ length states.old }
     ensures full { IfOk result (λ after. lines.new.x ≡ lines.new.width) }
     ensures small { OnOk result ((s : ℕ) → slice_index lines.new.samples s < 2 ^ lines.old.depth) }
-    ensures read { IfOk result (λ after. (group : ℕ) → group < 3 → IsRangeRowRead lines.old.width
-        (coding_at lines.old.depth (set_entry tables.now.setup tables.now.set)) group is_signed
-        lines.old.samples states.old decoder.entry lines.new.samples states.new after lines.old.width) }
-    ensures err { IfErr result (λ cut. (group : ℕ) → group < 3 → IsRangeRowRefused lines.old.width
-        (coding_at lines.old.depth (set_entry tables.now.setup tables.now.set)) group is_signed
-        lines.old.samples states.old decoder.entry cut.fault cut.x) }
+    ensures read { IfOk result (IsNextRowRead lines.old tables.now is_signed states.old decoder.entry lines.new states.new) }
+    ensures err { IfErr result (λ cut. IsNextRowRefused lines.old tables.now is_signed states.old decoder.entry cut.fault cut.x) }
 {
     let width = lines.width();
     // Its contract says that the samples are small.
@@ -200,12 +196,8 @@ fn read_row_at<'a>(
     ensures count { length states.new ≡ length states.old }
     ensures full { IfOk result (λ after. lines.new.x ≡ lines.new.width) }
     ensures small { OnOk result ((s : ℕ) → slice_index lines.new.samples s < 2 ^ lines.old.depth) }
-    ensures read { IfOk result (λ after. (group : ℕ) → group < 3 → IsRangeRowRead lines.old.width
-        (coding_at lines.old.depth (set_entry tables.now.setup tables.now.set)) group is_signed
-        lines.old.samples states.old decoder.entry lines.new.samples states.new after lines.old.width) }
-    ensures err { IfErr result (λ cut. (group : ℕ) → group < 3 → IsRangeRowRefused lines.old.width
-        (coding_at lines.old.depth (set_entry tables.now.setup tables.now.set)) group is_signed
-        lines.old.samples states.old decoder.entry cut.fault cut.x) }
+    ensures read { IfOk result (IsNextRowRead lines.old tables.now is_signed states.old decoder.entry lines.new states.new) }
+    ensures err { IfErr result (λ cut. IsNextRowRefused lines.old tables.now is_signed states.old decoder.entry cut.fault cut.x) }
 {
     let depth = lines.depth();
     if is_signed {
@@ -246,9 +238,7 @@ pub(crate) fn read_range_row<'a>(
     ensures count { IfOk result (λ after. length after.1.items ≡ length states.items) }
     ensures ended { OnOk result (lines.new.x ≡ 0) }
     ensures small { OnOk result ((s : ℕ) → slice_index lines.new.samples s < 2 ^ lines.old.depth) }
-    ensures read { IfOk result (λ after. (group : ℕ) → group < 3 → IsRangeRowRead lines.old.width
-        (coding_at lines.old.depth (set_entry tables.now.setup tables.now.set)) group is_signed
-        lines.old.samples states.items decoder.entry lines.new.samples after.1.items after.0 lines.old.width) }
+    ensures read { IfOk result (λ after. IsNextRowRead lines.old tables.now is_signed states.items decoder.entry lines.new after.1.items after.0) }
     ensures err { IfErr result (IsRowFaultOf lines.old.width
         (coding_at lines.old.depth (set_entry tables.now.setup tables.now.set)) is_signed
         lines.old.samples states.items decoder.entry) }

@@ -1,22 +1,21 @@
 //! The planes of a slice of Golomb-Rice codes that are read together, line by line in coded order (RFC 9043, sections 3.8.2 and 4.7).
 ghost use Rattle.std.specs.Prelude.{◌≡◌, ◌<◌, ◌≤◌, ◌*◌, ◌∷◌, [], ℕ, IfOk, IfErr, IsTrue, MatchResult, OnOk, List, length, map, slice_index, if◌then◌else◌};
 ghost use Rattle.std.specs.List.{All};
-ghost use Rattle.ffv1_range.specs.Setup.{set_contexts};
 ghost use Rattle.ffv1_plane.specs.Picture.{no_values};
-ghost use Rattle.ffv1_plane.specs.Lines.{line_at, lines_of_plane, plane_after_plane, lines_of_row, row_after_row};
-ghost use Rattle.ffv1_plane.specs.RangeSlices.{slice_shape, height_at, lines_of};
+ghost use Rattle.ffv1_plane.specs.Lines.{line_at};
+ghost use Rattle.ffv1_plane.specs.RangeSlices.{slice_shape, height_at};
 ghost use Rattle.ffv1_plane.specs.RangeReading.{IsPlaneSize};
 ghost use Rattle.ffv1_plane.specs.RiceSlices.{is_anew_at};
 ghost use Rattle.ffv1_plane.specs.RiceReading.{group_codes, first_codes, HaveSliceCodes, AreValuesOf, AreCodesDecoded, IsCodesFaultOf, AreSpelledAt};
 ghost use Rattle.ffv1_plane.specs.RiceLaws.{OneCodesReading, StuckCodesSpellNothing, StuckCodesAreOne};
-ghost use Rattle.ffv1_plane.specs.Inner.Planes.{coding_of_planes, IsFresh};
+ghost use Rattle.ffv1_plane.specs.Inner.Planes.{coding_of_planes};
 ghost use Rattle.ffv1_plane.specs.Inner.RangeLines.{rows_at};
-ghost use Rattle.ffv1_plane.specs.Inner.RiceLines.{codes_place, HaveCodes, AreCodesRead, IsCutFor, HaveReadCodes, codes_fault};
+ghost use Rattle.ffv1_plane.specs.Inner.RiceLines.{codes_place, HaveCodes, AreCodesRead, IsCutFor, codes_fault};
 ghost use Rattle.ffv1_plane.specs.declared.rice_planes.CodesFault.TheVariants as CodesFault;
 
 use crate::coded_order::PlaneRow;
 use crate::lines::Lines;
-use crate::planes::{Group, PlaneSize, SlicePlanes, group_of};
+use crate::planes::{Group, PlaneSize, SlicePlanes};
 use crate::rice_rows::{RowCodes, RowCodesFault, read_rice_row};
 use crate::row_reader::{RowReader, read_lines};
 use ffv1_bits::Bits;
@@ -144,7 +143,7 @@ impl<'b> OpenLines<'b> {
         let index = index_at(is_rgb, plane, row, index);
         let codes = RowCodes { bits, index, spare };
         let lines = &mut planes.lines[plane];
-        match group_of(planes.has_chroma, plane) {
+        match Group::of(planes.has_chroma, plane) {
             Group::Luma => match read_rice_row(codes, luma, lines, &planes.luma) {
                 Ok((codes, luma)) => Ok(OpenLines {
                     codes,

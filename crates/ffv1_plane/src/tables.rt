@@ -1,7 +1,8 @@
 //! The quantization tables of a set, with all of their entries (RFC 9043, section 3.5).
-ghost use Rattle.std.specs.Prelude.{◌≡◌, ℕ, ◌<◌, ◌≤ℤ◌, ◌+ℤ◌, length, pos, neg_ℤ, nat_abs, slice_index_or, IsTrue};
+ghost use Rattle.std.specs.Prelude.{◌≡◌, ℕ, ◌<◌, ◌≤ℤ◌, length, pos, neg_ℤ, nat_abs, slice_index_or, IsTrue};
 ghost use Rattle.ffv1_range.specs.Setup.{set_contexts, set_entry};
 ghost use Rattle.ffv1_plane.specs.Samples.{context_of, modular_difference};
+ghost use Rattle.ffv1_plane.specs.Inner.Sums.{with_far_entries};
 
 use crate::neighbours::Neighbours;
 use ffv1_range::Recording;
@@ -74,10 +75,7 @@ impl<'s> Tables<'s> {
     fn add_far(&self, near: &Neighbours, first: i32) -> i32
         requires low { neg_ℤ (pos 65536) ≤ℤ first }
         requires high { first ≤ℤ pos 65536 }
-        ensures { result ≡ first
-            +ℤ set_entry self.now.setup self.now.set 2 (modular_difference near.now.top near.now.top_right)
-            +ℤ set_entry self.now.setup self.now.set 3 (modular_difference near.now.left_of_left near.now.left)
-            +ℤ set_entry self.now.setup self.now.set 4 (modular_difference near.now.top_of_top near.now.top) }
+        ensures { result ≡ with_far_entries (set_entry self.now.setup self.now.set) near.now first }
     {
         let sum = first + self.entry(2, near.top, near.top_right);
         if self.is_near {

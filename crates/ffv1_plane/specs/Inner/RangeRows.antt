@@ -3,8 +3,10 @@ use Rattle.std.specs.Prelude.{◌≡◌, ◌≢◌, ℕ, ◌+◌, ◌*◌, ◌<�
 use Rattle.ffv1_range.specs.Coding.{Mode, Coder, Place, PlaceOf, IsRangeRun}
 use Rattle.ffv1_range.specs.Decoder.{Reader, reader_at}
 use Rattle.ffv1_range.specs.Rows.{Rows, IsRowsRun}
+use Rattle.ffv1_range.specs.Setup.{set_entry}
 use Rattle.ffv1_range.specs.Symbols.{signed_symbol_bits}
-use Rattle.ffv1_plane.specs.Samples.{Coding, plane_of, context_at, context_of, neighbours_at}
+use Rattle.ffv1_plane.specs.Samples.{Coding, coding_at, plane_of, context_at, context_of, neighbours_at}
+use Rattle.ffv1_plane.specs.SetTables.{SetTables}
 use Rattle.ffv1_plane.specs.Inner.Rows.{RowsRead}
 use Rattle.ffv1_plane.specs.RangeRows.{RangePlane, range_difference_at, state_row, columns_bits, difference_form}
 use Rattle.ffv1_plane.specs.declared.range_rows.DifferenceFault.{DifferenceFault}
@@ -94,6 +96,18 @@ pub record IsRangeRowRefused (width : ℕ) (coding : Coding) (group : ℕ) (is_s
   pub reader : Reader
   pub read : IsRangeRowRead width coding group is_signed old states r samples after reader x
   pub refused : IsRangeSampleRefused width coding samples after reader fault
+
+-- The next row of a plane was read by these tables, whatever its group is ..
+abbrev pub IsNextRowRead : RowsRead → SetTables → Bool → List (List ℕ) → Reader → RowsRead → List (List ℕ) → Reader → Type 0
+IsNextRowRead old tables is_signed states r new after s =
+    (group : ℕ) → group < 3
+    → IsRangeRowRead old.width (coding_at old.depth (set_entry tables.setup tables.set)) group is_signed old.samples states r new.samples after s old.width
+
+-- .. or a sample of it is refused.
+abbrev pub IsNextRowRefused : RowsRead → SetTables → Bool → List (List ℕ) → Reader → DifferenceFault → ℕ → Type 0
+IsNextRowRefused old tables is_signed states r fault x =
+    (group : ℕ) → group < 3
+    → IsRangeRowRefused old.width (coding_at old.depth (set_entry tables.setup tables.set)) group is_signed old.samples states r fault x
 
 -- Why a row was not read: a sample of it is refused, whatever the group is, or memory.
 abbrev pub IsRowFaultOf : ℕ → Coding → Bool → List ℕ → List (List ℕ) → Reader → RowFault → Type 0

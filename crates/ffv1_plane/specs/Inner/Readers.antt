@@ -1,8 +1,8 @@
 -- How far a reader of a plane has come, and how it halts: the notions of Progress and Halts at a reader.
-use Rattle.std.specs.Prelude.{◌≡◌, Bool, List, length}
+use Rattle.std.specs.Prelude.{◌≡◌, ℕ, ◌+◌, ◌<◌, ◌^◌, Bool, List, length, slice_index}
 use Rattle.ffv1_plane.specs.Samples.{Coding, coding_at}
 use Rattle.ffv1_range.specs.Setup.{set_contexts, set_entry}
-use Rattle.ffv1_plane.specs.Inner.Progress.{RowStart, IsReadTo}
+use Rattle.ffv1_plane.specs.Inner.Progress.{IsContinued, RowStart, IsReadTo}
 use Rattle.ffv1_plane.specs.Inner.Halts.{IsNextHalted}
 use Rattle.ffv1_plane.specs.declared.plane.PlaneReader.{PlaneReader}
 use Rattle.ffv1_plane.specs.declared.plane.PlaneFault.{PlaneFault}
@@ -26,6 +26,14 @@ pub record IsSamePlane (old new : PlaneReader) : Type 0 where
 abbrev pub HasRead : RowStart → List Bool → PlaneReader → Type 0
 HasRead start bits reader =
     IsReadTo start reader.lines.width (coding_of reader) bits reader.lines.samples reader.lines.x reader.index reader.states.items reader.bits.left
+
+-- A row was read from its first sample.
+pub record HasReadRow (old new : PlaneReader) : Type 0 where
+  pub read : (start : RowStart) (whole : List Bool) → HasRead start whole old → HasRead start whole new
+  pub continued : IsContinued old.lines.samples new.lines.samples
+  pub full : new.lines.x ≡ new.lines.width
+  pub count : length new.lines.samples ≡ length old.lines.samples + old.lines.width
+  pub small : (s : ℕ) → slice_index new.lines.samples s < 2 ^ old.lines.depth
 
 -- No word of the next samples of its row can be read.
 abbrev pub IsHaltedAt : PlaneReader → PlaneFault → Type 0

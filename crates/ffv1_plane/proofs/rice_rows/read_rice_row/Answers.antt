@@ -12,6 +12,6 @@ pub returns-clause-read : goal.returns-clause-read
 returns-clause-read c =
     row_read c.args.lines.now c.swap.new.y c.read_row_at.new.self.lines c.swap-2.new.x c.args.tables.now c.read_row_at.new.self.tables.now c.args.codes.index
     c.read_row_at.new.self.index c.args.states.items c.read_row_at.new.self.states.items c.args.codes.bits.left c.read_row_at.new.self.bits.left
-    c.swap.ensures.y_after c.requires.start c.in-Ok.ensures.same.depth c.in-Ok.ensures.same.width c.in-Ok.ensures.same.tables c.in-Ok.ensures.full
-    (ap (λ z. z.samples) (c.swap-2.ensures.x_after ∙ c.in-Ok-end_row.ensures)) c.in-Ok.ensures.same.states c.in-Ok.ensures.continued c.in-Ok.ensures.count
-    c.in-Ok.ensures.read
+    c.swap.ensures.y_after c.requires.start c.in-Ok.ensures.same.depth c.in-Ok.ensures.same.width c.in-Ok.ensures.same.tables c.in-Ok.ensures.read.full
+    (ap (λ z. z.samples) (c.swap-2.ensures.x_after ∙ c.in-Ok-end_row.ensures)) c.in-Ok.ensures.same.states c.in-Ok.ensures.read.continued c.in-Ok.ensures.read.count
+    c.in-Ok.ensures.read.read

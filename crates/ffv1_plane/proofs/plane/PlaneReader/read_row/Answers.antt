@@ -56,10 +56,6 @@ returns-in_err-left c =
     (record {
       same = same_planes _ _ _ same c.in_err-left.ensures.same;
       read = tt;
-      continued = tt;
-      full = tt;
-      count = tt;
-      small = tt;
       err =
           (row_halted c.args.self.now.lines.width (coding_of c.args.self.now) c.args.self.now.lines.samples c.loop-self.self.lines.samples
           c.args.self.now.lines.x c.args.self.now.index c.loop-self.self.index c.loop-self.self.lines.x
@@ -85,10 +81,12 @@ returns c =
     omega (arith, c.loop-self-test.false, c.column.ensures.value, c.column.ensures.within, c.width-width.ensures.value, c.loop-self.invariant.same.width) in
     record {
       same = c.loop-self.invariant.same;
-      read = c.loop-self.invariant.read;
-      continued = c.loop-self.invariant.continued;
-      full = full;
-      count = omega (arith, c.loop-self.invariant.count, full, c.loop-self.invariant.same.width);
-      small = λ s. subst (λ n. slice_index c.loop-self.self.lines.samples s < 2 ^ n) c.loop-self.invariant.same.depth (c.column.ensures.small s);
+      read = record {
+        read = c.loop-self.invariant.read;
+        continued = c.loop-self.invariant.continued;
+        full = full;
+        count = omega (arith, c.loop-self.invariant.count, full, c.loop-self.invariant.same.width);
+        small = λ s. subst (λ n. slice_index c.loop-self.self.lines.samples s < 2 ^ n) c.loop-self.invariant.same.depth (c.column.ensures.small s);
+      };
       err = tt;
     }

@@ -3,7 +3,7 @@ use Rattle.ffv1_plane.specs.Samples.{plane_of, coding_at}
 use Rattle.ffv1_range.specs.Setup.{set_entry}
 use Rattle.ffv1_plane.specs.Progress.{AreStatesAfter}
 use Rattle.ffv1_plane.specs.Inner.Progress.{AreRowsRead}
-use Rattle.ffv1_plane.proofs.plane.read_plane.Given as goal
+use Rattle.ffv1_plane.proofs.plane.decode_plane.Given as goal
 
 abbrev pub invariant-loop : goal.invariant-loop
 invariant-loop l = record {
