@@ -1,4 +1,4 @@
-//! The two uses that README.md shows, in its words, on a frame of two tiles.
+//! The two programs that docs/LIBRARY.md shows, in its words, on a frame of two tiles.
 use crate::picture::TWO_TILES;
 use ffv1_hold::{FromWrite, Holding, Sink};
 use ffv1_picture::{Decoder, write_raw};

@@ -1,6 +1,6 @@
 //! The commands over readers and writers: what each reads and makes, what it prints, and why it stops. Who calls them
-//! reads the words and opens the files. Each calls its own form over sources and sinks, as `run_chain` calls `chain_of`: that
-//! says of the devices, too, how their tries went.
+//! reads the words and opens the files. Each has a form over sources and sinks, as `run_chain` has `chain_of`: that says of
+//! the devices, too, how their tries went.
 #![tactic(auto)]
 
 mod any_picture;
