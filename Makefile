@@ -47,14 +47,16 @@ cases:
 rules: $(PROGRAM)
 	tests/rules $(PROGRAM) --workers $(WORKERS)
 
-# Small recordings, cut and zeroed at every place, and Matroska files at every sixteenth; then files of other containers, which mend-reel
-# judges, that lack a piece at every 4096th: tests/gaps alone tries every 512th, which takes half an hour of a processor.
+# Small recordings, cut and zeroed at every place, and Matroska files at every sixteenth; such files with each bit of their start inverted, and with
+# sizes that lie, which are checked; then files of other containers, which mend-reel judges, that lack a piece at every 4096th: tests/gaps alone
+# tries every 512th, which takes half an hour of a processor.
 SMALL := gray-48x32-4-slices gray-64x64-1x1-tiles-one-run-flat gray-64x7-3x2-tiles-six-runs-alternating \
 	gray-7x2-3x2-tiles-two-runs-rising yuv410p-64x64-2x2-tiles-one-run-alternating yuv420p-64x64-1x1-tiles-two-runs-flat \
 	yuv420p-7x64-3x2-tiles-one-run-alternating yuv420p-7x7-1x1-tiles-six-runs-rising yuv422p-64x7-1x1-tiles-one-run-alternating \
 	yuv422p-32x24-4-slices bgra-32x24-6-slices
 rot:
 	tests/fuzz $(PROGRAM) 0 --bursts 200 --every $(SMALL) --files matroska-flac matroska-pcm
+	tests/checks $(PROGRAM)
 	tests/gaps $(PROGRAM) --step 4096
 
 # Damaged files for so many SECONDS, by so many WORKERS at a time, and then damage within 32 bits: other ones for each SEED.

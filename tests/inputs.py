@@ -181,23 +181,16 @@ def mended_inputs(recording, payload):
 
 
 def file_inputs(name, recording):
-    """Copies of a Matroska file with sixteen bytes zeroed here and sixteen there, and cut ones; each is judged too."""
+    """Copies of a Matroska file with sixteen bytes zeroed here and sixteen there, and cut ones."""
     content = (TESTS / "real" / name / "reel.mkv").read_bytes()
     text = lists.list_text(content, [len(content)] * 2, with_sound=True)
     for place in range(0, len(content), 16):
         start = (place + len(content) // 3) % (len(content) - 16)
         zeroed, other = (makings.written(content, at, bytes(len(content[at : at + 16]))) for at in (place, start))
         yield mended_input(recording, text, zeroed, other)
-        yield from (checked_input(recording, damaged_content) for damaged_content in (zeroed, content[:place]))
         if place % 64 == 0:
             yield mended_input(recording, text, zeroed, content[:place])
             yield mended_input(recording, lists.list_text(content, [place, len(content)], with_sound=True), content[:place], other)
-
-
-def checked_input(recording, content):
-    one = Input("check", recording, [], [])
-    one.reel = content
-    return one
 
 
 def scanned_input(recording, payloads):
