@@ -350,7 +350,7 @@ class InterruptedCheckTest(InFolder):
         slow, reached = self.work.parent / "slow", self.work.parent / "reached"
         slow.mkdir()
         self.program = stand_in.make(slow, "import os, pathlib, time\n"
-                                           "if words[0] == 'scan' and os.path.realpath(words[2]).endswith('b.mkv'):\n"
+                                           "if words[0] == 'check' and os.path.realpath(words[1]).endswith('b.mkv'):\n"
                                            f"    pathlib.Path({str(reached)!r}).touch()\n    time.sleep(60)")
         words = [sys.executable, str(TOOL), "--json", "made.json", "--check", "a.mkv", "b.mkv", "a.mkv"]
         child = subprocess.Popen(words, cwd=self.folder, env=self.environment(), stdout=subprocess.PIPE, stderr=subprocess.PIPE)
