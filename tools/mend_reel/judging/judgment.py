@@ -21,9 +21,9 @@ OF_CLUSTERS = (Content.CLUSTER, Content.UNKNOWN)
 OF_FLAWS = {Flaw.BROKEN: Why.BROKEN, Flaw.CUT: Why.CUT, Flaw.AFTER_END: Why.AFTER_END, Flaw.COUNT: Why.MISCOUNTED, Flaw.INDEX: Why.MISLED,
             Flaw.SUM: Why.SUM, Flaw.NO_TABLE: Why.NO_TABLE, Flaw.BARE: Why.BARE, Flaw.ZEROS: Why.ZEROS,
             Flaw.LOST: Why.LOST}
-# What a line of a check of the whole file says by its first word; the others tell damage that is found here too.
+# What a line of a check of the whole file says, by its first word or all; the others tell damage that is found here too.
 OF_LINES = {"endless": Why.ENDLESS, "misplaced": Why.MISPLACED, "time": Why.TIME, "laced": Why.LACED, "track": Why.OF_NO_TRACK,
-            "block": Why.OF_NO_TRACK, "long": Why.TOO_LONG, "no": Why.NO_NAME}
+            "block": Why.OF_NO_TRACK, "long": Why.TOO_LONG, "no Matroska": Why.NO_NAME}
 JUDGED_CODECS = ("V_FFV1", "V_MS/VFW/FOURCC")
 ALONE = "1"
 
@@ -152,7 +152,7 @@ def of_lines(checked: FileCheck | None, found: Sequence[Reason]) -> Iterator[Rea
     """What a check of the whole file tells beside what is found already. Where a head is damaged, all that it led to is misplaced."""
     known = [reason.bytes for reason in found if reason.bytes]
     for place, words in checked.lines if checked else ():
-        why = OF_LINES.get(words[0])
+        why = OF_LINES.get(words[0], OF_LINES.get(" ".join(words)))
         if why and not any(start <= place < end for start, end in known) and not (why is Why.MISPLACED and found):
             yield Reason(why, bytes=(place, place + 1))
 
