@@ -103,7 +103,7 @@ quiet_element first tracks head bytes at =
 
 -- ---- the damaged element
 
-front_bytes : (xs ys : List ℕ) → AreBytes (xs ++ ys) → AreBytes xs
+pub front_bytes : (xs ys : List ℕ) → AreBytes (xs ++ ys) → AreBytes xs
 front_bytes xs ys bytes = subst AreBytes (take_at xs ys (length xs) refl) (bytes_take (length xs) (xs ++ ys) bytes)
 
 piece_bytes : (xs ys zs : List ℕ) → AreBytes (xs ++ (ys ++ zs)) → AreBytes ys

@@ -6,3 +6,8 @@ pub mod CountSteps
 pub mod ReportSteps
 pub mod CutSteps
 pub mod DamageSteps
+pub mod SpanSteps
+pub mod PayloadSpans
+pub mod MasterSpans
+pub mod RecordSpans
+pub mod FileSpans

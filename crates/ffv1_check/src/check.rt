@@ -1,6 +1,7 @@
 //! A whole file that lies in memory, judged.
 ghost use Rattle.std.specs.Prelude.{IfOk};
 ghost use Rattle.ffv1_check.specs.Checks.{IsCheckOf, CutFileIsSeen, SmallDamageIsSeen};
+ghost use Rattle.ffv1_check.specs.Spans.{CheckedBytesPass};
 
 use crate::report::{Report, report_of};
 use matroska_parts::file_parts;
@@ -19,6 +20,11 @@ pub fn check_file<'a>(alloc: Global, file: &'a [u8]) -> Result<Report<'a>, Alloc
 /// No front of a whole file is whole, and nothing that goes on after one.
 pub fn cut_file_is_seen()
     ensures { CutFileIsSeen }
+{}
+
+/// What a report counts as checked passes: its bytes are those of spans of the file that are apart, and each of these passes a check of its own.
+pub fn checked_bytes_pass()
+    ensures { CheckedBytesPass }
 {}
 
 /// Small damage is seen: of a whole file no other is whole that differs from it only within the content of one element with a CRC-32, after

@@ -8,5 +8,6 @@ pub mod ItemSteps
 pub mod FileSteps
 pub mod ReadSteps
 pub mod InnerSteps
+pub mod ContentSteps
 pub mod BelowSteps
 pub mod Vectors

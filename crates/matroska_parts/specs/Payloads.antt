@@ -1,6 +1,7 @@
 -- How the payload of a track's block stands with the checks that it has.
 use Rattle.std.specs.Prelude.{ℕ, ◌^◌, ◌≤◌, ◌<◌, ◌≡◌, ◌≢◌, ◌↔◌, IsTrue, if◌then◌else◌, List, length, sum_by}
-use Rattle.ffv1_slice.specs.Chain.{LinkValue, AreLinksOf}
+use Rattle.ffv1_slice.specs.Chain.{LinkValue}
+use Rattle.ffv1_slice.specs.Walk.{links_of}
 use Rattle.ffv1_scan.specs.Verdicts.{is_passing, IsVerdictOf}
 use Rattle.matroska.specs.Blocks.{BlockValue}
 use Rattle.matroska.specs.Tracks.{HasRecord, HasParities, IsFlac}
@@ -45,7 +46,7 @@ passing_size links = sum_by (λ link. if is_passing link then length link.bytes 
 
 -- so many bytes have the links of a frame that pass
 abbrev pub HasPassingLinks : List ℕ → ℕ → Type 0
-HasPassingLinks bytes size = (links : List LinkValue) × AreLinksOf bytes links × (size ≡ passing_size links)
+HasPassingLinks bytes size = size ≡ passing_size (links_of bytes)
 
 -- so many bytes of a payload pass checks of their own: those of the links of a frame that pass, or all that are FLAC and right
 abbrev pub HasPassing : Payload → List ℕ → ℕ → Type 0

@@ -61,5 +61,5 @@ returns c =
         passing = omega (arith, inv.passing, ap (count_by is_passing) none);
         ends = ends;
       };
-      passing = (c.new-chain.result.left, c.new-chain.ensures.links, omega (arith, inv.size, ap passing_size none));
+      passing = omega (arith, inv.size, ap passing_size none, ap passing_size c.new-chain.ensures.value);
     }
