@@ -14,6 +14,7 @@ use Rattle.ebml_reader.specs.declared.settled.FoundItem.{FoundItem}
 use Rattle.matroska_parts.specs.declared.tracks_search.FoundTracks.{FoundTracks}
 use Rattle.matroska_parts.specs.TopElements.{top_element_of}
 use Rattle.matroska_parts.specs.ItemParts.{PlacedContent, is_tracks, content_by, first_tracks}
+use Rattle.matroska_parts.specs.Inner.Firsts.{SaysWhere}
 use Rattle.matroska_parts.specs.SourceParts.{found_in, IsFirstTracksOf, FindsTracks, HasItsHead, IsGivenAt}
 
 -- ---- items by what was given of them
@@ -204,3 +205,11 @@ module _ (first : ReadLog) (items : List ItemValue) (found : FoundItem) (reading
   less_left place at =
       let long = gives.long in let some = given_some first items found reading now gives in let room = given_room first items found reading now gives place at in
       omega (arith, long, some, room)
+
+said_by : (place : Option ℕ) (content : List ℕ)
+    → place ≡ option_map (λ (it : PlacedContent). it.place) (option_map (λ (p : ℕ). let v : PlacedContent = record { place = p; content = content } in v) place)
+said_by None content = refl
+said_by (Some place) content = refl
+
+pub said : (found : FoundTracks) → SaysWhere found.place (found_in found)
+said found = said_by found.place found.content.items

@@ -37,10 +37,6 @@ FindsTracksIn (Err fault) old new = IsFault fault 0 old new
 
 -- ---- the items
 
--- where a Tracks begins
-abbrev pub SaysWhere : Option ℕ → Option PlacedContent → Type 0
-SaysWhere first found = first ≡ option_map (λ it. it.place) found
-
 -- an item's head begins it, and is one of the top
 abbrev pub HasItsHead : Kind → List ℕ → Type 0
 HasItsHead (kind.Segment head) bytes = HasHead bytes head
@@ -59,7 +55,7 @@ pub record IsGivenAt (place : ℕ) (item : FoundItem) (kept all : List ℕ) : Ty
 abbrev pub AddsItemParts : Kind → Option PlacedContent → List Track → ℕ → List ℕ → (old new : List Part) → Type 0
 AddsItemParts kind first tracks place bytes old new = (more : List Part) × (new ≡ old ++ more) × AreItemPartsBy kind first tracks place bytes more
 
--- the tracks of a file that blocks can name, and where its first Tracks begins
+-- the first Tracks of a file, and the tracks that blocks can name by it
 pub record KnownTracks : Type 0 where
+  pub first : Option PlacedContent
   pub tracks : List Track
-  pub first : Option ℕ

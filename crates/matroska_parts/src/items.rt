@@ -6,7 +6,8 @@ ghost use Rattle.matroska_parts.specs.Openings.{passes};
 ghost use Rattle.matroska_parts.specs.ItemParts.{PlacedContent, is_at, is_uncut, AreRecordPartsIf, AreElementParts, AreItemPartsBy};
 ghost use Rattle.matroska_parts.specs.Inner.FileTracks.{HasFacts};
 ghost use Rattle.matroska_parts.specs.Inner.Added.{AddsParts};
-ghost use Rattle.matroska_parts.specs.SourceParts.{SaysWhere, HasItsHead};
+ghost use Rattle.matroska_parts.specs.SourceParts.{HasItsHead};
+ghost use Rattle.matroska_parts.specs.Inner.Firsts.{SaysWhere};
 
 use crate::file_tracks::FileTracks;
 use crate::masters::push_content;

@@ -10,37 +10,36 @@ use matroska::Track;
 use std::alloc::{AllocError, Global};
 use std::marker::Model;
 
-/// The tracks of a file that blocks can name, and where the Tracks that describes them begins: by these the parts of its items are found.
+/// The first Tracks of a file, and the tracks that blocks can name by it: by these the parts of its items are found.
 #[derive(Drop)]
 pub struct PlacedTracks<'a> {
     file: FileTracks<'a>,
-    first: Option<u64>,
+    found: &'a FoundTracks,
 }
 
 impl<'a> Model for PlacedTracks<'a> {
-    ghost use Rattle.matroska_parts.specs.SourceParts.{KnownTracks};
+    ghost use Rattle.matroska_parts.specs.SourceParts.{KnownTracks, found_in};
     ghost use Rattle.matroska_parts.specs.Inner.FileTracks.{HasFacts};
 
     ghost Value = { KnownTracks };
 
-    ghost view = { λ s. record { tracks = s.file.named.tracks.items; first = s.first } };
+    ghost view = { λ s. record { first = found_in s.found.now; tracks = s.file.named.tracks.items } };
 
     ghost invariant = { λ s. HasFacts s.file };
 }
 
 impl<'a> PlacedTracks<'a> {
-    ghost use Rattle.std.specs.Prelude.{ℕ, ◌≡◌, List, Option, IfOk, OnOk};
-    ghost use Rattle.matroska_parts.specs.ItemParts.{PlacedContent, AreTracksBy};
-    ghost use Rattle.matroska_parts.specs.SourceParts.{found_in, SaysWhere, IsGivenAt, AddsItemParts};
+    ghost use Rattle.std.specs.Prelude.{ℕ, ◌≡◌, List, IfOk, OnOk};
+    ghost use Rattle.matroska_parts.specs.ItemParts.{AreTracksBy};
+    ghost use Rattle.matroska_parts.specs.SourceParts.{found_in, IsGivenAt, AddsItemParts};
 
     /// Those that a Tracks describes. It fails only if an allocation fails.
     pub fn new(alloc: Global, found: &'a FoundTracks) -> Result<PlacedTracks<'a>, AllocError>
         ensures tracks { IfOk result (λ tracks. AreTracksBy (found_in found.now) tracks.tracks) }
-        ensures first { IfOk result (λ tracks. SaysWhere tracks.first (found_in found.now)) }
+        ensures first { IfOk result (λ tracks. tracks.first ≡ found_in found.now) }
     {
         let file = tracks_found(alloc, found)?;
-        let first = found.place;
-        Ok(PlacedTracks { file, first })
+        Ok(PlacedTracks { file, found })
     }
 
     /// The tracks, in the order of the file's Tracks.
@@ -60,8 +59,8 @@ impl<'a> PlacedTracks<'a> {
         parts: &mut Vec<Part>,
     ) -> Result<(), AllocError>
         requires { (all : List ℕ) × IsGivenAt place item.now bytes.now all }
-        ensures { (all : List ℕ) (found : Option PlacedContent) → IsGivenAt place item.now bytes.now all → SaysWhere self.now.first found
-            → OnOk result (AddsItemParts item.now.kind found self.now.tracks place all parts.old.items parts.new.items) }
+        ensures { (all : List ℕ) → IsGivenAt place item.now bytes.now all
+            → OnOk result (AddsItemParts item.now.kind self.now.first self.now.tracks place all parts.old.items parts.new.items) }
     {
         if let Kind::Unknown = item.kind {
             let size = item.length;
@@ -69,7 +68,7 @@ impl<'a> PlacedTracks<'a> {
             return Ok(());
         }
         push_item(
-            alloc, &self.file, self.first, place, &item.kind, bytes, parts,
+            alloc, &self.file, self.found.place, place, &item.kind, bytes, parts,
         )
     }
 }

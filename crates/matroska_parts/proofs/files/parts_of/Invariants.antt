@@ -1,7 +1,7 @@
 use Rattle.std.proofs.Common.{◌-◌, ◌≤◌, length}
 use Rattle.std.specs.Prelude.{Option}
 use Rattle.matroska_parts.specs.ItemParts.{PlacedContent}
-use Rattle.matroska_parts.specs.SourceParts.{SaysWhere}
+use Rattle.matroska_parts.specs.Inner.Firsts.{SaysWhere}
 use Rattle.matroska_parts.specs.Inner.PartsSoFar.{PartsSoFar}
 use Rattle.matroska_parts.proofs.files.parts_of.Given as goal
 
