@@ -4,6 +4,8 @@ pub mod TrackSteps
 pub mod NameSteps
 pub mod CountSteps
 pub mod ReportSteps
+pub mod ReporterSteps
+pub mod SourceSteps
 pub mod CutSteps
 pub mod DamageSteps
 pub mod SpanSteps

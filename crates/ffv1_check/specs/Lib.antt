@@ -5,5 +5,4 @@ pub mod CheckedBytes
 pub mod Reports
 pub mod ReportLines
 pub mod Checks
-pub mod Spans
-pub mod Inner
+pub mod SourceChecks

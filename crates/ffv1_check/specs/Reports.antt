@@ -1,5 +1,5 @@
 -- What a check reports of a whole file, by its parts (own).
-use Rattle.std.specs.Prelude.{ℕ, ◌≡◌, ◌<◌, ◌==◌, Bool, false, ◌&&◌, if◌then◌else◌, List, [], ◌∷◌, ◌++◌, length, count_by, slice_get, IsTrue, ◌↔◌, Option, Some, None}
+use Rattle.std.specs.Prelude.{ℕ, ◌≡◌, ◌==◌, Bool, false, ◌&&◌, if◌then◌else◌, List, [], ◌∷◌, ◌++◌, length, count_by, slice_get, IsTrue, ◌↔◌, Option, Some, None}
 use Rattle.ffv1_scan.specs.Verdicts.{is_undamaged}
 use Rattle.matroska.specs.declared.track.Track.{Track}
 use Rattle.matroska_parts.specs.declared.parts.Part.{Part}

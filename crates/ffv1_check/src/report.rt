@@ -1,10 +1,11 @@
 //! What a check reports of a whole file.
-ghost use Rattle.std.specs.Prelude.{ℕ, ◌≡◌, ◌↔◌, [], ◌++◌, IsTrue, Some, IfOk, OnOk, length, slice_get, option_to_list};
+ghost use Rattle.std.specs.Prelude.{ℕ, ◌≡◌, ◌↔◌, ◌+◌, ◌^◌, ◌<◌, List, [], ◌++◌, IsTrue, Some, IfOk, OnOk, length, slice_get, option_to_list};
 ghost use Rattle.std.specs.List.{AllByRecursion};
 ghost use Rattle.matroska.specs.declared.track.Track.{Track};
 ghost use Rattle.ffv1_check.specs.PartFindings.{lines_at, place_of};
 ghost use Rattle.ffv1_check.specs.Reports.{segment_findings, no_track_findings, IsReportOf, is_video};
-ghost use Rattle.ffv1_check.specs.Inner.Stands.{found_list, counted_in, AreCounted, IsChecked};
+ghost use Rattle.ffv1_check.specs.Inner.Stands.{found_list, counted_in, AreCounted, IsChecked, ReporterStands};
+ghost use Rattle.matroska_parts.specs.declared.parts.Part.{Part};
 ghost use Rattle.matroska_parts.specs.Named.{IsBelow};
 
 use crate::findings::{Finding, Line};
@@ -14,6 +15,9 @@ use crate::track_states::TrackState;
 use matroska::Track;
 use matroska_parts::{Opening, Part};
 use std::alloc::{AllocError, Global};
+
+/// So many parts are not taken.
+const MOST_PARTS: u64 = 1 << 62;
 
 /// The TrackType of video.
 const VIDEO: u64 = 1;
@@ -45,6 +49,78 @@ pub struct Report<'a> {
     pub is_whole: bool,
 }
 
+/// What a check has found in the parts of a file so far.
+#[derive(Drop)]
+pub(crate) struct Reporter {
+    progress: Progress,
+    lines: Vec<Line>,
+    /// How many parts were taken.
+    taken: u64,
+}
+
+impl Reporter {
+    /// Before the first part of a file that describes so many tracks.
+    pub(crate) fn new(alloc: Global, tracks: usize) -> Result<Reporter, AllocError>
+        ensures { IfOk result (ReporterStands tracks []) }
+    {
+        Ok(Reporter {
+            progress: Progress::new(alloc, tracks)?,
+            lines: Vec::new(alloc),
+            taken: 0,
+        })
+    }
+
+    /// Whether so many parts more can be taken: fewer than 2^62 can in all.
+    pub(crate) fn has_room(&self, count: usize) -> bool
+        ensures { IsTrue result ↔ self.now.taken + count < 2 ^ 62 }
+    {
+        self.taken < MOST_PARTS && (count as u64) < MOST_PARTS - self.taken
+    }
+
+    /// Takes the next parts.
+    pub(crate) fn take(&mut self, parts: &[Part]) -> Result<(), AllocError>
+        requires stands { (tracks : ℕ) × (before : List Part) × ReporterStands tracks before self.old × AllByRecursion (IsBelow tracks) parts.now }
+        requires room { self.old.taken + length parts.now < 2 ^ 63 }
+        ensures { (tracks : ℕ) (before : List Part) → ReporterStands tracks before self.old → OnOk result (ReporterStands tracks (before ++ parts.now) self.new) }
+    {
+        for part in parts {
+            let found = self.progress.found_at(part);
+            push_found(&mut self.lines, place_of(part), &found)?;
+            self.progress.pass(part);
+        }
+        self.taken += parts.len() as u64;
+        Ok(())
+    }
+
+    /// The report of a file of this size, whose blocks can name these tracks, after all its parts.
+    pub(crate) fn report<'a>(
+        self,
+        alloc: Global,
+        tracks: &[Track<'a>],
+        size: u64,
+    ) -> Result<Report<'a>, AllocError>
+        requires { (parts : List Part) × ReporterStands (length tracks.now) parts self }
+        ensures { (parts : List Part) → ReporterStands (length tracks.now) parts self → IfOk result (IsReportOf tracks.now size parts) }
+    {
+        let Reporter {
+            progress,
+            mut lines,
+            taken: _,
+        } = self;
+        let found = found_at_end(size, &progress.tops.segment, tracks.len());
+        push_found(&mut lines, size, &found)?;
+        let counts = counts_of(alloc, tracks, &progress.tracks)?;
+        let is_whole = is_whole(&lines, tracks, &counts);
+        Ok(Report {
+            lines,
+            tracks: counts,
+            size,
+            checked: progress.checked,
+            is_whole,
+        })
+    }
+}
+
 /// The report of a file of this size, whose blocks can name these tracks, by its parts.
 pub(crate) fn report_of<'a>(
     alloc: Global,
@@ -55,27 +131,9 @@ pub(crate) fn report_of<'a>(
     requires { AllByRecursion (IsBelow (length tracks.now)) parts.now }
     ensures { IfOk result (IsReportOf tracks.now size parts.now) }
 {
-    let mut progress = Progress::new(alloc, tracks.len())?;
-    let mut lines = Vec::new(alloc);
-    for part in parts {
-        let found = progress.found_at(part);
-        push_found(&mut lines, place_of(part), &found)?;
-        progress.pass(part);
-    }
-    push_found(
-        &mut lines,
-        size,
-        &found_at_end(size, &progress.tops.segment, tracks.len()),
-    )?;
-    let counts = counts_of(alloc, tracks, &progress.tracks)?;
-    let is_whole = is_whole(&lines, tracks, &counts);
-    Ok(Report {
-        lines,
-        tracks: counts,
-        size,
-        checked: progress.checked,
-        is_whole,
-    })
+    let mut reporter = Reporter::new(alloc, tracks.len())?;
+    reporter.take(parts)?;
+    reporter.report(alloc, tracks, size)
 }
 
 /// What is wrong at the end of a file of this size.

@@ -13,4 +13,6 @@ mod lines;
 #[cfg(test)]
 mod made;
 #[cfg(test)]
+mod sources;
+#[cfg(test)]
 mod tracks;

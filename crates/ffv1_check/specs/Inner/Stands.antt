@@ -1,5 +1,5 @@
 -- How a check stands after some parts of a file.
-use Rattle.std.specs.Prelude.{IsTrue, ℕ, ◌≡◌, ◌<◌, false, List, ◌++◌, length, count_by, get_or, slice_get, ◌^◌, Option, Some, None, option_to_list}
+use Rattle.std.specs.Prelude.{IsTrue, ℕ, ◌≡◌, ◌*◌, ◌<◌, ◌≤◌, false, List, ◌++◌, length, count_by, get_or, slice_get, ◌^◌, Option, Some, None, option_to_list}
 use Rattle.std.specs.List.{list_any}
 use Rattle.matroska.specs.declared.track.Track.{Track}
 use Rattle.matroska_parts.specs.TopElements.{element_number}
@@ -13,6 +13,8 @@ use Rattle.ffv1_check.specs.declared.report.TrackCount.{TrackCount}
 use Rattle.ffv1_check.specs.declared.progress.Progress.{Progress}
 use Rattle.ffv1_check.specs.Before.{begins_any, begins_ebml, first_segment, has_crc32, timestamp_after, is_block_of, last_time}
 use Rattle.ffv1_check.specs.CheckedBytes.{checked_bytes}
+use Rattle.ffv1_check.specs.PartFindings.{lines_of_parts}
+use Rattle.ffv1_check.specs.declared.report.Reporter.{Reporter}
 use Rattle.ffv1_check.specs.Reports.{is_checked_of, is_video}
 
 -- at most two findings
@@ -67,3 +69,11 @@ pub record AreCounted (tracks : List Track) (states : List TrackState) (counts :
 abbrev pub IsChecked : Track → Option TrackCount → Type 0
 IsChecked track None = Unit {0}
 IsChecked track (Some count) = IsTrue (is_video track) → count.checked ≡ count.blocks
+
+-- What is reported after some parts, of blocks that can name so many tracks.
+pub record ReporterStands (tracks : ℕ) (parts : List Part) (reporter : Reporter) : Type 0 where
+  pub stands : ProgressStands parts reporter.progress
+  pub many : length reporter.progress.tracks.items ≡ tracks
+  pub few : reporter.progress.checked ≤ 2 ^ 64 * length parts
+  pub lines : reporter.lines.items ≡ lines_of_parts parts
+  pub taken' : reporter.taken ≡ length parts
