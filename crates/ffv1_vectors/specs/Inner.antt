@@ -1,5 +1,4 @@
 -- Definitions that no contract of a public call reaches: what loops and private calls keep, so that those contracts can be proved.
-pub mod Words
 pub mod Asked
 pub mod Encoder
 pub mod Spelled

@@ -1,7 +1,6 @@
 //! Frames (RFC 9043, sections 4.4 to 4.9), made to measure tile by tile.
-ghost use Rattle.std.specs.Prelude.{◌≡◌, ◌<◌, ◌≤◌, ◌^◌, ◌+◌, ◌*◌, ◌==◌, ◌↔◌, ℕ, IsTrue, IfOk, Err, length, map, slice_index_or};
+ghost use Rattle.std.specs.Prelude.{◌≡◌, ◌<◌, ◌≤◌, ◌^◌, ◌*◌, ◌==◌, ◌↔◌, ℕ, IsTrue, IfOk, Err, length, map, slice_index_or};
 ghost use Rattle.ffv1_bits.specs.Limits.{payload_limit};
-ghost use Rattle.ffv1_range.specs.Setup.{set_contexts};
 ghost use Rattle.ffv1_range.specs.Tiles.{grid_of, tile_count, plane_count, plane_rect};
 ghost use Rattle.ffv1_range.specs.Header.{IsHeadOf, header_limits};
 ghost use Rattle.ffv1_plane.specs.Picture.{IsPictureOf, samples_of};
@@ -11,15 +10,14 @@ ghost use Rattle.ffv1_vectors.specs.Frames.{asked_planes, asked_head, FitsTile, 
 ghost use Rattle.ffv1_vectors.specs.declared.fault.MakeFault.TheVariants as MakeFault;
 ghost use Rattle.ffv1_vectors.specs.declared.frame.TileSpec.{TileSpec};
 
-use crate::coding::write_plane;
 use crate::fault::MakeFault;
-use crate::plane::Plane;
+use crate::plane::{CodedPlane, coding_of};
+use crate::planes::write_planes;
+use crate::rice::RiceWriter;
 use crate::slice::spell_slice;
-use crate::writer::BitWriter;
 use ffv1_bits::PAYLOAD_LIMIT;
 use ffv1_plane::{Tables, TileFault, decode_tile, start_states};
 use ffv1_range::{Grid, Setup, SliceHead, read_head};
-use ffv1_rice::VlcState;
 use ffv1_slice::{content_of, read_slice};
 use std::alloc::Global;
 
@@ -172,83 +170,53 @@ fn spell_planes(
     requires tile { tile < tile_count (grid_of setup.now) }
     requires fits { FitsTile setup.now tile spec.now }
 {
-    let mut writer = BitWriter::new(alloc);
-    let (luma, chroma) = spec.planes.as_slice().split_at(1);
-    write_group(
-        alloc,
-        &mut writer,
-        setup,
-        tile,
-        spec.table_y as usize,
-        0,
-        luma,
-    )?;
-    write_group(
-        alloc,
-        &mut writer,
-        setup,
-        tile,
-        spec.table_c as usize,
-        1,
-        chroma,
-    )?;
-    Ok(writer.into_bytes())
+    let luma = start_states(alloc, setup, spec.table_y as usize)?;
+    let chroma = start_states(alloc, setup, spec.table_c as usize)?;
+    let mut writer = RiceWriter::new(alloc, vec![in alloc; luma, chroma]?);
+    let planes = coded_planes(alloc, setup, tile, spec)?;
+    write_planes(&mut writer, &planes, false)?;
+    let (codes, _states) = writer.finish();
+    Ok(codes)
 }
 
-/// Writes the planes of a tile from `first` on by the tables of this set, with states that they share.
-fn write_group(
+/// The planes of a tile, as they are coded.
+fn coded_planes<'s>(
     alloc: Global,
-    writer: &mut BitWriter,
-    setup: &Setup,
+    setup: &'s Setup,
     tile: usize,
-    set: usize,
-    first: usize,
-    planes: &[Vec<u8>],
-) -> Result<(), MakeFault>
+    spec: &TileSpec,
+) -> Result<Vec<CodedPlane<'s>>, MakeFault>
     requires tile { tile < tile_count (grid_of setup.now) }
-    requires set { set < length setup.now.sets }
-    requires planes { first + length planes.now ≤ plane_count (grid_of setup.now) }
+    requires fits { FitsTile setup.now tile spec.now }
 {
-    let tables = Tables::of(setup.recording(), set);
-    let mut states = start_states(alloc, setup, set)?;
-    for (place, samples) in planes.iter().enumerate() {
-        write_tile_plane(
-            writer,
-            &mut states,
-            setup,
-            tile,
-            first + place,
-            &tables,
-            samples,
-        )?;
+    let mut planes = Vec::with_capacity(alloc, spec.planes.len())?;
+    for (plane, samples) in spec.planes.iter().enumerate() {
+        let rect = setup.grid().plane_rect(tile, plane);
+        planes.push(CodedPlane {
+            coding: coding_of(setup.recording()),
+            samples: samples
+                .iter()
+                .map(|sample| u32::from(*sample))
+                .collect(alloc)?,
+            width: rect.w as usize,
+            height: rect.h as usize,
+            group: usize::from(plane != 0),
+            tables: tables_of(setup, spec, plane),
+        })?;
     }
-    Ok(())
+    Ok(planes)
 }
 
-/// Writes a plane of a tile by its tables, with the states that those before it have left.
-fn write_tile_plane(
-    writer: &mut BitWriter,
-    states: &mut Vec<VlcState>,
-    setup: &Setup,
-    tile: usize,
-    plane: usize,
-    tables: &Tables<'_>,
-    samples: &[u8],
-) -> Result<(), MakeFault>
-    requires tile { tile < tile_count (grid_of setup.now) }
-    requires plane { plane < plane_count (grid_of setup.now) }
-    requires contexts { length states.old.items ≡ set_contexts tables.now.setup tables.now.set }
-    ensures { length states.new.items ≡ length states.old.items }
+/// The tables of a plane of a tile.
+fn tables_of<'s>(setup: &'s Setup, spec: &TileSpec, plane: usize) -> Tables<'s>
+    requires luma { spec.now.table_y < length setup.now.sets }
+    requires chroma { spec.now.table_c < length setup.now.sets }
 {
-    setup.keeps_profile();
-    let rect = setup.grid().plane_rect(tile, plane);
-    let plane = Plane {
-        samples,
-        width: rect.w as usize,
-        height: rect.h as usize,
-        tables,
-    };
-    write_plane(writer, states, &plane)
+    if plane == 0 {
+        Tables::of(setup.recording(), spec.table_y as usize)
+    } else {
+        Tables::of(setup.recording(), spec.table_c as usize)
+    }
 }
 
 /// Whether a slice reads as that of a tile, with the header and the planes asked for.

@@ -3,14 +3,15 @@
 #![tactic(auto)]
 
 mod asked;
-mod coding;
 mod damage;
 mod encoder;
 mod fault;
 mod frame;
 mod parity;
 mod plane;
+mod planes;
 mod record;
+mod rice;
 mod slice;
 mod suite;
 mod writer;
@@ -19,7 +20,11 @@ pub use damage::{burst, cut, flip, put_front, zero};
 pub use encoder::RangeEncoder;
 pub use fault::MakeFault;
 pub use frame::{FrameSpec, TileSpec, make_frame};
+pub use parity::with_parity;
+pub use plane::{CodedPlane, Coding, Residual, RowWriter, coding_of};
+pub use planes::write_planes;
 pub use record::{RecordSpec, make_record, spell_record};
+pub use rice::RiceWriter;
 pub use slice::spell_slice;
 pub use suite::{
     SUITE_NUMBERS, SuiteCase, SuiteContent, SuiteTables, suite_case, suite_frame, suite_record,

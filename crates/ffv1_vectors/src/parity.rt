@@ -5,8 +5,9 @@ ghost use Rattle.ffv1_vectors.specs.declared.fault.MakeFault.TheVariants.{Memory
 use crate::fault::MakeFault;
 use ffv1_bits::remainder;
 
-/// The bytes with their parity after them: the remainder of the bytes and four zero bytes, most significant byte first.
-pub(crate) fn with_parity(content: Vec<u8>) -> Result<Vec<u8>, MakeFault>
+/// The bytes with their parity after them: the remainder of the bytes and four zero bytes, most significant byte first. `Memory`, the one fault, is
+/// returned if an allocation of memory failed.
+pub fn with_parity(content: Vec<u8>) -> Result<Vec<u8>, MakeFault>
     ensures kept { IfOk result (λ bytes. (parity : List ℕ) × (bytes.items ≡ content.items ++ parity) × (length parity ≡ 4)) }
     ensures memory { IfErr result (λ fault. fault ≡ Memory) }
 {

@@ -1,73 +1,99 @@
-//! A plane of samples, and what is left to code of each (RFC 9043, sections 3.1 to 3.5 and 3.8).
-ghost use Rattle.std.specs.Prelude.{◌≡◌, ◌<◌, ◌≤◌, ◌+◌, nat_abs};
-ghost use Rattle.ffv1_bits.specs.Limits.{greatest_side};
-ghost use Rattle.ffv1_range.specs.Setup.{set_contexts};
-ghost use Rattle.ffv1_rice.specs.States.{IsDifference};
+//! A coded plane of a slice, and what is left to code of each of its samples (RFC 9043, sections 3.1 to 3.5 and 3.8).
+ghost use Rattle.ffv1_rice.specs.States.{IsCodedDepth};
 
+use crate::fault::MakeFault;
 use ffv1_plane::{Neighbours, Tables};
-use ffv1_rice::{BYTE_DEPTH, fold};
+use ffv1_range::Recording;
+use ffv1_rice::fold;
 
-/// The samples of a plane, row by row, and the quantization tables by which they are coded.
+/// How the samples of a recording are coded.
 #[derive(Clone, Copy)]
-pub(crate) struct Plane<'a> {
-    pub(crate) samples: &'a [u8],
-    pub(crate) width: usize,
-    pub(crate) height: usize,
-    pub(crate) tables: &'a Tables<'a>,
-    ghost narrow: { width ≤ greatest_side },
-    ghost low: { height ≤ greatest_side },
+pub struct Coding {
+    /// The coded depth.
+    pub depth: u32,
+    /// Whether samples of 32768 and more are predicted as 65536 less (section 3.3).
+    pub is_signed: bool,
+    ghost deep: { IsCodedDepth depth },
 }
 
-/// What is left to code of a sample: its context, and its difference from what is predicted, whose sign is turned where
-/// the context is negative.
-#[derive(Clone, Copy)]
-pub(crate) struct Residual {
-    pub(crate) context: i32,
-    pub(crate) difference: i32,
+/// The samples of a plane of a slice, row by row, and the quantization tables by which they are coded.
+#[derive(Drop)]
+pub struct CodedPlane<'a> {
+    pub coding: Coding,
+    /// As many as its width times its height; those that are left out count as 0.
+    pub samples: Vec<u32>,
+    /// The samples in a row.
+    pub width: usize,
+    /// The rows.
+    pub height: usize,
+    /// The group whose states it shares: 0 for the first plane, 1 for the second and third, 2 for alpha.
+    pub group: usize,
+    pub tables: Tables<'a>,
 }
 
-impl Plane<'_> {
-    /// What is left to code of the sample in a column and a row.
-    pub(crate) fn residual(&self, x: usize, y: usize) -> Residual
-        requires column { x < self.now.width }
-        requires row { y < self.now.height }
-        ensures context { nat_abs result.context < set_contexts self.now.tables.now.setup self.now.tables.now.set }
-        ensures difference { IsDifference 8 result.difference }
-    {
+/// What is left to code of a sample: its context, and its difference from what is predicted, whose sign is turned where the context is
+/// negative.
+#[derive(Clone, Copy)]
+pub struct Residual {
+    pub context: i32,
+    pub difference: i32,
+}
+
+/// Writes the samples of planes.
+pub trait RowWriter {
+    /// Begins a plane that others do not weave into.
+    fn begin_plane(&mut self);
+
+    /// Writes a row of a plane, counted from 0. `NotSelf` where no bytes say its samples, `Memory` if an allocation of memory failed; what was written then is of no
+    /// use.
+    fn row(&mut self, plane: &CodedPlane<'_>, y: usize) -> Result<(), MakeFault>;
+}
+
+/// How the samples of a recording are coded.
+pub fn coding_of(recording: &Recording) -> Coding {
+    recording.keeps_version_3();
+    Coding {
+        depth: recording.coded_depth(),
+        is_signed: recording.depth() == 16 && !recording.is_rgb() && recording.coder() != 0,
+    }
+}
+
+impl CodedPlane<'_> {
+    /// What is left to code of the sample in a column and a row, which are counted from 0. It takes no memory.
+    pub fn residual(&self, x: usize, y: usize) -> Residual {
         let near = self.near(x, y);
         let context = self.tables.context(&near);
-        let difference = i32::from(self.at(x + 2, y + 2)) - near.prediction() as i32;
-        let signed = if context < 0 { -difference } else { difference };
+        let sample = self.at(x.saturating_add(2), y.saturating_add(2));
+        let difference = sample
+            .cast_signed()
+            .wrapping_sub(self.coding.prediction(&near));
+        let turned = if context < 0 {
+            difference.wrapping_neg()
+        } else {
+            difference
+        };
         Residual {
             context,
-            difference: fold(signed, BYTE_DEPTH),
+            difference: fold(turned, self.coding.depth),
         }
     }
 
     /// The samples about a column and a row.
-    fn near(&self, x: usize, y: usize) -> Neighbours
-        requires column { x < self.now.width }
-        requires row { y < self.now.height }
-        ensures left { result.left < 256 }
-        ensures top { result.top < 256 }
-    {
+    fn near(&self, x: usize, y: usize) -> Neighbours {
+        let (column, row) = (x.saturating_add(2), y.saturating_add(2));
         Neighbours {
-            left: u32::from(self.at(x + 1, y + 2)),
-            top: u32::from(self.at(x + 2, y + 1)),
-            top_left: u32::from(self.at(x + 1, y + 1)),
-            top_right: u32::from(self.at(x + 3, y + 1)),
-            left_of_left: u32::from(self.at(x, y + 2)),
-            top_of_top: u32::from(self.at(x + 2, y)),
+            left: self.at(column - 1, row),
+            top: self.at(column, row - 1),
+            top_left: self.at(column - 1, row - 1),
+            top_right: self.at(column.saturating_add(1), row - 1),
+            left_of_left: self.at(column - 2, row),
+            top_of_top: self.at(column, row - 2),
         }
     }
 
-    /// The sample in a column and a row that are counted from two before the plane's first (section 3.1): above the
-    /// plane, and two columns before it, is 0; a column before it the first sample of the row above; after it the last
-    /// one of the row.
-    fn at(&self, column: usize, row: usize) -> u8
-        requires column { column ≤ self.now.width + 2 }
-        requires row { row ≤ self.now.height + 1 }
-    {
+    /// The sample in a column and a row that are counted from two before the plane's first (section 3.1): above the plane, and two columns
+    /// before it, is 0; a column before it the first sample of the row above; after it the last one of the row.
+    fn at(&self, column: usize, row: usize) -> u32 {
         match column {
             0 => 0,
             1 => self.inside(0, row.saturating_sub(1)),
@@ -76,13 +102,33 @@ impl Plane<'_> {
     }
 
     /// The same in a column of the plane.
-    fn inside(&self, x: usize, row: usize) -> u8
-        requires column { x ≤ self.now.width }
-        requires row { row ≤ self.now.height + 1 }
-    {
+    fn inside(&self, x: usize, row: usize) -> u32 {
         let Some(y) = row.checked_sub(2) else {
             return 0;
         };
-        self.samples.get(y * self.width + x).copied().unwrap_or(0)
+        let place = y.wrapping_mul(self.width).wrapping_add(x);
+        self.samples.get(place).copied().unwrap_or(0)
+    }
+}
+
+impl Coding {
+    /// The median of the sample to the left, the one above, and their sum less the one between them (section 3.3).
+    fn prediction(&self, near: &Neighbours) -> i32 {
+        let left = self.predicting(near.left);
+        let top = self.predicting(near.top);
+        let slope = left
+            .wrapping_add(top)
+            .wrapping_sub(self.predicting(near.top_left));
+        slope.max(left.min(top)).min(left.max(top))
+    }
+
+    /// A sample as others are predicted of it.
+    fn predicting(&self, sample: u32) -> i32 {
+        let sample = sample.cast_signed();
+        if self.is_signed && sample >= 32768 {
+            sample - 65536
+        } else {
+            sample
+        }
     }
 }
