@@ -12,14 +12,14 @@ use ffv1_plane::{RangeLines, RiceLines};
 
 /// How a slice ends.
 #[derive(Drop)]
-pub(crate) struct SliceEnd {
+pub(crate) struct EndedSlice {
     pub(crate) spare_bits: usize,
     pub(crate) is_clean: bool,
     pub(crate) states: SliceStates,
 }
 
 /// The end of a range-coded slice whose samples were read.
-fn range_ended(after: RangeLines<'_>) -> Result<SliceEnd, SliceFault>
+fn range_ended(after: RangeLines<'_>) -> Result<EndedSlice, SliceFault>
     requires { IsReaderWithin (slice_readers.Range after) }
     ensures ok { IfOk result (λ end. IsEndAt (slice_readers.Range after.entry) (end_value end)) }
     ensures err { IfErr result (IsEndFault (slice_readers.Range after.entry)) }
@@ -33,7 +33,7 @@ fn range_ended(after: RangeLines<'_>) -> Result<SliceEnd, SliceFault>
     let Ok(end) = decoder.end() else {
         return Err(SliceFault::End);
     };
-    Ok(SliceEnd {
+    Ok(EndedSlice {
         spare_bits: 8 * end.spare,
         is_clean: end.is_clean(),
         states: SliceStates::Range(RangeStates {
@@ -63,7 +63,7 @@ fn is_clean_rest(bits: Bits<'_>) -> bool
 }
 
 /// The end of a slice of Golomb-Rice codes whose samples were read.
-fn rice_ended(after: RiceLines<'_>) -> SliceEnd
+fn rice_ended(after: RiceLines<'_>) -> EndedSlice
     ensures { IsEndAt (slice_readers.Rice after.entry) (end_value result) }
 {
     let RiceLines {
@@ -73,7 +73,7 @@ fn rice_ended(after: RiceLines<'_>) -> SliceEnd
         alpha,
     } = after;
     let spare_bits = bits.left();
-    SliceEnd {
+    EndedSlice {
         spare_bits,
         is_clean: is_clean_rest(bits),
         states: SliceStates::Rice(RiceStates {
@@ -85,7 +85,7 @@ fn rice_ended(after: RiceLines<'_>) -> SliceEnd
 }
 
 /// The end of a slice whose samples were read.
-pub(crate) fn ended(after: SliceReader<'_>) -> Result<SliceEnd, SliceFault>
+pub(crate) fn ended(after: SliceReader<'_>) -> Result<EndedSlice, SliceFault>
     requires { IsReaderWithin after }
     ensures ok { IfOk result (λ end. IsEndAt after.entry (end_value end)) }
     ensures err { IfErr result (IsEndFault after.entry) }

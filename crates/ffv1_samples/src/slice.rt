@@ -20,7 +20,7 @@ ghost use Rattle.ffv1_samples.specs.declared.faults.SliceFault.TheVariants as Sl
 ghost use Rattle.ffv1_samples.specs.declared.reading.CodedFault.TheVariants as coded_faults;
 
 use crate::colors::{PlanesFault, picture_planes};
-use crate::ends::{SliceEnd, ended};
+use crate::ends::{EndedSlice, ended};
 use crate::faults::{SampleFault, SliceFault};
 use crate::reading::{CodedFault, CodedSlice, read_coded};
 use crate::sizes::{rows_of, sizes_of};
@@ -145,7 +145,7 @@ fn finished(
     let CodedSlice { planes, after } = slice;
     let planes = judged_planes(alloc, recording, &planes, width)?;
     let end = ended(after)?;
-    let SliceEnd {
+    let EndedSlice {
         spare_bits,
         is_clean,
         states,

@@ -12,7 +12,7 @@ use Rattle.ffv1_plane.specs.declared.planes.RangeLines.{RangeLines}
 use Rattle.ffv1_plane.specs.declared.rice_planes.RiceLines.{RiceLines}
 use Rattle.ffv1_samples.specs.States.{GroupsOf, SliceStatesValue, slice_states_value, FitSlice}
 use Rattle.ffv1_samples.specs.Coded.{SamplesEnd, range_end, rice_end, AreCoded, IsStuck, EndsWith, HasNoEnd, states_at}
-use Rattle.ffv1_samples.specs.declared.ends.SliceEnd.{SliceEnd}
+use Rattle.ffv1_samples.specs.declared.ends.EndedSlice.{EndedSlice}
 use Rattle.ffv1_samples.specs.declared.faults.SliceFault.{SliceFault}
 use Rattle.ffv1_samples.specs.declared.faults.SliceFault.TheVariants.{Head, Code, End}
 use Rattle.ffv1_samples.specs.declared.faults.SliceFault.TheVariants as slice_faults
@@ -50,7 +50,7 @@ pub record EndValue : Type 0 where
   pub is_clean : Bool
   pub states : SliceStatesValue
 
-abbrev pub end_value : SliceEnd → EndValue
+abbrev pub end_value : EndedSlice → EndValue
 end_value end = record { spare_bits = end.spare_bits; is_clean = end.is_clean; states = slice_states_value end.states }
 
 abbrev pub IsEndAt : SliceReader → EndValue → Type 0
