@@ -5,4 +5,5 @@ pub mod CheckedBytes
 pub mod Reports
 pub mod ReportLines
 pub mod Checks
+pub mod Spans
 pub mod SourceChecks
