@@ -5,11 +5,11 @@ use Rattle.std.proofs.Math.Seq.{get_or-append_seam}
 use Rattle.std.proofs.Math.ListN.{get_or-append}
 use Rattle.std.proofs.lemmas.Bool.{eqb-true, eq-eqb}
 use Rattle.std.proofs.lemmas.List.{length-append}
-use Rattle.std.proofs.lemmas.Option.{slice_get-get_or, slice_get_within, get_or_from_slice_get}
+use Rattle.std.proofs.lemmas.Option.{slice_get-get_or, get_or_from_slice_get}
 use Rattle.matroska.specs.declared.track.Track.{Track}
 use Rattle.ffv1_check.specs.declared.track_states.TrackState.{TrackState}
 use Rattle.ffv1_check.specs.declared.report.TrackCount.{TrackCount}
-use Rattle.ffv1_check.specs.Inner.Stands.{no_state, counted_in, AreCounted}
+use Rattle.ffv1_check.specs.Inner.Stands.{no_state, counted_in}
 
 -- the first tracks are counted
 pub record AreCountedTo (k : ℕ) (tracks : List Track) (states : List TrackState) (counts : List TrackCount) : Type 0 where
@@ -48,11 +48,3 @@ counted_more k tracks states counts new track state at is are grown = record {
         let apart : index ≡ k → ⊥ = λ same. let is : eqb index k ≡ true = eq-eqb index k same in let no : true ≡ false = sym is ∙ e in cc in
         let below : index < k = omega (arith, within, apart) in
         ap (λ z. slice_get z index) grown ∙ old_there counts (counted_in track state) index (omega (arith, below, are.as_many)) ∙ are.each index below other there
-
--- all of them
-pub all_counted : (k : ℕ) (tracks : List Track) (states : List TrackState) (counts : List TrackCount) → k ≡ length tracks → AreCountedTo k tracks states counts
-    → AreCounted tracks states counts
-all_counted k tracks states counts all are = record {
-  as_many = are.as_many ∙ all;
-  each = λ index track at. are.each index (omega (arith, slice_get_within tracks index track at, all)) track at;
-}

@@ -75,13 +75,16 @@ element_size : (first : Option PlacedContent) (tracks : List Track) (place : ℕ
     → (are : AreElementParts first tracks place head bytes parts)
     → checked_bytes parts ≡ checked_bytes are.content + (checked_bytes are.records + cond (passes are.crc32) (length bytes - head.length) 0)
 element_size first tracks place head bytes parts are =
-    omega (arith, ap checked_bytes are.joined,
-        bytes_one (part.Begin (opening_of place are.element head)) (are.content ++ (are.doc ++ (are.records ++ part.End (closing_of place are.element head bytes are.crc32) ∷ []))),
-        bytes_join are.content (are.doc ++ (are.records ++ part.End (closing_of place are.element head bytes are.crc32) ∷ [])),
-        bytes_join are.doc (are.records ++ part.End (closing_of place are.element head bytes are.crc32) ∷ []),
-        bytes_join are.records (part.End (closing_of place are.element head bytes are.crc32) ∷ []),
-        bytes_one (part.End (closing_of place are.element head bytes are.crc32)) [],
-        doc_zero are.element place (drop head.length bytes) are.doc are.doc_is)
+    omega (
+      arith,
+      ap checked_bytes are.joined,
+      bytes_one (part.Begin (opening_of place are.element head)) (are.content ++ (are.doc ++ (are.records ++ part.End (closing_of place are.element head bytes are.crc32) ∷ []))),
+      bytes_join are.content (are.doc ++ (are.records ++ part.End (closing_of place are.element head bytes are.crc32) ∷ [])),
+      bytes_join are.doc (are.records ++ part.End (closing_of place are.element head bytes are.crc32) ∷ []),
+      bytes_join are.records (part.End (closing_of place are.element head bytes are.crc32) ∷ []),
+      bytes_one (part.End (closing_of place are.element head bytes are.crc32)) [],
+      doc_zero are.element place (drop head.length bytes) are.doc are.doc_is,
+    )
 
 -- what stands after its head
 after_head : (n size : ℕ) (bytes : List ℕ) → HasChecked (drop n bytes) size → HasChecked bytes size
@@ -117,8 +120,12 @@ by_crc32 : (first : Option PlacedContent) (tracks : List Track) (place : ℕ) (h
     → HasChecked bytes (checked_bytes content + (checked_bytes records + cond (passes c) (length bytes - head.length) 0))
 by_crc32 first tracks place head bytes crc.Passes content records are_bytes is crc32 are records_are =
     let size : length (drop head.length bytes) ≡ checked_bytes content + (checked_bytes records + (length bytes - head.length)) =
-    omega (arith, content_counts tracks true (child_ids head.id) (place + head.length) (drop head.length bytes) content are,
-        records_vouched_if (is_at place first && true) place tracks records records_are, length-drop head.length bytes) in
+    omega (
+      arith,
+      content_counts tracks true (child_ids head.id) (place + head.length) (drop head.length bytes) content are,
+      records_vouched_if (is_at place first && true) place tracks records records_are,
+      length-drop head.length bytes,
+    ) in
     after_head head.length _ bytes (subst (HasChecked (drop head.length bytes)) size (checked_all (drop head.length bytes) (inl crc32.2)))
 by_crc32 first tracks place head bytes crc.Cut content records are_bytes is crc32 are records_are =
     let size : checked_bytes content + checked_bytes records ≡ checked_bytes content + (checked_bytes records + 0) = omega arith in

@@ -52,9 +52,12 @@ walk_checked c (suc n) q within = elim (cases_lt q (size_before c q + 8)) [
       let joined = checked_join _ _ _ _ before (link_checked (link_of c (q - (size_before c q + 8)) q)) in
       let bytes : take (q - (size_before c q + 8)) c ++ slice_range c (q - (size_before c q + 8)) q ≡ take q c = range_after c (q - (size_before c q + 8)) q less in
       let size : passing_size (walked n c (q - (size_before c q + 8))) + cond (is_passing (link_of c (q - (size_before c q + 8)) q)) (length (slice_range c (q - (size_before c q + 8)) q)) 0
-              ≡ passing_size (walked (suc n) c q) =
-      omega (arith, ap passing_size (walked-more c n (q - (size_before c q + 8)) q cut),
-          sum_by-cons (λ (link : LinkValue). cond (is_passing link) (length link.bytes) 0) (link_of c (q - (size_before c q + 8)) q) (walked n c (q - (size_before c q + 8)))) in
+      ≡ passing_size (walked (suc n) c q) =
+      omega (
+        arith,
+        ap passing_size (walked-more c n (q - (size_before c q + 8)) q cut),
+        sum_by-cons (λ (link : LinkValue). cond (is_passing link) (length link.bytes) 0) (link_of c (q - (size_before c q + 8)) q) (walked n c (q - (size_before c q + 8))),
+      ) in
       subst (λ z. HasChecked z (passing_size (walked (suc n) c q))) bytes (subst (HasChecked (take (q - (size_before c q + 8)) c ++ slice_range c (q - (size_before c q + 8)) q)) size joined)
 ]
   where

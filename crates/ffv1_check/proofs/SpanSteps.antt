@@ -27,9 +27,10 @@ shifted n span = record { place = n + span.place; size = span.size }
 
 follow_shifted : (n from : ℕ) (spans : List Span) (to : ℕ) → Follow from spans to → Follow (n + from) (map (shifted n) spans) (n + to)
 follow_shifted n from [] to follow = omega (arith, follow)
-follow_shifted n from (s ∷ ss) to follow =
-    (omega (arith, follow.0),
-    subst (λ z. Follow z (map (shifted n) ss) (n + to)) (omega arith) (follow_shifted n (s.place + s.size) ss to follow.1))
+follow_shifted n from (s ∷ ss) to follow = (
+  omega (arith, follow.0),
+  subst (λ z. Follow z (map (shifted n) ss) (n + to)) (omega arith) (follow_shifted n (s.place + s.size) ss to follow.1),
+)
 
 sum_shifted : (n : ℕ) (spans : List Span) → sum_by size_of (map (shifted n) spans) ≡ sum_by size_of spans
 sum_shifted n [] = refl

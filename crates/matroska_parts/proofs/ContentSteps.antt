@@ -23,62 +23,62 @@ module _ (tracks : List Track) (vouched : Bool) (Good : List ℕ → List Part �
     (join : (xs ys : List ℕ) (ps qs : List Part) → Good xs ps → Good ys qs → Good (xs ++ ys) (ps ++ qs))
     (unknown : (bytes : List ℕ) (span : Span) → Good bytes (part.Unknown span ∷ [])) (timestamp : (bytes : List ℕ) (t : ℕ) → Good bytes (part.Timestamp t ∷ []))
     (block : (place : ℕ) (element content : List ℕ) (found : BlockPart) → IsBlockPart tracks vouched place element content found → Good content (part.Block found ∷ []))
-    where
-  none_good : (bytes : List ℕ) (parts : List Part) → parts ≡ [] → Good bytes parts
-  none_good bytes parts e = subst (Good bytes) (sym e) (nothing bytes)
+  where
+    none_good : (bytes : List ℕ) (parts : List Part) → parts ≡ [] → Good bytes parts
+    none_good bytes parts e = subst (Good bytes) (sym e) (nothing bytes)
 
-  -- what stands after the head of an element
-  after_good : (n : ℕ) (element : List ℕ) (parts : List Part) → Good (drop n element) parts → Good element parts
-  after_good n element parts good =
-      subst (λ z. Good z parts) (take-append-drop n element) (join (take n element) (drop n element) [] parts (nothing (take n element)) good)
+    -- what stands after the head of an element
+    after_good : (n : ℕ) (element : List ℕ) (parts : List Part) → Good (drop n element) parts → Good element parts
+    after_good n element parts good =
+        subst (λ z. Good z parts) (take-append-drop n element) (join (take n element) (drop n element) [] parts (nothing (take n element)) good)
 
-  block_good : (n place : ℕ) (element : List ℕ) (parts : List Part) → IsOneBlock tracks vouched place element (drop n element) parts → Good element parts
-  block_good n place element parts is =
-      after_good n element parts (subst (Good (drop n element)) (sym is.1) (block place element (drop n element) is.0 is.2))
+    block_good : (n place : ℕ) (element : List ℕ) (parts : List Part) → IsOneBlock tracks vouched place element (drop n element) parts → Good element parts
+    block_good n place element parts is =
+        after_good n element parts (subst (Good (drop n element)) (sym is.1) (block place element (drop n element) is.0 is.2))
 
-  each_good : (HasParts : ℕ → List ℕ → List Part → Type 0) → ((place : ℕ) (piece : List ℕ) (parts : List Part) → HasParts place piece parts → Good piece parts)
-      → (place : ℕ) (pieces : List (List ℕ)) (parts : List Part) → EachHasParts HasParts place pieces parts → Good (concat pieces) parts
-  each_good HasParts good place [] parts each = none_good [] parts each
-  each_good HasParts good place (p ∷ ps) parts each =
-      subst (Good (p ++ concat ps)) (sym each.2)
-      (join p (concat ps) each.0 each.1 (good place p each.0 each.3) (each_good HasParts good (place + length p) ps each.1 each.4))
+    each_good : (HasParts : ℕ → List ℕ → List Part → Type 0) → ((place : ℕ) (piece : List ℕ) (parts : List Part) → HasParts place piece parts → Good piece parts)
+        → (place : ℕ) (pieces : List (List ℕ)) (parts : List Part) → EachHasParts HasParts place pieces parts → Good (concat pieces) parts
+    each_good HasParts good place [] parts each = none_good [] parts each
+    each_good HasParts good place (p ∷ ps) parts each =
+        subst (Good (p ++ concat ps)) (sym each.2)
+        (join p (concat ps) each.0 each.1 (good place p each.0 each.3) (each_good HasParts good (place + length p) ps each.1 each.4))
 
-  unknown_good : (place : ℕ) (bytes : List ℕ) → Good bytes (unknown_parts place bytes)
-  unknown_good place [] = nothing []
-  unknown_good place (b ∷ bs) = unknown (b ∷ bs) _
+    unknown_good : (place : ℕ) (bytes : List ℕ) → Good bytes (unknown_parts place bytes)
+    unknown_good place [] = nothing []
+    unknown_good place (b ∷ bs) = unknown (b ∷ bs) _
 
-  master_good : (HasParts : ℕ → List ℕ → List Part → Type 0) → ((place : ℕ) (piece : List ℕ) (parts : List Part) → HasParts place piece parts → Good piece parts)
-      → (ids : List ℕ) (place : ℕ) (content : List ℕ) (parts : List Part) → AreMasterParts HasParts ids place content parts → Good content parts
-  master_good HasParts good ids place content parts are =
-      subst (λ z. Good z parts) (sym are.are_children.joined)
-      (subst (Good (concat are.children ++ are.rest)) (sym are.joined)
-      (join (concat are.children) are.rest are.own _ (each_good HasParts good place are.children are.own are.each) (unknown_good _ are.rest)))
+    master_good : (HasParts : ℕ → List ℕ → List Part → Type 0) → ((place : ℕ) (piece : List ℕ) (parts : List Part) → HasParts place piece parts → Good piece parts)
+        → (ids : List ℕ) (place : ℕ) (content : List ℕ) (parts : List Part) → AreMasterParts HasParts ids place content parts → Good content parts
+    master_good HasParts good ids place content parts are =
+        subst (λ z. Good z parts) (sym are.are_children.joined)
+        (subst (Good (concat are.children ++ are.rest)) (sym are.joined)
+        (join (concat are.children) are.rest are.own _ (each_good HasParts good place are.children are.own are.each) (unknown_good _ are.rest)))
 
-  group_child_by : (k : ChildKind) (n place : ℕ) (element : List ℕ) (parts : List Part) → IsGroupChildBy k tracks vouched place element (drop n element) parts
-      → Good element parts
-  group_child_by child.Timestamp n place element parts is = none_good element parts is
-  group_child_by child.Block n place element parts is = block_good n place element parts is
-  group_child_by child.Group n place element parts is = none_good element parts is
-  group_child_by child.Other n place element parts is = none_good element parts is
+    group_child_by : (k : ChildKind) (n place : ℕ) (element : List ℕ) (parts : List Part) → IsGroupChildBy k tracks vouched place element (drop n element) parts
+        → Good element parts
+    group_child_by child.Timestamp n place element parts is = none_good element parts is
+    group_child_by child.Block n place element parts is = block_good n place element parts is
+    group_child_by child.Group n place element parts is = none_good element parts is
+    group_child_by child.Other n place element parts is = none_good element parts is
 
-  group_child : (place : ℕ) (element : List ℕ) (parts : List Part) → IsGroupChild tracks vouched place element parts → Good element parts
-  group_child place element parts is = group_child_by (child_kind is.0.id) is.0.length place element parts is.2
+    group_child : (place : ℕ) (element : List ℕ) (parts : List Part) → IsGroupChild tracks vouched place element parts → Good element parts
+    group_child place element parts is = group_child_by (child_kind is.0.id) is.0.length place element parts is.2
 
-  master_child_by : (k : ChildKind) (n place : ℕ) (element : List ℕ) (parts : List Part) → IsMasterChildBy k tracks vouched place n element (drop n element) parts
-      → Good element parts
-  master_child_by child.Timestamp n place element parts is = subst (Good element) (sym is) (timestamp element _)
-  master_child_by child.Block n place element parts is = block_good n place element parts is
-  master_child_by child.Group n place element parts is =
-      after_good n element parts (master_good (IsGroupChild tracks vouched) group_child block_group_ids (place + n) (drop n element) parts is)
-  master_child_by child.Other n place element parts is = none_good element parts is
+    master_child_by : (k : ChildKind) (n place : ℕ) (element : List ℕ) (parts : List Part) → IsMasterChildBy k tracks vouched place n element (drop n element) parts
+        → Good element parts
+    master_child_by child.Timestamp n place element parts is = subst (Good element) (sym is) (timestamp element _)
+    master_child_by child.Block n place element parts is = block_good n place element parts is
+    master_child_by child.Group n place element parts is =
+        after_good n element parts (master_good (IsGroupChild tracks vouched) group_child block_group_ids (place + n) (drop n element) parts is)
+    master_child_by child.Other n place element parts is = none_good element parts is
 
-  master_child : (place : ℕ) (element : List ℕ) (parts : List Part) → IsMasterChild tracks vouched place element parts → Good element parts
-  master_child place element parts is = master_child_by (child_kind is.0.id) is.0.length place element parts is.2
+    master_child : (place : ℕ) (element : List ℕ) (parts : List Part) → IsMasterChild tracks vouched place element parts → Good element parts
+    master_child place element parts is = master_child_by (child_kind is.0.id) is.0.length place element parts is.2
 
-  pub content_good : (ids : Option (List ℕ)) (place : ℕ) (content : List ℕ) (parts : List Part) → AreContentPartsBy ids tracks vouched place content parts
-      → Good content parts
-  content_good None place content parts are = none_good content parts are
-  content_good (Some ids) place content parts are = master_good (IsMasterChild tracks vouched) master_child ids place content parts are
+    pub content_good : (ids : Option (List ℕ)) (place : ℕ) (content : List ℕ) (parts : List Part) → AreContentPartsBy ids tracks vouched place content parts
+        → Good content parts
+    content_good None place content parts are = none_good content parts are
+    content_good (Some ids) place content parts are = master_good (IsMasterChild tracks vouched) master_child ids place content parts are
 
 -- ---- the content of a Tracks has no parts but what is unknown
 
