@@ -13,7 +13,7 @@ use Rattle.ebml.proofs.Heads.{head_longer, heads_are_local}
 use Rattle.ebml.proofs.Elements.{head_of_front, front_head}
 use Rattle.ebml_reader.specs.Reader.{Held}
 use Rattle.ebml_reader.specs.Inner.Intake.{Passes, Has, IsBounded, Whatever}
-use Rattle.ebml_reader.specs.Inner.Settled.{BeginsItem, EndsAt, ChildrenEndAt, BeginsNoTop}
+use Rattle.ebml_reader.specs.Inner.Settled.{BeginsItem, ItemEndsAt, ChildrenEndAt, BeginsNoTop}
 use Rattle.ebml_reader.proofs.Steps.{passes-nil}
 
 -- the head of an item begins all that is left
@@ -33,7 +33,7 @@ head_room head n old new x y step has =
     let long : length (old.bytes ++ step.read) ≡ length new.bytes = ap length step.joined in
     omega (arith, there, long, length-append old.bytes step.read)
 
-pub segment_ends : (head : Head) (held : Held) (log : ReadLog) → IsBounded held → BeginsItem (Segment head) held.bytes → EndsAt (Segment head) head.length held held log log
+pub segment_ends : (head : Head) (held : Held) (log : ReadLog) → IsBounded held → BeginsItem (Segment head) held.bytes → ItemEndsAt (Segment head) head.length held held log log
 segment_ends head held log bounded begins =
     let step = passes-nil held log in
     let is = begins.1 in
@@ -61,7 +61,7 @@ no_more held more n ends (inr there) = inr there
 
 pub element_ends : (head : Head) (old new : Held) (x y : ReadLog) (whole end : ℕ) → BeginsItem (Element head) old.bytes
     → ((size : ℕ) → head.size ≡ Some size → whole ≡ min (head.length + size) (2 ^ 64 - 1)) → end ≡ min whole (length new.bytes)
-    → Passes [] old new x y → Has whole new → IsBounded new → EndsAt (Element head) end old new x y
+    → Passes [] old new x y → Has whole new → IsBounded new → ItemEndsAt (Element head) end old new x y
 element_ends head old new x y whole end begins whole_is end_is_min step has bounded =
     let is = begins.1 in
     let size : ℕ = is.2.0 in
@@ -92,7 +92,7 @@ element_ends head old new x y whole end begins whole_is end_is_min step has boun
     }
 
 pub cluster_ends : (head : Head) (old new : Held) (x y : ReadLog) (end : ℕ) → BeginsItem (Endless head) old.bytes → ChildrenEndAt head.length end old new x y
-    → EndsAt (Endless head) end old new x y
+    → ItemEndsAt (Endless head) end old new x y
 cluster_ends head old new x y end begins kids =
     let is = begins.1 in
     let from = kids.from in

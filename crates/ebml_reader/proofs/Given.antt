@@ -12,7 +12,7 @@ use Rattle.ebml_reader.specs.declared.settled.Settled.{Settled}
 use Rattle.ebml_reader.specs.declared.fault.ReaderFault.{ReaderFault}
 use Rattle.ebml_reader.specs.Reader.{Held, nothing_held, StandsAfter, AreAllItems, GivesItem, IsFault}
 use Rattle.ebml_reader.specs.Inner.Intake.{Passes}
-use Rattle.ebml_reader.specs.Inner.Settled.{EndsAt, PassesItem, Settles}
+use Rattle.ebml_reader.specs.Inner.Settled.{ItemEndsAt, PassesItem, Settles}
 use Rattle.ebml_reader.proofs.Steps.{passes-trans, left_is, still, fault-after}
 
 abbrev pub item_of : Settled → List ℕ → ItemValue
@@ -76,7 +76,7 @@ fault_given fault first x y items old stands is =
 
 -- ---- what the code reads
 
-pub kept_item : (kind : Kind) (kept : ℕ) (old new : Held) (x y : ReadLog) → (kind ≢ Unknown) → EndsAt kind kept old new x y
+pub kept_item : (kind : Kind) (kept : ℕ) (old new : Held) (x y : ReadLog) → (kind ≢ Unknown) → ItemEndsAt kind kept old new x y
     → Settles record { found = record { kind = kind; length = kept }; kept = kept } old new x y
 kept_item kind kept old new x y known ends =
     let within = ends.within in

@@ -1,7 +1,7 @@
 //! What was read of a source and not passed yet.
 ghost use Rattle.std.specs.Prelude.{◌≡◌, ◌↔◌, ◌<◌, ◌≤◌, false, IsTrue, length, drop};
 ghost use Rattle.ebml_reader.specs.Reader.{nothing_held};
-ghost use Rattle.ebml_reader.specs.Inner.Intake.{IsBounded, ReadsPiece, Fills};
+ghost use Rattle.ebml_reader.specs.Inner.Intake.{IsBounded, ReadsPiece, FillsUp};
 
 use crate::fault::ReaderFault;
 use ffv1_devices::{Source, read_some};
@@ -107,7 +107,7 @@ impl Intake {
 
     /// Reads on, until so many bytes are there or the source has ended.
     pub(crate) fn fill<S: Source>(&mut self, source: &mut S, size: u64) -> Result<(), ReaderFault>
-        ensures { Fills size result self.old self.new (S.log source.old) (S.log source.new) }
+        ensures { FillsUp size result self.old self.new (S.log source.old) (S.log source.new) }
     {
         while self.lacks(size) {
             self.read_piece(source)?;

@@ -13,7 +13,7 @@ use Rattle.matroska_parts.specs.Payloads.{IsPayloadOf, HasPassing}
 use Rattle.matroska_parts.specs.BlockParts.{IsTrackBlock}
 use Rattle.matroska_parts.specs.declared.parts.TrackBlock.{TrackBlock}
 use Rattle.matroska_parts.specs.declared.facts.TrackFacts.{TrackFacts}
-use Rattle.matroska_parts.specs.Inner.Facts.{IsJudging, AreFactsOf, EachHasFacts}
+use Rattle.matroska_parts.specs.Facts.{IsJudging, AreFactsOf, EachHasFacts}
 use Rattle.matroska_parts.proofs.FactSteps.{facts_at}
 
 abbrev pub no_track : Track

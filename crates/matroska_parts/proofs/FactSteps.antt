@@ -5,7 +5,7 @@ use Rattle.matroska.specs.Tracks.{HasRecord}
 use Rattle.matroska.specs.declared.track.Track.{Track}
 use Rattle.matroska_parts.specs.Payloads.{IsFfv1}
 use Rattle.matroska_parts.specs.declared.facts.TrackFacts.{TrackFacts}
-use Rattle.matroska_parts.specs.Inner.Facts.{AreFactsOf, EachHasFacts}
+use Rattle.matroska_parts.specs.Facts.{AreFactsOf, EachHasFacts}
 
 pub not_ffv1 : (track : Track) → ((bytes : List ℕ) → HasRecord track bytes → ⊥) → IsTrue false ↔ IsFfv1 track
 not_ffv1 track none = (λ t. absurd (is_false t), λ is. absurd (none is.0 is.1))

@@ -110,9 +110,6 @@ pub record NoTracks (first : ReadLog) (reading : ReaderState) (now : ReadLog) (p
   pub at : place ≡ length (bytes_of_items items)
   pub none : first_tracks 0 items ≡ None
 
-pub no_tracks_yet : (first now : ReadLog) (reading : ReaderState) → StandsAfter first [] reading.held now → NoTracks first reading now 0
-no_tracks_yet first now reading stands = record { items = []; stands = stands; at = refl; none = refl }
-
 one_first : (place : ℕ) (item : ItemValue) (left : List ItemValue) (b : Bool) → is_tracks item.kind ≡ b
     → first_tracks place (item ∷ left) ≡ cond b (Some record { place = place; content = content_by item.kind item.bytes }) (first_tracks (place + length item.bytes) left)
 one_first place item left b is =

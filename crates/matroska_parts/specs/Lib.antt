@@ -1,5 +1,7 @@
 pub mod TopElements
 pub mod Payloads
+pub mod Facts
+pub mod FileTracks
 pub mod BlockParts
 pub mod MasterParts
 pub mod Openings

@@ -1,7 +1,7 @@
 //! Blocks as parts of a file.
 ghost use Rattle.std.specs.Prelude.{IfOk};
 ghost use Rattle.matroska_parts.specs.BlockParts.{IsStanding};
-ghost use Rattle.matroska_parts.specs.Inner.FileTracks.{HasFacts};
+ghost use Rattle.matroska_parts.specs.FileTracks.{HasFacts};
 
 use crate::file_tracks::FileTracks;
 use crate::parts::{Standing, TrackBlock};

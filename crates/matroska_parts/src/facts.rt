@@ -1,7 +1,7 @@
 //! What is known of each track before its blocks are judged.
 ghost use Rattle.std.specs.Prelude.{◌≡◌, ◌↔◌, IsTrue, IfOk};
 ghost use Rattle.matroska_parts.specs.Payloads.{IsFfv1};
-ghost use Rattle.matroska_parts.specs.Inner.Facts.{IsJudging, AreFactsOf, EachHasFacts};
+ghost use Rattle.matroska_parts.specs.Facts.{IsJudging, AreFactsOf, EachHasFacts};
 
 use matroska::{Track, has_parities, is_flac, record_of};
 use std::alloc::{AllocError, Global};

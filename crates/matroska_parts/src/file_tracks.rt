@@ -13,7 +13,7 @@ pub(crate) struct FileTracks<'a> {
 impl<'a> FileTracks<'a> {
     ghost use Rattle.std.specs.Prelude.{◌≡◌, IfOk};
     ghost use Rattle.matroska.specs.NamedTracks.{named_tracks};
-    ghost use Rattle.matroska_parts.specs.Inner.FileTracks.{HasFacts};
+    ghost use Rattle.matroska_parts.specs.FileTracks.{HasFacts};
 
     /// Those among the tracks that a file's Tracks describe.
     pub(crate) fn new(alloc: Global, tracks: &[Track<'a>]) -> Result<FileTracks<'a>, AllocError>

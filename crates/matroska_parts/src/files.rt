@@ -6,7 +6,7 @@ ghost use Rattle.ebml.specs.Items.{ItemValue, AreItems};
 ghost use Rattle.matroska.specs.NamedTracks.{named_tracks};
 ghost use Rattle.matroska_parts.specs.ItemParts.{PlacedContent, is_tracks, content_by, first_tracks, AreTracksBy, AreNamedIn, AreItemParts, AreFileParts};
 ghost use Rattle.matroska_parts.specs.Named.{IsBelow};
-ghost use Rattle.matroska_parts.specs.Inner.FileTracks.{HasFacts};
+ghost use Rattle.matroska_parts.specs.FileTracks.{HasFacts};
 ghost use Rattle.matroska_parts.specs.SourceParts.{HasItsHead};
 ghost use Rattle.matroska_parts.specs.Inner.Firsts.{SaysWhere, found_of};
 

@@ -4,7 +4,7 @@ ghost use Rattle.ebml.specs.Head.{HasHead};
 ghost use Rattle.matroska_parts.specs.TopElements.{top_element_of};
 ghost use Rattle.matroska_parts.specs.Openings.{passes};
 ghost use Rattle.matroska_parts.specs.ItemParts.{PlacedContent, is_at, is_uncut, AreRecordPartsIf, AreElementParts, AreItemPartsBy};
-ghost use Rattle.matroska_parts.specs.Inner.FileTracks.{HasFacts};
+ghost use Rattle.matroska_parts.specs.FileTracks.{HasFacts};
 ghost use Rattle.matroska_parts.specs.Inner.Added.{AddsParts};
 ghost use Rattle.matroska_parts.specs.SourceParts.{HasItsHead};
 ghost use Rattle.matroska_parts.specs.Inner.Firsts.{SaysWhere};

@@ -3,7 +3,7 @@ ghost use Rattle.std.specs.Prelude.{◌≡◌, ◌+◌, ◌<◌, ◌≤◌, ◌^
 ghost use Rattle.ebml.specs.Children.{IsElement};
 ghost use Rattle.ebml.specs.Masters.{block_group_ids};
 ghost use Rattle.matroska_parts.specs.MasterParts.{child_kind, unknown_parts, AreMasterParts, IsOneBlock, IsGroupChild, IsMasterChild, AreContentParts};
-ghost use Rattle.matroska_parts.specs.Inner.FileTracks.{HasFacts};
+ghost use Rattle.matroska_parts.specs.FileTracks.{HasFacts};
 ghost use Rattle.matroska_parts.specs.Inner.Added.{AddsParts};
 
 use crate::blocks::standing_of;

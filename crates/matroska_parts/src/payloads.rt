@@ -4,7 +4,7 @@ ghost use Rattle.matroska.specs.Blocks.{block_value};
 ghost use Rattle.matroska.specs.declared.track.Track.{Track};
 ghost use Rattle.ffv1_scan.specs.Verdicts.{IsVerdictOf};
 ghost use Rattle.matroska_parts.specs.Payloads.{frame_limit, IsFramePayload, IsFlacPayload, IsPayloadOf, HasPassingLinks, HasPassing};
-ghost use Rattle.matroska_parts.specs.Inner.Facts.{IsJudging};
+ghost use Rattle.matroska_parts.specs.Facts.{IsJudging};
 
 use crate::facts::Judging;
 use crate::parts::Payload;

@@ -19,7 +19,7 @@ pub struct PlacedTracks<'a> {
 
 impl<'a> Model for PlacedTracks<'a> {
     ghost use Rattle.matroska_parts.specs.SourceParts.{KnownTracks, found_in};
-    ghost use Rattle.matroska_parts.specs.Inner.FileTracks.{HasFacts};
+    ghost use Rattle.matroska_parts.specs.FileTracks.{HasFacts};
 
     ghost Value = { KnownTracks };
 
@@ -68,7 +68,13 @@ impl<'a> PlacedTracks<'a> {
             return Ok(());
         }
         push_item(
-            alloc, &self.file, self.found.place, place, &item.kind, bytes, parts,
+            alloc,
+            &self.file,
+            self.found.place,
+            place,
+            &item.kind,
+            bytes,
+            parts,
         )
     }
 }

@@ -2,7 +2,7 @@
 ghost use Rattle.std.specs.Prelude.{IfOk};
 ghost use Rattle.matroska_parts.specs.ItemParts.{AreTracksBy};
 ghost use Rattle.matroska_parts.specs.SourceParts.{found_in, FindsTracksIn};
-ghost use Rattle.matroska_parts.specs.Inner.FileTracks.{HasFacts};
+ghost use Rattle.matroska_parts.specs.FileTracks.{HasFacts};
 
 use crate::file_tracks::FileTracks;
 use crate::files::{tracks_content, tracks_in};

@@ -87,7 +87,7 @@ fn items_are_those_in_memory(rt: HostRuntime) -> Result<(), Fail> {
 fn known_ids_are_seen_where_pieces_end(rt: HostRuntime) -> Result<(), Fail> {
     assert!(rt; next_known(b"film") == 4);
     assert!(rt; next_known(&[0x1A, 0x1A, 0x45, 0xDF, 0xA3]) == 1);
-    for before in 65530..65540 {
+    for before in 65532..65537 {
         let mut bytes = vec![in rt.alloc(); b'x'; before]?;
         bytes.extend_from_slice(&file())?;
         assert!(rt; gives_items(rt.alloc(), &bytes, 65536), "{before}");

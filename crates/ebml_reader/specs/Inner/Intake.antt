@@ -28,9 +28,9 @@ pub record IsBounded (held : Held) : Type 0 where
   pub few : length held.bytes ≤ held.taken
   pub limit : held.taken < 2 ^ 63
 
-abbrev pub Fills : {T : Type 0} → ℕ → Result T ReaderFault → Held → Held → ReadLog → ReadLog → Type 0
-Fills size (Ok x) old new before after = Passes [] old new before after × Has size new × IsBounded new
-Fills size (Err fault) old new before after = IsFault fault old.taken before after
+abbrev pub FillsUp : {T : Type 0} → ℕ → Result T ReaderFault → Held → Held → ReadLog → ReadLog → Type 0
+FillsUp size (Ok x) old new before after = Passes [] old new before after × Has size new × IsBounded new
+FillsUp size (Err fault) old new before after = IsFault fault old.taken before after
 
 -- this holds of all that is left of the file: what is held, and whatever follows it
 abbrev pub Whatever : Held → (List ℕ → Type 0) → Type 0

@@ -18,14 +18,14 @@ abbrev pub BeginsItem : Kind → List ℕ → Type 0
 BeginsItem kind bytes = (n : ℕ) × IsItem kind (take n bytes) (drop n bytes)
 
 -- The item goes up to this place, whatever follows.
-pub record EndsAt (kind : Kind) (end : ℕ) (old new : Held) (before after : ReadLog) : Type 0 where
+pub record ItemEndsAt (kind : Kind) (end : ℕ) (old new : Held) (before after : ReadLog) : Type 0 where
   pub passes : Passes [] old new before after
   pub within : end ≤ length new.bytes
   pub bounded : IsBounded new
   pub is : Whatever new (λ left. IsItem kind (take end left) (drop end left))
 
 abbrev pub FindsEnd : Kind → Result ℕ ReaderFault → Held → Held → ReadLog → ReadLog → Type 0
-FindsEnd kind (Ok end) old new before after = EndsAt kind end old new before after
+FindsEnd kind (Ok end) old new before after = ItemEndsAt kind end old new before after
 FindsEnd kind (Err fault) old new before after = IsFault fault old.taken before after
 
 -- A child of a Cluster is at this place, of so many bytes.

@@ -1,7 +1,7 @@
 use Rattle.std.proofs.Common.{false, [], ◌∷◌, ◌++◌, take, get_or, sym, subst}
 use Rattle.std.proofs.lemmas.List.{take_more, take_all}
 use Rattle.matroska.specs.declared.track.Track.{Track}
-use Rattle.matroska_parts.specs.Inner.Facts.{EachHasFacts}
+use Rattle.matroska_parts.specs.Facts.{EachHasFacts}
 use Rattle.matroska_parts.proofs.FactSteps.{facts_more}
 use Rattle.matroska_parts.proofs.facts.facts_of.Goals as goal
 

@@ -1,5 +1,5 @@
 use Rattle.std.proofs.Common.{take}
-use Rattle.matroska_parts.specs.Inner.Facts.{EachHasFacts}
+use Rattle.matroska_parts.specs.Facts.{EachHasFacts}
 use Rattle.matroska_parts.proofs.facts.facts_of.Given as goal
 
 abbrev pub invariant-loop-track : goal.invariant-loop-track
