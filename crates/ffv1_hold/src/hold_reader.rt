@@ -6,9 +6,8 @@ ghost use Rattle.ffv1_range.specs.TileHeaders.{rules_of};
 ghost use Rattle.ffv1_hold.specs.Inner.Reading.{ReadsText};
 ghost use Rattle.ffv1_hold.specs.HoldingText.{HasFileVersion, head_text};
 ghost use Rattle.ffv1_hold.specs.FileEntries.{Follows, IsFileEntryOf};
-ghost use Rattle.ffv1_hold.specs.Inner.FileEntries.{next_text};
-ghost use Rattle.ffv1_hold.specs.FileFaults.{IsFileReel, IsPartOfEntry, EntryShows};
-ghost use Rattle.ffv1_hold.specs.Inner.FileFaults.{IsPartOfHead, HeadIsWhole, HeadShows, EndIsWhole};
+ghost use Rattle.ffv1_hold.specs.FileFaults.{IsFileReel};
+ghost use Rattle.ffv1_hold.specs.Inner.FileFaults.{IsPartOfHead, HeadIsWhole, HeadShows, ReadsNextEntry};
 
 use crate::entry::{HeldSlice, read_entry};
 use crate::file_fault::HoldFileFault;
@@ -68,7 +67,7 @@ impl HoldReader {
         recording: &Recording,
     ) -> Result<(), HoldFileFault>
         requires { self.old.place ≤ file_limit }
-        ensures read { ReadsText (λ _. next_text self.old.version self.new.held) (IsPartOfEntry self.old.version (rules_of recording.now) self.old.held) EndIsWhole (EntryShows self.old.version (rules_of recording.now) self.old.held)
+        ensures read { ReadsNextEntry self.old.version (rules_of recording.now) self.old.held self.new.held
             (S.log source.old) (S.log source.new) self.old.place self.new.place result }
         ensures entry { OnOk result (IfSome self.new.held (IsFileEntryOf self.old.version (rules_of recording.now))) }
         ensures follows { OnOk result (IfSome self.new.held (λ e. Follows self.old.held e.0)) }

@@ -11,7 +11,7 @@ ghost use Rattle.ffv1_hold.specs.Inner.Reading.{Takes};
 ghost use Rattle.ffv1_hold.specs.FileFaults.{IsFileReel};
 ghost use Rattle.ffv1_hold.specs.MergedStreams.{inputs_read, WritesUnion, WritesAtMost};
 ghost use Rattle.ffv1_hold.specs.JoinedStreams.{JoinsStreams, devices};
-ghost use Rattle.ffv1_hold.specs.Inner.Merging.{Start, AreVersions, inputs_from, IsOpened, Stands, Stops, MergeIsRefused, HeadsRefuse, Ends, IsTurn, IsWritten, with_digests};
+ghost use Rattle.ffv1_hold.specs.Inner.Merging.{inputs_from, WhereOpened, WhereStands, StandsAt, Stops, MergeIsRefused, HeadsRefuse, Ends, IsTurn, IsWritten, with_digests};
 ghost use Rattle.ffv1_hold.specs.MergeLogs.{MergeWent};
 ghost use Rattle.ffv1_hold.specs.Inner.MergeLogs.{WritesEntry};
 
@@ -88,8 +88,8 @@ fn merge_files<R: Source, Q: Source, W: Sink>(
     ensures most { OnOk result (WritesAtMost (W.log sink.old).contents (W.log sink.new).contents file_limit) }
     ensures err { IfErr result (MergeIsRefused (inputs_read recordings (R.log left.old) (R.log left.new) (Q.log right.old) (Q.log right.new)) (W.log sink.old).contents (W.log sink.new).contents) }
     ensures untouched { IsErrOf result HoldFileFault.OtherReel → sink.new ≡ sink.old }
-    ensures went { MergeWent result (record { left = R.log left.old; right = Q.log right.old; sink = W.log sink.old })
-        (record { left = R.log left.new; right = Q.log right.new; sink = W.log sink.new }) (0, 0) (file_limit, file_limit) }
+    ensures went { MergeWent result (devices (R.log left.old) (Q.log right.old) (W.log sink.old))
+        (devices (R.log left.new) (Q.log right.new) (W.log sink.new)) (0, 0) (file_limit, file_limit) }
 {
     let reel = merge.read_heads(alloc, recordings, left, right)?;
     merge.merge_after_heads(alloc, &reel, left, right, sink)
@@ -164,20 +164,14 @@ impl Merge {
         requires right_held { self.old.rights.held ≡ None }
         requires room { self.old.room ≡ file_limit }
         requires reel { length reel.now.config ≤ record_limit }
-        ensures ok { (s : Start) → AreVersions s self.old.lefts.version self.old.rights.version
-            → IsOpened s reel.now (R.log left.old).remaining (Q.log right.old).remaining (W.log sink.old).contents
-            self.old.lefts.place self.old.rights.place
-            → OnOk result (WritesUnion (inputs_from s (R.log left.new).remaining (Q.log right.new).remaining) s.sink (W.log sink.new).contents) }
-        ensures most { (s : Start) → AreVersions s self.old.lefts.version self.old.rights.version
-            → IsOpened s reel.now (R.log left.old).remaining (Q.log right.old).remaining (W.log sink.old).contents
-            self.old.lefts.place self.old.rights.place
-            → OnOk result (WritesAtMost s.sink (W.log sink.new).contents file_limit) }
-        ensures err { (s : Start) → AreVersions s self.old.lefts.version self.old.rights.version
-            → IsOpened s reel.now (R.log left.old).remaining (Q.log right.old).remaining (W.log sink.old).contents
-            self.old.lefts.place self.old.rights.place
-            → IfErr result (Stops (inputs_from s (R.log left.new).remaining (Q.log right.new).remaining) s.sink (W.log sink.new).contents) }
-        ensures went { MergeWent result (record { left = R.log left.old; right = Q.log right.old; sink = W.log sink.old })
-            (record { left = R.log left.new; right = Q.log right.new; sink = W.log sink.new }) (self.old.lefts.place, self.old.rights.place) (file_limit, file_limit) }
+        ensures ok { WhereOpened self.old reel.now (devices (R.log left.old) (Q.log right.old) (W.log sink.old))
+            (λ s. OnOk result (WritesUnion (inputs_from s (R.log left.new).remaining (Q.log right.new).remaining) s.sink (W.log sink.new).contents)) }
+        ensures most { WhereOpened self.old reel.now (devices (R.log left.old) (Q.log right.old) (W.log sink.old))
+            (λ s. OnOk result (WritesAtMost s.sink (W.log sink.new).contents file_limit)) }
+        ensures err { WhereOpened self.old reel.now (devices (R.log left.old) (Q.log right.old) (W.log sink.old))
+            (λ s. IfErr result (Stops (inputs_from s (R.log left.new).remaining (Q.log right.new).remaining) s.sink (W.log sink.new).contents)) }
+        ensures went { MergeWent result (devices (R.log left.old) (Q.log right.old) (W.log sink.old))
+            (devices (R.log left.new) (Q.log right.new) (W.log sink.new)) (self.old.lefts.place, self.old.rights.place) (file_limit, file_limit) }
     {
         self.begin(alloc, reel, left, right, sink)?;
         self.merge_entries(alloc, reel.recording(), left, right, sink)?;
@@ -208,17 +202,12 @@ impl Merge {
         ensures left_entry { OnOk result (IfSome self.new.lefts.held (IsFileEntryOf self.new.lefts.version reel.now.rules)) }
         ensures right_entry { OnOk result (IfSome self.new.rights.held (IsFileEntryOf self.new.rights.version reel.now.rules)) }
         ensures room { OnOk result (self.new.room ≤ file_limit) }
-        ensures ok { (s : Start) → AreVersions s self.old.lefts.version self.old.rights.version
-            → IsOpened s reel.now (R.log left.old).remaining (Q.log right.old).remaining (W.log sink.old).contents
-            self.old.lefts.place self.old.rights.place
-            → OnOk result (AreVersions s self.new.lefts.version self.new.rights.version × Stands s (R.log left.new).remaining (Q.log right.new).remaining (W.log sink.new).contents
-            self.new.lefts.place self.new.rights.place self.new.room self.new.lefts.held self.new.rights.held) }
-        ensures err { (s : Start) → AreVersions s self.old.lefts.version self.old.rights.version
-            → IsOpened s reel.now (R.log left.old).remaining (Q.log right.old).remaining (W.log sink.old).contents
-            self.old.lefts.place self.old.rights.place
-            → IfErr result (Stops (inputs_from s (R.log left.new).remaining (Q.log right.new).remaining) s.sink (W.log sink.new).contents) }
-        ensures went { MergeWent result (record { left = R.log left.old; right = Q.log right.old; sink = W.log sink.old })
-            (record { left = R.log left.new; right = Q.log right.new; sink = W.log sink.new }) (self.old.lefts.place, self.old.rights.place) (self.new.lefts.place, self.new.rights.place) }
+        ensures ok { WhereOpened self.old reel.now (devices (R.log left.old) (Q.log right.old) (W.log sink.old))
+            (λ s. OnOk result (StandsAt s self.new (devices (R.log left.new) (Q.log right.new) (W.log sink.new)))) }
+        ensures err { WhereOpened self.old reel.now (devices (R.log left.old) (Q.log right.old) (W.log sink.old))
+            (λ s. IfErr result (Stops (inputs_from s (R.log left.new).remaining (Q.log right.new).remaining) s.sink (W.log sink.new).contents)) }
+        ensures went { MergeWent result (devices (R.log left.old) (Q.log right.old) (W.log sink.old))
+            (devices (R.log left.new) (Q.log right.new) (W.log sink.new)) (self.old.lefts.place, self.old.rights.place) (self.new.lefts.place, self.new.rights.place) }
     {
         write_head(sink, reel)?;
         self.room -= 20 + reel.config().len() as u32;
@@ -242,16 +231,12 @@ impl Merge {
         requires left_entry { IfSome self.old.lefts.held (IsFileEntryOf self.old.lefts.version (rules_of recording.now)) }
         requires right_entry { IfSome self.old.rights.held (IsFileEntryOf self.old.rights.version (rules_of recording.now)) }
         requires room { self.old.room ≤ file_limit }
-        ensures ok { (s : Start) → rules_of recording.now ≡ s.reel.rules → AreVersions s self.old.lefts.version self.old.rights.version
-            → Stands s (R.log left.old).remaining (Q.log right.old).remaining (W.log sink.old).contents
-            self.old.lefts.place self.old.rights.place self.old.room self.old.lefts.held self.old.rights.held
-            → OnOk result (Ends s (R.log left.new).remaining (Q.log right.new).remaining (W.log sink.new).contents self.new.room) }
-        ensures err { (s : Start) → rules_of recording.now ≡ s.reel.rules → AreVersions s self.old.lefts.version self.old.rights.version
-            → Stands s (R.log left.old).remaining (Q.log right.old).remaining (W.log sink.old).contents
-            self.old.lefts.place self.old.rights.place self.old.room self.old.lefts.held self.old.rights.held
-            → IfErr result (Stops (inputs_from s (R.log left.new).remaining (Q.log right.new).remaining) s.sink (W.log sink.new).contents) }
-        ensures went { MergeWent result (record { left = R.log left.old; right = Q.log right.old; sink = W.log sink.old })
-            (record { left = R.log left.new; right = Q.log right.new; sink = W.log sink.new }) (self.old.lefts.place, self.old.rights.place) (file_limit, file_limit) }
+        ensures ok { WhereStands self.old (rules_of recording.now) (devices (R.log left.old) (Q.log right.old) (W.log sink.old))
+            (λ s. OnOk result (Ends s (R.log left.new).remaining (Q.log right.new).remaining (W.log sink.new).contents self.new.room)) }
+        ensures err { WhereStands self.old (rules_of recording.now) (devices (R.log left.old) (Q.log right.old) (W.log sink.old))
+            (λ s. IfErr result (Stops (inputs_from s (R.log left.new).remaining (Q.log right.new).remaining) s.sink (W.log sink.new).contents)) }
+        ensures went { MergeWent result (devices (R.log left.old) (Q.log right.old) (W.log sink.old))
+            (devices (R.log left.new) (Q.log right.new) (W.log sink.new)) (self.old.lefts.place, self.old.rights.place) (file_limit, file_limit) }
     {
         while let Some((entry, others, order)) = next_entry(&self.lefts.held, &self.rights.held) {
             write_entry(sink, &mut self.room, entry, others)?;

@@ -1,14 +1,13 @@
 //! Reading a holding file (own).
-ghost use Rattle.std.specs.Prelude.{◌≡◌, ◌≤◌, [], ◌∷◌, ◌++◌, None, Some, true, OnOk, IfOk, IfErr};
+ghost use Rattle.std.specs.Prelude.{◌≡◌, ◌≤◌, None, Some, true, OnOk, IfOk, IfErr};
 ghost use Rattle.std.specs.Io.KnownBytes.{IsAtEnd};
 ghost use Rattle.ffv1_bits.specs.Limits.{file_limit};
-ghost use Rattle.ffv1_hold.specs.Inner.Reading.{ReadsText};
 ghost use Rattle.ffv1_holding.specs.Contents.{Contents, IsEntryOf, IsHolding, AreDigests, no_slices, with_entry};
 ghost use Rattle.ffv1_hold.specs.declared.version.Version.{Version};
-ghost use Rattle.ffv1_hold.specs.HoldingText.{HasFileVersion, entries_text, file_entries, file_text, IsStated, FitsInFile};
-ghost use Rattle.ffv1_hold.specs.FileFaults.{ReadsFile, MayRead, IsPartOfEntries, EntriesShow, Returns};
+ghost use Rattle.ffv1_hold.specs.HoldingText.{HasFileVersion, file_text, IsStated, FitsInFile};
+ghost use Rattle.ffv1_hold.specs.FileFaults.{ReadsFile, MayRead, Returns};
 ghost use Rattle.ffv1_holding.specs.declared.recordings.Recordings.TheVariants.{Profile};
-ghost use Rattle.ffv1_hold.specs.Inner.FileFaults.{EntriesAreWhole};
+ghost use Rattle.ffv1_hold.specs.Inner.FileFaults.{ReadsEntries};
 
 use crate::entry::HeldSlice;
 use crate::file_fault::HoldFileFault;
@@ -91,10 +90,7 @@ fn read_entries<R: Source>(
     requires place { reader.old.place ≤ file_limit }
     requires first { reader.old.held ≡ None }
     requires empty { holding.old ≡ no_slices holding.old.reel }
-    ensures read { ReadsText (λ _. entries_text reader.old.version (file_entries holding.new) ++ 0 ∷ [])
-        (IsPartOfEntries reader.old.version holding.old.reel.rules) (EntriesAreWhole reader.old.version holding.old.reel)
-        (EntriesShow reader.old.version holding.old.reel.rules)
-        (R.log source.old) (R.log source.new) reader.old.place reader.new.place result }
+    ensures read { ReadsEntries reader.old.version holding.old.reel holding.new (R.log source.old) (R.log source.new) reader.old.place reader.new.place result }
     ensures end { OnOk result (IsAtEnd (R.log source.new).remaining) }
     ensures well_formed { OnOk result (IsHolding holding.new) }
     ensures stated { OnOk result (IsStated reader.old.version holding.new) }

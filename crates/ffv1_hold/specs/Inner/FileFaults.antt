@@ -1,14 +1,18 @@
 -- The parts of a holding file that have been read, and which of them show a fault.
-use Rattle.std.specs.Prelude.{ℕ, Bool, ◌≡◌, ◌≤◌, ◌⊎◌, length, List, [], ◌∷◌, ◌++◌}
+use Rattle.std.specs.Prelude.{ℕ, Bool, ◌≡◌, ◌≤◌, ◌⊎◌, length, List, [], ◌∷◌, ◌++◌, Option, Result}
 use Rattle.ffv1_hold.specs.declared.file_fault.HoldFileFault.{HoldFileFault}
 use Rattle.ffv1_hold.specs.declared.file_fault.HoldFileFault.TheVariants as faults
 use Rattle.ffv1_hold.specs.declared.version.Version.{Version}
 use Rattle.ffv1_bits.specs.Limits.{record_limit}
+use Rattle.ffv1_devices.specs.Logs.{ReadLog}
+use Rattle.ffv1_range.specs.TileHeaders.{TileRules}
 use Rattle.ffv1_holding.specs.Reels.{Reel, IsReel}
 use Rattle.ffv1_holding.specs.declared.recordings.Recordings.{Recordings}
 use Rattle.ffv1_holding.specs.Contents.{Contents, IsHolding}
-use Rattle.ffv1_hold.specs.HoldingText.{magic, entries_text, file_entries, IsStated}
-use Rattle.ffv1_hold.specs.FileFaults.{IsPartOfReel, ReelShows, ReelIsWhole, IsMagic, IsPartOfMagic, MagicShows}
+use Rattle.ffv1_hold.specs.HoldingText.{FileEntry, magic, entries_text, file_entries, IsStated}
+use Rattle.ffv1_hold.specs.Inner.FileEntries.{next_text}
+use Rattle.ffv1_hold.specs.Inner.Reading.{ReadsText}
+use Rattle.ffv1_hold.specs.FileFaults.{IsPartOfReel, ReelShows, ReelIsWhole, IsMagic, IsPartOfMagic, MagicShows, IsPartOfEntry, EntryShows, IsPartOfEntries, EntriesShow}
 
 -- the end tag, after which the end is looked for
 abbrev pub EndIsWhole : HoldFileFault → List ℕ → Type 0
@@ -20,6 +24,15 @@ EndIsWhole _ s = ⊥
 abbrev pub EntriesAreWhole : Version → Reel → HoldFileFault → List ℕ → Type 0
 EntriesAreWhole v reel f s = (h : Contents) × (tag : List ℕ) × IsHolding h × IsStated v h × (h.reel ≡ reel) × (s ≡ entries_text v (file_entries h) ++ tag)
     × EndIsWhole f tag
+
+-- how all entries of a holding and the end tag are read
+abbrev pub ReadsEntries : Version → Reel → Contents → ReadLog → ReadLog → (from to : ℕ) → Result (Unit {0}) HoldFileFault → Type 0
+ReadsEntries v reel h =
+    ReadsText (λ _. entries_text v (file_entries h) ++ 0 ∷ []) (IsPartOfEntries v reel.rules) (EntriesAreWhole v reel) (EntriesShow v reel.rules)
+
+-- how the next entry is read after the last one, or the end tag
+abbrev pub ReadsNextEntry : Version → TileRules → (last next : Option FileEntry) → ReadLog → ReadLog → (from to : ℕ) → Result (Unit {0}) HoldFileFault → Type 0
+ReadsNextEntry v rules last next = ReadsText (λ _. next_text v next) (IsPartOfEntry v rules last) EndIsWhole (EntryShows v rules last)
 
 -- ---- the head
 

@@ -6,6 +6,7 @@ use Rattle.std.specs.declared.cmp.Ordering.{Ordering}
 use Rattle.std.specs.declared.cmp.Ordering.TheVariants.{Less, Equal, Greater}
 use Rattle.ffv1_bits.specs.Limits.{slice_limit, file_limit}
 use Rattle.ffv1_devices.specs.Writing.{WritesFront}
+use Rattle.ffv1_range.specs.TileHeaders.{TileRules}
 use Rattle.ffv1_holding.specs.SliceOrder.{entry_cmp, bytes_cmp, origin_cmp, with_each}
 use Rattle.ffv1_holding.specs.Sets as set
 use Rattle.ffv1_holding.specs.Reels.{Reel}
@@ -13,6 +14,7 @@ use Rattle.ffv1_holding.specs.Contents.{Contents, IsHolding}
 use Rattle.ffv1_holding.specs.declared.recordings.Recordings.{Recordings}
 use Rattle.ffv1_hold.specs.declared.file_fault.HoldFileFault.{HoldFileFault}
 use Rattle.ffv1_hold.specs.declared.file_fault.HoldFileFault.TheVariants as faults
+use Rattle.ffv1_hold.specs.declared.merging.Merge.{Merge}
 use Rattle.ffv1_hold.specs.declared.version.Version.{Version}
 use Rattle.ffv1_hold.specs.declared.version.Version.TheVariants.{Second}
 use Rattle.ffv1_hold.specs.HoldingText.{FileEntry, HasFileVersion, origins_limit, head_text, entry_text, begun_text, file_entries, IsStated}
@@ -23,6 +25,7 @@ use Rattle.ffv1_hold.specs.Inner.FileEntries.{next_text}
 use Rattle.ffv1_hold.specs.FileFaults.{IsFileReel}
 use Rattle.ffv1_hold.specs.Inner.FileFaults.{IsPartOfHead, HeadIsWhole, HeadShows}
 use Rattle.ffv1_hold.specs.ReadLimits.{LiesWhole, AreAllDigests}
+use Rattle.ffv1_hold.specs.MergeLogs.{Devices}
 use Rattle.ffv1_hold.specs.MergedStreams.{Inputs, IsFileOf, IsFileOfSome, ReadsOtherHeads, MergeRefuses, WritesNoEnd, WritesFrontSoFar, WritesAtMost, ReadsBoth, StreamBegins}
 
 -- which files are read, what both inputs had left and the sink held at first, the reel of both heads, and their versions
@@ -121,6 +124,24 @@ pub record Stands (s : Start) (left right sink : Option (List ℕ)) (left_place 
   pub left_after : FollowsAll s.reel (both lefts rights) left_next
   pub right_after : FollowsAll s.reel (both lefts rights) right_next
   pub room_left : room + length (begun_text Second (part s.reel (both lefts rights))) ≡ file_limit
+
+-- the readers stand so, at devices
+abbrev pub StandsAt : Start → Merge → Devices → Type 0
+StandsAt s m d =
+    AreVersions s m.lefts.version m.rights.version
+    × Stands s d.left.remaining d.right.remaining d.sink.contents m.lefts.place m.rights.place m.room m.lefts.held m.rights.held
+
+-- what is so wherever both heads of the reel were read and nothing was written ..
+abbrev pub WhereOpened : Merge → Reel → Devices → (Start → Type 0) → Type 0
+WhereOpened m r d Holds =
+    (s : Start) → AreVersions s m.lefts.version m.rights.version
+    → IsOpened s r d.left.remaining d.right.remaining d.sink.contents m.lefts.place m.rights.place → Holds s
+
+-- .. and wherever the readers stand after entries, by these rules
+abbrev pub WhereStands : Merge → TileRules → Devices → (Start → Type 0) → Type 0
+WhereStands m rules d Holds =
+    (s : Start) → rules ≡ s.reel.rules → AreVersions s m.lefts.version m.rights.version
+    → Stands s d.left.remaining d.right.remaining d.sink.contents m.lefts.place m.rights.place m.room m.lefts.held m.rights.held → Holds s
 
 -- Both inputs were read to their ends, and their entries were written, each once.
 pub record Ends (s : Start) (left right sink : Option (List ℕ)) (room : ℕ) : Type 0 where
