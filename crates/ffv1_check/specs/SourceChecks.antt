@@ -16,7 +16,7 @@ use Rattle.ffv1_check.specs.declared.report.Report.{Report}
 use Rattle.ffv1_check.specs.Checks.{IsCheckOf}
 
 -- A file was read to its end. If this is its first Tracks, the report is that of its bytes.
-pub record ChecksFile (found : FoundTracks) (report : Report) (old new : ReadLog) : Type 0 where
+pub record IsReadAndChecked (found : FoundTracks) (report : Report) (old new : ReadLog) : Type 0 where
   pub file : List ℕ
   pub reads : Reads old new file
   pub end : IsAtEnd new.remaining
@@ -34,5 +34,5 @@ pub record HasManyParts (old new : ReadLog) : Type 0 where
   pub many : 2 ^ 62 ≤ length parts
 
 abbrev pub ChecksSource : FoundTracks → Result Report ReaderFault → ReadLog → ReadLog → Type 0
-ChecksSource found (Ok report) old new = ChecksFile found report old new
+ChecksSource found (Ok report) old new = IsReadAndChecked found report old new
 ChecksSource found (Err fault) old new = IsFault fault 0 old new ⊎ ((fault ≡ Read) × HasManyParts old new)

@@ -2,9 +2,8 @@
 use crate::commands::taken;
 use crate::suite::merged;
 use ffv1_commands::{
-    CliFault, CommandPath, run_any_picture, run_chain, run_check, run_decode, run_join,
-    run_merge, run_picture, run_report, run_restore, run_samples, run_setup, run_show, run_splice,
-    run_take,
+    CliFault, CommandPath, run_any_picture, run_chain, run_check, run_decode, run_join, run_merge,
+    run_picture, run_report, run_restore, run_samples, run_setup, run_show, run_splice, run_take,
 };
 use ffv1_hold::HoldFileFault;
 use ffv1_holding::Recordings;

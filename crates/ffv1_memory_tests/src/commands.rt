@@ -2,9 +2,7 @@
 //! a front of its file.
 use crate::attempt::{Attempt, Tried};
 use crate::buffer::Buffer;
-use crate::stock::{
-    SIZE, Stock, TORN_LIST, damaged_copies, first_copy, matroska, second_copy,
-};
+use crate::stock::{SIZE, Stock, TORN_LIST, damaged_copies, first_copy, matroska, second_copy};
 use ffv1_commands::{
     CliFault, run_any_picture, run_chain, run_check, run_decode, run_join, run_mend, run_merge,
     run_picture, run_report, run_restore, run_samples, run_scan, run_setup, run_show, run_splice,
