@@ -7,3 +7,4 @@ pub mod ReportLines
 pub mod Checks
 pub mod Spans
 pub mod SourceChecks
+pub mod Inner
