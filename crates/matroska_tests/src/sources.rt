@@ -42,7 +42,10 @@ fn gives_items(alloc: Global, bytes: &[u8], most: usize) -> bool {
     let mut source = source_of(bytes, most);
     let mut reader = ItemReader::new(alloc);
     let mut left = bytes;
-    while !left.is_empty() {
+    for _ in 0..bytes.len() {
+        if left.is_empty() {
+            break;
+        }
         let item = next_item(left);
         let (front, rest) = left.split_at(item.length);
         let length = item.length as u64;
