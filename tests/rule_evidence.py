@@ -245,10 +245,43 @@ def two_editions_give_one(kit: Kit) -> Checks:
         files = editions(kit, name)
         for one, other in itertools.permutations(range(3), 2):
             yield Check(name, f"editions {one} and {other}", partial(is_one_edition, files=[files[one], files[other]]))
-        damaged = files[1].changed(small.inverted(files[1].content, small.places_in_frame(files[1], 4)["middle of slice 2"]))
+        damaged = damaged_in_frame(files[1], 4)
         for copies in ([files[0], damaged], [damaged, files[0]]):
             yield Check(name, f"an edition beside a damaged one of another, copies {'0 1' if copies[1] is damaged else '1 0'}",
                         partial(is_one_edition, files=copies, wanted=[files[0].content]))
+
+
+@of_rule(10)
+def damaged_editions_are_not_mixed(kit: Kit) -> Checks:
+    for name in ("matroska", "matroska-plain"):
+        recording = kit.recording(name)
+        edition = edited(kit, recording, TITLES[0])
+        changed = damaged_in_frame(edition, 4)
+        for order in itertools.permutations(range(3)):
+            copies = [[damaged_in_frame(recording, 2), damaged_in_frame(recording, 3), changed][number] for number in order]
+            # Of plain Matroska the edition alone has CRC-32s in what describes the recording.
+            yield Check(name, f"two damaged copies and a damaged one with another title, copies {' '.join(map(str, order))}",
+                        partial(is_one_edition, files=copies, wanted=[recording.content, *[edition.content] * (name == "matroska-plain")]))
+        for order in itertools.permutations(range(2)):
+            copies = [[recording, changed][number] for number in order]
+            yield Check(name, f"an undamaged copy and a damaged one with another title, copies {' '.join(map(str, order))}",
+                        partial(is_one_edition, files=copies, wanted=[recording.content]))
+
+
+def damaged_in_frame(recording: Recording, number: int) -> Recording:
+    """The recording with one wrong bit in a slice of a frame."""
+    return recording.changed(small.inverted(recording.content, small.places_in_frame(recording, number)["middle of slice 2"]))
+
+
+def edited(kit: Kit, recording: Recording, title: str) -> Recording:
+    """The file of a recording after mkvpropedit gave it a title."""
+    with tempfile.TemporaryDirectory(dir=kit.folder) as folder:
+        path = pathlib.Path(folder) / "edited.mkv"
+        path.write_bytes(recording.content)
+        done = reels.run("mkvpropedit", path, "--edit", "info", "--set", f"title={title}")
+        if done.returncode:
+            raise RuntimeError(done.stdout.decode(errors="replace"))
+        return small.read(path, recording.name)
 
 
 def is_one_edition(desk: Desk, files: typing.Sequence[Recording], wanted: typing.Sequence[bytes] = ()) -> Problems:

@@ -15,7 +15,7 @@ class SourcesTest(unittest.TestCase):
         with made.opened(b"abcdXfgh", b"abcdXfgh", b"abcdefgh") as copies:
             stretches = [Stretch(Kind.PLAIN, 0, 4, What(Content.SOUND), (0, 0, 0)), Stretch(Kind.PLAIN, 4, 1, What(Content.SOUND), (4, 4, 4)),
                          Stretch(Kind.PLAIN, 5, 3, What(Content.SOUND), (5, 5, 5))]
-            comparison = Comparison(Layout(8, [], [], stretches), Inputs(copies, [0, 1, 2], 3), [], reads, [])
+            comparison = Comparison(Layout(8, [], [], stretches), Inputs(copies, [0, 1, 2], 3), [], reads, {})
             found = comparison.sources(stretches, [Outcome(1, State.OPEN, 0, "110")], lambda *_: [])
             return [(number, stretch.source, stretch.because) for number, stretch in found.items()]
 
@@ -27,7 +27,7 @@ class SourcesTest(unittest.TestCase):
 
     def test_nothing_is_chosen_where_nothing_is_open(self):
         with made.opened(b"a", b"a") as copies:
-            comparison = Comparison(Layout(1, [], [], []), Inputs(copies, [0, 1], 2), [], [True, True], [])
+            comparison = Comparison(Layout(1, [], [], []), Inputs(copies, [0, 1], 2), [], [True, True], {})
             self.assertEqual(comparison.sources([], [], lambda *_: []), {})
 
 

@@ -251,9 +251,11 @@ class Walk:
         # A known ID with a wrong bit leads on too.
         candidates = candidates if is_known else [child._replace(identified=NONE) for child in candidates]
         passing = [child for child in candidates if self._passes(child)]
+        leading = [child for child in candidates if child not in passing and self._leads_on(child, live)]
         if passing:
-            return [((0, 0, 0), decided(child, passing)) for child in passing]
-        leading = [child for child in candidates if self._leads_on(child, live)]
+            # Another edition of the file may have something else here, which leads to what passes in it.
+            others = [((0, 0, reach - len(child.vouched)), decided(child, leading)) for child in leading if child.vouched]
+            return [((0, 0, 0), decided(child, passing)) for child in passing] + others
         shows = {child: self._confirms(child) for child in candidates if len(candidates) > 1 or not leading}
         shown = [child for child in candidates if shows.get(child)]
         edges = []

@@ -4,7 +4,7 @@ from __future__ import annotations
 
 import dataclasses
 import os
-from collections.abc import Callable, Sequence
+from collections.abc import Callable, Mapping, Sequence
 
 from ..containers import ffmpeg_files, ffprobe, matroska
 from ..engine.frame_checks import Judge
@@ -16,13 +16,14 @@ from .inputs import Inputs
 
 @dataclasses.dataclass
 class Comparison:
-    """The stretches as they are listed, what each copy of OUT's file claims, whose container reads, and what to say of damaged headers."""
+    """The stretches as they are listed, what each copy of OUT's file claims, whose container reads, and in how many places other copies have
+    element headers that lead on."""
 
     layout: Layout
     inputs: Inputs
     claims: list[Claims]
     reads: list[bool]
-    notes: list[str]
+    broken: Mapping[int, int]
 
     def sources(self, listed: Sequence[Stretch], outcomes: Sequence[Outcome], judge: Judge) -> dict[int, Stretch]:
         """The stretches that are to be taken from another copy than they were, as nothing vouches for them, by their numbers."""
@@ -45,9 +46,7 @@ def compare(layout: Layout, inputs: Inputs, report: Callable[[float, float], Non
         report(stretch.end, layout.size)
     stretches, broken = known_wrong.drop_broken(stretches, inputs.files)
     reads = [number < inputs.own and can_be_read(copy, layout, broken[number]) for number, copy in enumerate(inputs.files)]
-    notes = [f"copy {inputs.numbers[number] + 1} has damaged element headers in {f'{count} places' if count > 1 else 'one place'}, "
-             "where those of another copy lead on" for number, count in sorted(broken.items())]
-    return Comparison(dataclasses.replace(layout, stretches=stretches), inputs, claims, reads, notes)
+    return Comparison(dataclasses.replace(layout, stretches=stretches), inputs, claims, reads, broken)
 
 
 def can_be_read(copy: Copy, layout: Layout, broken: int) -> bool:

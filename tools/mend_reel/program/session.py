@@ -84,9 +84,13 @@ class Attempt:
         """The copies of OUT's file in which a check fails, as OUT passes it and the bytes before it, which lead there, are OUT's."""
         differs = {each.number: each.marks for each in self.made.outcomes}
         disputed = {each.number for each in self.made.outcomes if each.state is State.DISPUTED}
+
+        def is_led_to(number: int, at: int) -> bool:
+            before = self.made.stretches[number - 1].places[at] if number else 0
+            return before is not None and (number - 1 not in differs or differs[number - 1][at] == "1")
+
         return {self.inputs.numbers[at] for number, marks in differs.items() for at, mark in enumerate(marks[: self.inputs.own])
-                if mark == "0" and self.made.stretches[number].kind is not Kind.PLAIN and differs.get(number - 1, marks.replace("0", "1"))[at] == "1"
-                and number not in disputed}
+                if mark == "0" and self.made.stretches[number].kind is not Kind.PLAIN and is_led_to(number, at) and number not in disputed}
 
 
 class Outputs:
@@ -271,11 +275,11 @@ class Session:
         self.note_parities(bool(layout.frames) == any(stretch.parts for stretch in layout.stretches), layout)
         others = {matched.number: describe([self.copies[matched.number]], self.scan, False) for matched in arrangement.matched}
         claims = [*attempt.comparison.claims, *(others[matched.number].claims.of_tracks(matched.tracks) for matched in arrangement.matched)]
-        self.notes += [*arrangement.notes(self.copies), *attempt.comparison.notes, *self.note_name(inputs.form())]
+        self.notes += [*arrangement.notes(self.copies), *self.note_heads(attempt.comparison), *self.note_name(inputs.form())]
         alike = evidence.alike_beside(made.stretches, made.outcomes, inputs.files[: inputs.own])
         verdict = judge(Evidence(
             layout, made.stretches, made.outcomes, made.out, claims, arrangement.matched, arrangement.left, inputs.numbers, others,
-            bool(attempt.comparison.notes), made.decoded, self.compared(made.part, made.out), made.flaws, made.failing, alike, self.told,
+            bool(attempt.comparison.broken), made.decoded, self.compared(made.part, made.out), made.flaws, made.failing, alike, self.told,
             len(self.copies) == 1, arrangement.good is not None, made.checked,
             {matched.number for matched in arrangement.matched if matched.alignment and self.lost_or_gained(self.copies[matched.number])}))
         self.keep_frames(layout, inputs, made.stretches, verdict)
@@ -285,6 +289,16 @@ class Session:
             self.outputs.is_out_made = True
         self.notes += self.keeper.hand_over([*self.options.copies, *self.options.read(), *self.options.made()])
         return summary
+
+    def note_heads(self, comparison: Comparison) -> Iterator[str]:
+        """Of which copies element headers were left out, as those of another copy lead on: they are damaged, or the copy is another edition."""
+        for at, count in sorted(comparison.broken.items()):
+            copy = f"copy {comparison.inputs.numbers[at] + 1}"
+            if self.is_disordered(comparison.inputs.files[at]):
+                places = f"{count} places" if count > 1 else "one place"
+                yield f"{copy} has damaged element headers in {places}, where those of another copy lead on"
+            else:
+                yield f"{copy} is another edition of the file: what describes the recording differs in it"
 
     def note_name(self, form: str) -> list[str]:
         """That OUT's name ends otherwise than that of a file of its container."""
