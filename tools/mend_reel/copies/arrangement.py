@@ -14,6 +14,7 @@ from ..containers.frame_times import lasts
 from ..containers.known import structure_of
 from ..containers.structure import Flaw
 from ..engine.frame_checks import Judge
+from ..judging.completeness import misplaced
 from ..judging.judgment import Judgment
 from ..judging.parities import lack_parities
 from ..model import Content, Copy, Fault, Kind, Layout
@@ -205,10 +206,20 @@ class File:
         """Whether FFmpeg reads the container of a copy, where it can be asked."""
         return not ffprobe.can_ask() or any(map(ffmpeg_files.frames, self.recording.copies))
 
-    def rank(self, judge: Judge) -> tuple[int, ...]:
+    def shows(self) -> int:
+        """How many frames its container shows, each once where their times are known."""
+        frames = self.layout.frames
+        return len({(frame.track, frame.time) for frame in frames}) if self.layout.rises else len(frames)
+
+    def hangs_together(self, most: int) -> bool:
+        """Whether its elements lead through it, its frames lie in the order of their times, and no other file shows more: `most` is the number
+        of frames that one does."""
+        return not self.layout.gaps and self.shows() >= most and not any(misplaced(self.layout))
+
+    def rank(self, judge: Judge, most: int) -> tuple[int, ...]:
         """What speaks for a file. An undamaged copy comes first; of several files with one that with most kinds of content. Of damaged files one
-        that can be opened; that has no frame that was damaged before it was written, and that another file has; of which most bytes pass a
-        check in some copy of any file; with most kinds of content; and that which came first."""
+        that can be opened; that has no frame that was damaged before it was written, and that another file has; that hangs together; of which
+        most bytes pass a check in some copy of any file; with most kinds of content; and that which came first."""
         contents = sum(self.layout.contents().values())
         if self.undamaged:
             return 1, contents, -self.undamaged[0]
@@ -218,7 +229,7 @@ class File:
         inside = {frame.place for at in passing for frame in self.layout.stretches[at].parts}
         verified = sum(self.layout.stretches[at].size for at in passing)
         verified += sum(self.layout.frames[at].size for at in intact if self.layout.frames[at].place not in inside)
-        return 0, self.can_be_opened(), -len(rotten & given), verified, contents, -self.numbers[0]
+        return 0, self.can_be_opened(), -len(rotten & given), self.hangs_together(most), verified, contents, -self.numbers[0]
 
     def why_left(self) -> Leaving:
         if self.layout.frames:
@@ -304,7 +315,8 @@ def choose(files: Sequence[File], copies: Sequence[Copy], judge: Judge, judgment
     candidates = [file for file in shown if file.pairings or len(file.numbers) > 1 or len(shown) == 1 or some == [file]]
     if not candidates:
         raise Fault(f"other recordings: {' and '.join(copies[file.numbers[0]].path for file in shown)} have no slice in common")
-    return max(candidates, key=lambda file: file.rank(judge))
+    most = max(file.shows() for file in candidates)
+    return max(candidates, key=lambda file: file.rank(judge, most))
 
 
 def relate(basis: File, other: File) -> Matched | None:
