@@ -268,6 +268,23 @@ def damaged_editions_are_not_mixed(kit: Kit) -> Checks:
                         partial(is_one_edition, files=copies, wanted=[recording.content]))
 
 
+@of_rule(10)
+def sound_of_editions_is_compared(kit: Kit) -> Checks:
+    for name in ("mkvpropedit", "mkvmerge", "matroska-plain", "avi", "nut", "mov"):
+        files = editions(kit, name)
+        for at in (0, len(files[1].sound) // 2):
+            place, size = files[1].sound[at]
+            other = files[1].changed(small.inverted(files[1].content, place + size // 2))
+            for copies in ([files[0], other], [other, files[0]]):
+                yield Check(name, f"editions with other sound in packet {at}, copies {'0 1' if copies[1] is other else '1 0'}",
+                            partial(is_in_doubt, files=copies))
+
+
+def is_in_doubt(desk: Desk, files: typing.Sequence[Recording]) -> Problems:
+    found = desk.mend([each.content for each in files], files[0].ending)
+    yield from not_out(found, [each.content for each in files], (3,))
+
+
 def damaged_in_frame(recording: Recording, number: int) -> Recording:
     """The recording with one wrong bit in a slice of a frame."""
     return recording.changed(small.inverted(recording.content, small.places_in_frame(recording, number)["middle of slice 2"]))

@@ -258,7 +258,7 @@ def arrange(copies: Sequence[Copy], judge: Judge, judgment: JudgeCopy, work: pat
                              for number, copy in zip(file.numbers, file.recording.copies)]
     made.left.sort(key=lambda each: each.number)
     made.matched.sort(key=lambda each: each.number)
-    return made
+    return with_editions(made, copies, judge, judgment)
 
 
 def read_file(numbers: Sequence[int], copies: Sequence[Copy], judge: Judge, path: pathlib.Path) -> File:
@@ -285,6 +285,17 @@ def with_good(arrangement: Arrangement, undamaged: Sequence[int], judgments: Map
     editions = [number for number in undamaged if parts_of(judgments[number].layout) != parts]
     basis = [number for number in arrangement.basis if number not in editions]
     return dataclasses.replace(arrangement, basis=basis, layout=judgments[good].layout, good=good, editions=editions, filled=None)
+
+
+def with_editions(arrangement: Arrangement, copies: Sequence[Copy], judge: Judge, judgment: JudgeCopy) -> Arrangement:
+    """The same, with the frames and the sound that the other editions of the file have, as those of other files: where nothing checks them, they
+    may differ."""
+    if arrangement.good is None or not arrangement.editions:
+        return arrangement
+    basis, *others = (File([number], Recording([copies[number]], judgment(number).layout)) for number in (arrangement.good, *arrangement.editions))
+    basis.examine(judge, judgment)
+    found = [matched(other.numbers[0], copies[other.numbers[0]], other.layout, paired(basis, other), basis, judge) for other in others]
+    return dataclasses.replace(arrangement, matched=sorted([*arrangement.matched, *found], key=lambda each: each.number))
 
 
 def parts_of(layout: Layout) -> list[tuple[Kind, int, int]]:
@@ -326,9 +337,15 @@ def relate(basis: File, other: File) -> Matched | None:
         placed = ((number, alignment.place(frame.place, frame.end)) for number, frame in enumerate(basis.layout.frames))
         return Matched(-1, {number: place for number, place in placed if place is not None},
                        tracks={track.number: track.number for track in basis.layout.tracks}, alignment=alignment)
+    pairing = paired(basis, other)
+    return pairing if share(basis.recording, other.recording, pairing) else None
+
+
+def paired(basis: File, other: File) -> Matched:
+    """Where another file has the frames of the basis, by what they have in common and by their times."""
     pairing = pair(basis.recording, other.recording)
     pairing.places = complete(basis.recording, other.recording.copies, pairing.places)
-    return pairing if share(basis.recording, other.recording, pairing) else None
+    return pairing
 
 
 def without_astray(places: Mapping[int, int], copy: Copy, basis: File) -> dict[int, int]:

@@ -14,6 +14,8 @@ from .alignment import Alignment
 TAIL = 32
 MOST_READ, DIGITS = 4, 2
 NEAR = 0.4
+# So much of a packet of sound is alike in two copies of it, of which one may be damaged.
+NEARLY = 0.9
 PIECE = WINDOW = 1 << 20
 # How often a whole file is searched: for a first frame, and after so many frames were looked for near by in vain.
 MOST_SEARCHES, MOST_MISSES = 8, 4
@@ -85,7 +87,7 @@ def pair_tracks(ours: Sequence[Frame], theirs: Sequence[Frame], alike: Mapping[i
 
 def pair_sound(ours: Recording, theirs: Layout, copy: Copy) -> dict[int, tuple[int, int]]:
     """Where a copy of another file has packets of sound, by their places in the first file, with their sizes: those of one time and one size, if
-    of each track most that have content in both are equal, so that it is of one codec."""
+    of each track most that have content are alike in both but for a few bytes, so that it is of one codec."""
     there = {(packet.track, round(packet.time, DIGITS), packet.size): packet.place for packet in theirs.sound}
     found: dict[int, dict[int, tuple[int, int]]] = collections.defaultdict(dict)
     equal: collections.Counter[int] = collections.Counter()
@@ -94,9 +96,14 @@ def pair_sound(ours: Recording, theirs: Layout, copy: Copy) -> dict[int, tuple[i
         if place is not None and place + packet.size <= copy.size:
             found[packet.track][packet.place] = place, packet.size
             content = copy.read(place, packet.size)
-            same = any(own.read(packet.place, packet.size) == content for own in ours.copies[:MOST_READ])
+            same = any(are_near(own.read(packet.place, packet.size), content) for own in ours.copies[:MOST_READ])
             equal[packet.track] += 0 if is_uniform(content) else 1 if same else -1
     return {place: pair for track, pairs in found.items() if equal[track] > 0 for place, pair in pairs.items()}
+
+
+def are_near(one: bytes, other: bytes) -> bool:
+    """Whether bytes of one length are equal but for a few."""
+    return one == other or len(one) == len(other) and sum(map(int.__eq__, one, other)) > NEARLY * len(one)
 
 
 class TrackPairing:

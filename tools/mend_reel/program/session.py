@@ -15,7 +15,7 @@ from ..containers.files import describe, flaws_of, form_of
 from ..containers.known import ENDINGS, by_start
 from ..containers.structure import Flaw, Found
 from ..copies import evidence
-from ..copies.arrangement import Arrangement, arrange, is_good, why_no_video, with_good
+from ..copies.arrangement import Arrangement, arrange, is_good, why_no_video, with_editions, with_good
 from ..copies.comparison import Comparison, best_shown, compare
 from ..copies.filling import filled, placed
 from ..copies.inputs import Inputs, gather
@@ -364,7 +364,7 @@ class Session:
             if is_known and attempt.is_copy(good):
                 arrangement.good, arrangement.differ = made.good, bool(attempt.made.outcomes or arrangement.matched)
                 return None
-            return made
+            return with_editions(made, self.copies, self.scan, self.judgment)
         own, is_lost = attempt.inputs.files[: attempt.inputs.own], any(each.state is State.MISSING for each in attempt.made.outcomes)
         together = filled(own, arrangement.layout, self.scan, self.work / "filled") if is_lost and len(own) > 1 and not arrangement.filled else None
         if together:
