@@ -5,14 +5,12 @@ use Rattle.std.proofs.lemmas.Bool.{eqb-true}
 use Rattle.std.proofs.lemmas.List.{take-append-drop, length-drop, drop_at}
 use Rattle.ffv1_bits.specs.Parity.{AreBytes}
 use Rattle.ebml.specs.Masters.{child_ids}
-use Rattle.ebml.specs.Items.{ItemValue, IsItem, bytes_of_items, EachIsItem}
-use Rattle.ebml.specs.CrcElement.{PassesCrc32}
+use Rattle.ebml.specs.Items.{ItemValue, bytes_of_items, EachIsItem}
 use Rattle.ebml.specs.declared.head.Head.{Head}
 use Rattle.ebml.specs.declared.items.Kind.{Kind}
 use Rattle.ebml.specs.declared.items.Kind.TheVariants as kind
 use Rattle.ebml.proofs.Numbers.{bytes_drop}
 use Rattle.ebml.proofs.ItemList.{some_bytes}
-use Rattle.matroska.specs.NamedTracks.{named_tracks}
 use Rattle.matroska.specs.declared.track.Track.{Track}
 use Rattle.matroska_parts.specs.MasterParts.{AreContentParts}
 use Rattle.matroska_parts.specs.Openings.{IsCrc32Of, passes, opening_of, closing_of}

@@ -13,3 +13,7 @@ pub mod PayloadSpans
 pub mod MasterSpans
 pub mod RecordSpans
 pub mod FileSpans
+pub mod VerdictOne
+pub mod TrackOne
+pub mod PartOne
+pub mod ReportOne

@@ -6,7 +6,6 @@ use Rattle.ffv1_bits.specs.Parity.{AreBytes}
 use Rattle.matroska.specs.declared.track.Track.{Track}
 use Rattle.matroska_parts.specs.declared.parts.Part.{Part}
 use Rattle.matroska_parts.specs.declared.parts.Part.TheVariants as part
-use Rattle.matroska_parts.specs.declared.parts.Span.{Span}
 use Rattle.matroska_parts.specs.declared.parts.BlockPart.{BlockPart}
 use Rattle.matroska_parts.specs.declared.top_elements.TopElement.{TopElement}
 use Rattle.matroska_parts.specs.declared.top_elements.TopElement.TheVariants as tops

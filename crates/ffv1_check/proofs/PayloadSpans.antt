@@ -1,6 +1,6 @@
 -- What passes in the payload of a block.
-use Rattle.std.proofs.Common.{◌≡◌, ℕ, zero, suc, ◌+◌, ◌-◌, ◌≤◌, ◌<◌, Bool, true, false, cond, eqb, List, [], ◌∷◌, ◌++◌, length, take, drop, refl, sym, ap, ◌∙◌, subst, arith, inl, inr}
-use Rattle.std.specs.Prelude.{◌⊎◌, ◌&&◌, IsTrue, nat_lt, slice_range, codes}
+use Rattle.std.proofs.Common.{◌≡◌, ℕ, zero, suc, ◌+◌, ◌-◌, ◌≤◌, Bool, true, false, cond, eqb, List, [], ◌∷◌, ◌++◌, length, take, drop, refl, sym, ap, ◌∙◌, subst, arith, inl, inr}
+use Rattle.std.specs.Prelude.{◌⊎◌, nat_lt, slice_range, codes}
 use Rattle.std.specs.Bool.{Decides}
 use Rattle.std.specs.Str.{bytes_eq}
 use Rattle.std.proofs.lemmas.Bool.{eqb-true, cases_lt, ltb-true}
@@ -15,9 +15,9 @@ use Rattle.ffv1_slice.proofs.Links.{walked-more, walked-none}
 use Rattle.ffv1_scan.specs.Verdicts.{is_passing}
 use Rattle.matroska.specs.Blocks.{BlockValue, IsBlock}
 use Rattle.matroska.specs.Sound.{IsRightFlac}
-use Rattle.matroska.specs.Tracks.{HasParities, IsFlac}
+use Rattle.matroska.specs.Tracks.{IsFlac}
 use Rattle.matroska.specs.declared.track.Track.{Track}
-use Rattle.matroska_parts.specs.BlockParts.{IsTrackBlock, IsStanding}
+use Rattle.matroska_parts.specs.BlockParts.{IsStanding}
 use Rattle.matroska_parts.specs.Payloads.{IsPayloadOf, passing_size, HasPassing}
 use Rattle.matroska_parts.specs.declared.parts.Payload.{Payload}
 use Rattle.matroska_parts.specs.declared.parts.Payload.TheVariants as payload

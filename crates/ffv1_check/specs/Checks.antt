@@ -1,5 +1,5 @@
 -- What a check of a Matroska file reports (own): the report of its parts, by the tracks that it describes.
-use Rattle.std.specs.Prelude.{ℕ, ◌≡◌, ◌+◌, IsTrue, List, [], ◌∷◌, ◌++◌, length, take, drop}
+use Rattle.std.specs.Prelude.{ℕ, ◌≡◌, ◌+◌, Bool, IsTrue, List, [], ◌∷◌, ◌++◌, length, map, take, drop}
 use Rattle.ffv1_bits.specs.Parity.{AreBytes}
 use Rattle.ebml.specs.Items.{ItemValue, bytes_of_items, AreItems}
 use Rattle.ebml.specs.CrcElement.{DivideWithin32}
@@ -9,8 +9,11 @@ use Rattle.matroska_parts.specs.Openings.{HasOne}
 use Rattle.matroska.specs.declared.track.Track.{Track}
 use Rattle.matroska_parts.specs.declared.parts.Part.{Part}
 use Rattle.matroska_parts.specs.ItemParts.{AreFileParts}
+use Rattle.ffv1_check.specs.declared.findings.Line.{Line}
 use Rattle.ffv1_check.specs.declared.report.Report.{Report}
+use Rattle.ffv1_check.specs.declared.report.TrackCount.{TrackCount}
 use Rattle.ffv1_check.specs.Reports.{IsReportOf}
+use Rattle.ffv1_check.specs.ReportLines.{check_text}
 
 pub record IsCheckOf (file : List ℕ) (report : Report) : Type 0 where
   pub tracks : List Track
@@ -18,7 +21,39 @@ pub record IsCheckOf (file : List ℕ) (report : Report) : Type 0 where
   pub are_parts : AreFileParts file tracks parts
   pub is_report : IsReportOf tracks (length file) parts report
 
+-- ---- what a report says, wherever the names of codecs lie in memory
+
+pub record CountValue : Type 0 where
+  pub number : ℕ
+  pub codec : List ℕ
+  pub blocks : ℕ
+  pub checked : ℕ
+
+abbrev pub count_value : TrackCount → CountValue
+count_value count = record { number = count.number; codec = count.codec.now; blocks = count.blocks; checked = count.checked }
+
+pub record ReportValue : Type 0 where
+  pub lines : List Line
+  pub tracks : List CountValue
+  pub size : ℕ
+  pub checked : ℕ
+  pub is_whole : Bool
+
+abbrev pub report_value : Report → ReportValue
+report_value report = record {
+  lines = report.lines.items;
+  tracks = map count_value report.tracks.items;
+  size = report.size;
+  checked = report.checked;
+  is_whole = report.is_whole;
+}
+
 -- ---- laws
+
+-- A file has one report: two of it say the same, and have one text.
+abbrev pub ReportIsOne : Type 0
+ReportIsOne =
+    (file : List ℕ) (a b : Report) → AreBytes file → IsCheckOf file a → IsCheckOf file b → (report_value a ≡ report_value b) × (check_text a ≡ check_text b)
 
 -- No front of a whole file is whole, and nothing that goes on after one.
 abbrev pub CutFileIsSeen : Type 0

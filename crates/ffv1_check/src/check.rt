@@ -1,6 +1,6 @@
 //! A whole file that lies in memory, judged.
 ghost use Rattle.std.specs.Prelude.{IfOk};
-ghost use Rattle.ffv1_check.specs.Checks.{IsCheckOf, CutFileIsSeen, SmallDamageIsSeen};
+ghost use Rattle.ffv1_check.specs.Checks.{IsCheckOf, ReportIsOne, CutFileIsSeen, SmallDamageIsSeen};
 ghost use Rattle.ffv1_check.specs.Spans.{CheckedBytesPass};
 
 use crate::report::{Report, report_of};
@@ -16,6 +16,11 @@ pub fn check_file<'a>(alloc: Global, file: &'a [u8]) -> Result<Report<'a>, Alloc
     let tracks = found.tracks.as_slice();
     report_of(alloc, tracks, file.len() as u64, &found.parts)
 }
+
+/// A file has one report: whatever two checks of it report, they say the same, and have one text and one verdict.
+pub fn report_is_one()
+    ensures { ReportIsOne }
+{}
 
 /// No front of a whole file is whole, and nothing that goes on after one.
 pub fn cut_file_is_seen()

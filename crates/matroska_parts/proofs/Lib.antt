@@ -9,5 +9,6 @@ pub mod FileSteps
 pub mod ReadSteps
 pub mod InnerSteps
 pub mod ContentSteps
+pub mod OneSteps
 pub mod BelowSteps
 pub mod Vectors
