@@ -69,7 +69,7 @@ part_quiet before (part.Record r) e = tt
 part_quiet before (part.NoMatroska place) e = tt
 part_quiet before (part.End closing) e = not_said before closing closing.crc32 e
 
-both_empty : {X : Type 0} (xs ys : List X) → xs ++ ys ≡ [] → (xs ≡ []) × (ys ≡ [])
+pub both_empty : {X : Type 0} (xs ys : List X) → xs ++ ys ≡ [] → (xs ≡ []) × (ys ≡ [])
 both_empty [] ys e = (refl, e)
 both_empty (x ∷ xs) ys e = cc
 
@@ -130,7 +130,7 @@ end_by size o (Some n) e some = go (eqb n size) refl e
     go true is none = ap (λ (m : ℕ). Some m) (eqb-true n size is)
     go false is none = cc
 
-lines_append : (size : ℕ) (xs ys : List Finding) → lines_at size (xs ++ ys) ≡ lines_at size xs ++ lines_at size ys
+pub lines_append : (size : ℕ) (xs ys : List Finding) → lines_at size (xs ++ ys) ≡ lines_at size xs ++ lines_at size ys
 lines_append size [] ys = refl
 lines_append size (x ∷ xs) ys = ap (λ z. record { place = size; finding = x } ∷ z) (lines_append size xs ys)
 

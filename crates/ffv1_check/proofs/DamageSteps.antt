@@ -26,7 +26,7 @@ use Rattle.ffv1_check.proofs.CutSteps.{IsQuiet, all_front, whole_parts, not_cut,
 
 -- ---- the items before
 
-bytes_append : (xs ys : List ItemValue) → bytes_of_items (xs ++ ys) ≡ bytes_of_items xs ++ bytes_of_items ys
+pub bytes_append : (xs ys : List ItemValue) → bytes_of_items (xs ++ ys) ≡ bytes_of_items xs ++ bytes_of_items ys
 bytes_append [] ys = refl
 bytes_append (x ∷ xs) ys = ap (λ z. x.bytes ++ z) (bytes_append xs ys) ∙ sym (append_assoc x.bytes (bytes_of_items xs) (bytes_of_items ys))
 
@@ -65,7 +65,7 @@ parts_at first tracks place [] item after parts are quiet =
 parts_at first tracks place (i ∷ is) item after parts are quiet =
     parts_at first tracks (place + length i.bytes) is item after are.1 are.4 (all_front IsQuiet are.0 are.1 (subst (AllByRecursion IsQuiet) are.2 quiet)).1
 
-each_at : (before : List ItemValue) (item : ItemValue) (after : List ItemValue) → EachIsItem (before ++ item ∷ after) → IsItem item.kind item.bytes (bytes_of_items after)
+pub each_at : (before : List ItemValue) (item : ItemValue) (after : List ItemValue) → EachIsItem (before ++ item ∷ after) → IsItem item.kind item.bytes (bytes_of_items after)
 each_at [] item after each = each.0
 each_at (i ∷ is) item after each = each_at is item after each.1
 
@@ -106,13 +106,13 @@ quiet_element first tracks head bytes at =
 pub front_bytes : (xs ys : List ℕ) → AreBytes (xs ++ ys) → AreBytes xs
 front_bytes xs ys bytes = subst AreBytes (take_at xs ys (length xs) refl) (bytes_take (length xs) (xs ++ ys) bytes)
 
-piece_bytes : (xs ys zs : List ℕ) → AreBytes (xs ++ (ys ++ zs)) → AreBytes ys
+pub piece_bytes : (xs ys zs : List ℕ) → AreBytes (xs ++ (ys ++ zs)) → AreBytes ys
 piece_bytes xs ys zs bytes = front_bytes ys zs (subst AreBytes (drop_at xs (ys ++ zs) (length xs) refl) (bytes_drop (length xs) (xs ++ (ys ++ zs)) bytes))
 
 take_less : (n m : ℕ) (xs ys : List ℕ) → n ≤ m → take m xs ≡ take m ys → take n xs ≡ take n ys
 take_less n m xs ys less same = sym (take-take n m xs less) ∙ ap (take n) same ∙ take-take n m ys less
 
-element_other : (head : Head) (element other rest : List ℕ) → IsItem (kind.Element head) element rest → (IsCut head element → ⊥) → length other ≡ length element
+pub element_other : (head : Head) (element other rest : List ℕ) → IsItem (kind.Element head) element rest → (IsCut head element → ⊥) → length other ≡ length element
     → take head.length other ≡ take head.length element → IsItem (kind.Element head) other rest
 element_other head element other rest is cut long front =
     let room = is.0.has.room in

@@ -17,3 +17,5 @@ pub mod VerdictOne
 pub mod TrackOne
 pub mod PartOne
 pub mod ReportOne
+pub mod FrameDamage
+pub mod LinkDamage

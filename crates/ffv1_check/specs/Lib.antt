@@ -6,5 +6,6 @@ pub mod Reports
 pub mod ReportLines
 pub mod Checks
 pub mod Spans
+pub mod LinkDamage
 pub mod SourceChecks
 pub mod Inner

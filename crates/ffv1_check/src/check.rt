@@ -2,6 +2,7 @@
 ghost use Rattle.std.specs.Prelude.{IfOk};
 ghost use Rattle.ffv1_check.specs.Checks.{IsCheckOf, ReportIsOne, CutFileIsSeen, SmallDamageIsSeen};
 ghost use Rattle.ffv1_check.specs.Spans.{CheckedBytesPass};
+ghost use Rattle.ffv1_check.specs.LinkDamage.{SmallDamageInLinkIsSeen};
 
 use crate::report::{Report, report_of};
 use matroska_parts::file_parts;
@@ -36,4 +37,10 @@ pub fn checked_bytes_pass()
 /// that content's first two bytes, and there within 32 consecutive bits, in the order in which CRC-32 runs them.
 pub fn small_damage_is_seen()
     ensures { SmallDamageIsSeen }
+{}
+
+/// Small damage of frames is seen, with a CRC-32 round them or without: of a whole file no other is whole that differs from it only within one
+/// link of a block whose track is judged by parities, and there within 32 consecutive bits, which leave the link's size as it was.
+pub fn small_damage_in_link_is_seen()
+    ensures { SmallDamageInLinkIsSeen }
 {}
