@@ -118,6 +118,17 @@ def bytes_lost_in_different_places(kit: Kit) -> Checks:
             yield from in_each_order(recording, f"{one} and {other}", [found[one], found[other]], partial(is_true, recording=recording))
 
 
+@of_rule(6)
+def frames_that_are_there_twice(kit: Kit) -> Checks:
+    for recording in kit.some("matroska", "matroska-plain", "avi", "nut", "mov"):
+        rotten = small.inverted(recording.content, *(small.places_in_frame(recording, number)["middle of slice 2"] for number in (2, 4, 5)))
+        for number in (2, len(recording.frames) - 2):
+            (first, _), (after, _) = recording.frames[number : number + 2]
+            twice = recording.content[:after] + recording.content[first:]
+            yield from in_each_order(recording, f"a damaged copy beside one with frame {number} twice", [rotten, twice],
+                                     partial(is_true, recording=recording))
+
+
 def is_true(desk: Desk, recording: Recording, contents: typing.Sequence[bytes]) -> Problems:
     """That status 0 is given to the recording alone."""
     yield from dishonest(desk.mend(contents, recording.ending), recording.content)

@@ -279,7 +279,7 @@ class Session:
         alike = evidence.alike_beside(made.stretches, made.outcomes, inputs.files[: inputs.own])
         verdict = judge(Evidence(
             layout, made.stretches, made.outcomes, made.out, claims, arrangement.matched, arrangement.left, inputs.numbers, others,
-            bool(attempt.comparison.broken), made.decoded, self.compared(made.part, made.out), made.flaws, made.failing, alike, self.told,
+            bool(attempt.comparison.broken), made.decoded, self.compared(made.part, made.out), made.flaws, made.failing, alike, [*self.told, *self.shorter(arrangement)],
             len(self.copies) == 1, arrangement.good is not None, made.checked,
             {matched.number for matched in arrangement.matched if matched.alignment and self.lost_or_gained(self.copies[matched.number])}))
         self.keep_frames(layout, inputs, made.stretches, verdict)
@@ -342,6 +342,20 @@ class Session:
         """Whether the parts of a copy do not hang together, or lead to other frames than those of an undamaged copy of its file."""
         return self.is_disordered(copy) or any((one.place, one.size) != (other.place, other.size) for one, other in zip(
             self.layout_of(copy).frames, self.layout_of(self.copies[good]).frames))
+
+    def shorter(self, arrangement: Arrangement) -> Iterator[Reason]:
+        """Where a shorter copy of its file, whose parts are all there and hang together, shows fewer frames than an undamaged OUT: bytes may have
+        been put into that."""
+        if arrangement.good is None:
+            return
+        good = self.copies[arrangement.good]
+        frames = [(frame.place, frame.size) for frame in self.layout_of(good).frames]
+        numbers = [*arrangement.basis, *(matched.number for matched in arrangement.matched if matched.alignment)]
+        for copy in (self.copies[number] for number in numbers if self.copies[number].size < good.size and by_start(self.copies[number])):
+            shown = [(frame.place, frame.size) for frame in self.layout_of(copy).frames]
+            if 0 < len(shown) < len(frames) and not self.lost_or_gained(copy):
+                place, _ = next((one for one, other in zip(frames, shown) if one != other), frames[len(shown)])
+                yield Reason(Why.SHIFT, bytes=(place, place + 1), source=arrangement.good)
 
     def has_broken(self, attempt: Attempt, good: int) -> bool:
         """Whether something of OUT is open, and a copy is there that is broken: its versions may be all that says so."""
