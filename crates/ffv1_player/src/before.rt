@@ -1,7 +1,6 @@
 //! The frame before: with the states that its slices have left a frame goes on that is no keyframe (RFC 9043, sections 3.8.1.3 and 3.8.2.4).
 ghost use Rattle.std.specs.Prelude.{◌≡◌, ◌↔◌, ℕ, Some, IsTrue, MatchOption, length};
 ghost use Rattle.std.specs.Option.{option_copied};
-ghost use Rattle.ffv1_plane.specs.RangeSlices.{slice_group};
 ghost use Rattle.ffv1_layout.specs.Layout.{headers_of};
 ghost use Rattle.ffv1_samples.specs.States.{states_before};
 ghost use Rattle.ffv1_player.specs.Frames.{HaveSameTables, SliceGoesOn, FrameGoesOn, states_left_at};
@@ -10,6 +9,7 @@ ghost use Rattle.ffv1_player.specs.Players.{left_values};
 
 use crate::samples::count_of_planes;
 use ffv1_layout::PlacedSlice;
+use ffv1_plane::group_of;
 use ffv1_range::{Recording, SliceHeader};
 use ffv1_samples::SliceStates;
 
@@ -18,19 +18,6 @@ use ffv1_samples::SliceStates;
 pub struct LeftSlice {
     pub(crate) header: SliceHeader,
     pub(crate) states: SliceStates,
-}
-
-/// The group of a plane: its states and its table set are those of the group.
-fn group_of(has_chroma: bool, plane: usize) -> usize
-    ensures { result ≡ slice_group has_chroma plane }
-{
-    if plane == 0 {
-        0
-    } else if has_chroma && plane < 3 {
-        1
-    } else {
-        2
-    }
 }
 
 /// Whether each plane has the same table set in two slices.

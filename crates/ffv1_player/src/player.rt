@@ -105,9 +105,11 @@ fn play(
 }
 
 impl Player {
-    ghost use Rattle.std.specs.Prelude.{◌⊎◌, None, Some, OnErr, MatchResult};
+    ghost use Rattle.std.specs.Prelude.{◌⊎◌, None, Some, Err, OnErr, MatchResult};
     ghost use Rattle.ffv1_range.specs.Setup.{RecordingValue, IsRecordingOf};
     ghost use Rattle.ffv1_range.specs.SetupFaults.{FirstRecordingFault};
+    ghost use Rattle.ffv1_range.specs.SetupForms.{Grants, record_read};
+    ghost use Rattle.ffv1_range.specs.declared.scope.Scope.TheVariants.{Version3};
     ghost use Rattle.ffv1_player.specs.Frames.{LeftValue, IsSameFrame};
     ghost use Rattle.ffv1_player.specs.Players.{player_value};
     ghost use Rattle.ffv1_player.specs.declared.samples.Samples.{Samples};
@@ -123,8 +125,11 @@ impl Player {
         ensures only { (r : RecordingValue) → IsRecordingOf config.now width height r
             → MatchResult result (λ player. player ≡ player_value r None) (λ fault. fault ≡ SetupFault.Memory) }
 
-        // A refusal is the first that reading meets, or Memory.
+        // A refusal is the first that reading meets, or Memory ..
         ensures first { IfErr result (λ fault. (fault ≡ SetupFault.Memory) ⊎ FirstRecordingFault config.now width height fault) }
+
+        // .. which stands where `Recording::read` asks for memory.
+        ensures fault { IfErr result (λ fault. (granted : Grants) × (record_read granted config.now Version3 width height ≡ Err fault)) }
     {
         let recording = Recording::read(alloc, config, width, height)?;
         Ok(Player {
