@@ -285,7 +285,7 @@ class Check:
     def records(self):
         for track in self.tracks.values():
             if track.is_record_wrong:
-                self.say(self.first_tracks, f"record of track {track.number}")
+                self.say(track.place, f"record of track {track.number}")
             elif track.record:
                 self.spans.append((track.place, track.place + len(track.record)))
 

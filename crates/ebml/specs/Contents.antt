@@ -1,5 +1,5 @@
 -- Elements that follow each other, and the contents of those with one ID (RFC 8794, sections 6 and 11.1).
-use Rattle.std.specs.Prelude.{ℕ, ◌≡◌, ◌==◌, nat_le, if◌then◌else◌, List, ◌++◌, length, map, filter, take, drop, Option, Some, None}
+use Rattle.std.specs.Prelude.{ℕ, ◌+◌, ◌≡◌, ◌==◌, nat_le, if◌then◌else◌, List, [], ◌∷◌, ◌++◌, length, map, filter, take, drop, Option, Some, None, option_map}
 use Rattle.std.specs.List.{AllByRecursion, flat_map, fold}
 use Rattle.ffv1_bits.specs.Parity.{AreBytes}
 use Rattle.ebml.specs.Vint.{number_of}
@@ -33,6 +33,35 @@ last_among xs = fold (λ _ x. Some x) None xs
 -- this holds of the content of the last element with this ID, if there is one
 abbrev pub OfLast : ℕ → List ℕ → (Option (List ℕ) → Type 0) → Type 0
 OfLast id bytes P = (contents : List (List ℕ)) × AreContents id bytes contents × P (last_among contents)
+
+-- ---- the places of contents
+
+-- bytes, and where they begin
+pub record PlacedBytes : Type 0 where
+  pub place : ℕ
+  pub bytes : List ℕ
+
+-- the contents of those with this ID, each where it begins, of elements that begin at this place
+abbrev pub placed_with : (id place : ℕ) → List ElementValue → List PlacedBytes
+placed_with id place [] = []
+placed_with id place (element ∷ elements) =
+    if element.head.id == id
+    then record { place = place + element.head.length; bytes = drop element.head.length element.bytes } ∷ placed_with id (place + length element.bytes) elements
+    else placed_with id (place + length element.bytes) elements
+
+-- these are the contents, in order, of the elements with this ID that follow each other from the start of bytes, which begin at this place
+abbrev pub AreContentsAt : (id place : ℕ) → List ℕ → List PlacedBytes → Type 0
+AreContentsAt id place bytes placed = (elements : List ElementValue) × AreElements bytes elements × (placed ≡ placed_with id place elements)
+
+-- this holds of the last of them, if there is one
+abbrev pub OfLastPlaced : (id place : ℕ) → List ℕ → (Option PlacedBytes → Type 0) → Type 0
+OfLastPlaced id place bytes P = (placed : List PlacedBytes) × AreContentsAt id place bytes placed × P (last_among placed)
+
+-- where it begins
+abbrev pub place_in : Option PlacedBytes → Option ℕ
+place_in found = option_map (λ it. it.place) found
+
+-- ---- numbers
 
 -- the value of an Unsigned Integer Element (RFC 8794, section 7.2): 0 where it has more than 8 octets
 abbrev pub unsigned_of : List ℕ → ℕ

@@ -14,7 +14,7 @@ mod table;
 mod vint;
 
 pub use children::{Element, children_are_one, children_end, is_among, next_child, read_element};
-pub use contents::{Content, contents_are_one, last_content, next_content};
+pub use contents::{Content, contents_are_one, last_content, last_place, next_content};
 pub use crc::{crc32, crc32_after};
 pub use crc_element::{burst_seen_by_crc32, crc32_element, element_left, has_crc32, passes_crc32};
 pub use head::{Head, read_head, read_head_at};

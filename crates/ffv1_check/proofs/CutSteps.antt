@@ -203,7 +203,7 @@ element_first first tracks place head bytes parts are isnt =
     let content = content_by tracks BeginsNone (λ s. refl) (λ t. refl) (λ b is. refl) (λ r. refl) (λ p. refl) (child_ids head.id) _ (place + head.length) (drop head.length bytes)
     are.content are.content_is in
     let doc = doc_below tracks BeginsNone (λ s. refl) (λ t. refl) (λ b is. refl) (λ r. refl) (λ p. refl) are.element place (drop head.length bytes) are.doc are.doc_is in
-    let records = records_if tracks BeginsNone (λ s. refl) (λ t. refl) (λ b is. refl) (λ r. refl) (λ p. refl) _ _ place are.records are.records_are in
+    let records = records_if tracks BeginsNone (λ s. refl) (λ t. refl) (λ b is. refl) (λ r. refl) (λ p. refl) _ _ (place + head.length) are.records are.records_are in
     let other : are.element ≡ tops.Segment → ⊥ = λ e. isnt (is_segment head.id (are.known ∙ ap (λ (z : TopElement). Some z) e)) in
     none_first parts (subst (AllByRecursion BeginsNone) (sym are.joined) (
       no_segment_by are.element (opening_of place are.element head) other,

@@ -94,7 +94,7 @@ after_head n size bytes checked =
 -- its CRC-32 does not pass
 open_checked : (first : Option PlacedContent) (tracks : List Track) (place : ℕ) (head : Head) (bytes : List ℕ) (content records : List Part) (here : Bool)
     → AreBytes bytes → (here ≡ true → (head.id ≡ 0x1654AE6B) × AreNamedIn (drop head.length bytes) tracks)
-    → AreContentParts head.id tracks false (place + head.length) (drop head.length bytes) content → AreRecordPartsIf here false place tracks records
+    → AreContentParts head.id tracks false (place + head.length) (drop head.length bytes) content → AreRecordPartsIf here false (place + head.length) tracks records
     → HasChecked (drop head.length bytes) (checked_bytes content + checked_bytes records)
 open_checked first tracks place head bytes content records true are_bytes is are records_are =
     let content_bytes : AreBytes (drop head.length bytes) = bytes_drop head.length bytes are_bytes in
@@ -102,7 +102,7 @@ open_checked first tracks place head bytes content records true are_bytes is are
     tracks_zero tracks false (place + head.length) (drop head.length bytes) content content_bytes
     (subst (λ id. AreContentParts id tracks false (place + head.length) (drop head.length bytes) content) (is refl).0 are) in
     let size : checked_bytes records ≡ checked_bytes content + checked_bytes records = omega (arith, none) in
-    subst (HasChecked (drop head.length bytes)) size (named_checked place (drop head.length bytes) tracks records (is refl).1 records_are)
+    subst (HasChecked (drop head.length bytes)) size (named_checked (place + head.length) (drop head.length bytes) tracks records (is refl).1 records_are)
 open_checked first tracks place head bytes content records false are_bytes is are records_are =
     let size : checked_bytes content ≡ checked_bytes content + checked_bytes records = omega (arith, none_zero records records_are) in
     subst (HasChecked (drop head.length bytes)) size (content_counts tracks false (child_ids head.id) (place + head.length) (drop head.length bytes) content are)
@@ -114,14 +114,14 @@ both_first false b is = cc
 by_crc32 : (first : Option PlacedContent) (tracks : List Track) (place : ℕ) (head : Head) (bytes : List ℕ) (c : Crc32) (content records : List Part)
     → AreBytes bytes → IsFirst first tracks place head bytes → IsCrc32Of head bytes c
     → AreContentParts head.id tracks (passes c) (place + head.length) (drop head.length bytes) content
-    → AreRecordPartsIf (is_at place first && is_uncut c) (passes c) place tracks records
+    → AreRecordPartsIf (is_at place first && is_uncut c) (passes c) (place + head.length) tracks records
     → HasChecked bytes (checked_bytes content + (checked_bytes records + cond (passes c) (length bytes - head.length) 0))
 by_crc32 first tracks place head bytes crc.Passes content records are_bytes is crc32 are records_are =
     let size : length (drop head.length bytes) ≡ checked_bytes content + (checked_bytes records + (length bytes - head.length)) =
     omega (
       arith,
       content_counts tracks true (child_ids head.id) (place + head.length) (drop head.length bytes) content are,
-      records_vouched_if (is_at place first && true) place tracks records records_are,
+      records_vouched_if (is_at place first && true) (place + head.length) tracks records records_are,
       length-drop head.length bytes,
     ) in
     after_head head.length _ bytes (subst (HasChecked (drop head.length bytes)) size (checked_all (drop head.length bytes) (inl crc32.2)))

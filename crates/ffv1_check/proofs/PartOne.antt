@@ -1,5 +1,5 @@
 -- The parts of an element of the top are one list, by tracks that say the same.
-use Rattle.std.proofs.Common.{◌≡◌, ℕ, ℤ, ◌<◌, ◌≤◌, Bool, true, false, List, [], ◌∷◌, ◌++◌, length, refl, sym, ap, ◌∙◌, subst, arith, inl, inr}
+use Rattle.std.proofs.Common.{◌≡◌, ℕ, ℤ, ◌+◌, ◌-◌, ◌<◌, ◌≤◌, Bool, true, false, List, [], ◌∷◌, ◌++◌, length, refl, sym, ap, ◌∙◌, subst, arith, inl, inr}
 use Rattle.std.specs.Prelude.{◌≢◌, Option, Some, slice_get}
 use Rattle.ffv1_bits.specs.Parity.{AreBytes}
 use Rattle.ebml.specs.declared.head.Head.{Head}
@@ -28,7 +28,7 @@ use Rattle.matroska_parts.specs.Payloads.{frame_limit, flac_limit, IsFramePayloa
 use Rattle.matroska_parts.specs.BlockParts.{IsTrackBlock, IsStanding}
 use Rattle.matroska_parts.specs.MasterParts.{IsOneBlock, AreContentPartsBy}
 use Rattle.matroska_parts.specs.Openings.{IsCrc32Of, AreDocParts}
-use Rattle.matroska_parts.specs.RecordParts.{IsRecordPart, AreRecordPartsOf, AreRecordParts}
+use Rattle.matroska_parts.specs.RecordParts.{record_place, IsRecordPart, AreRecordPartsOf, AreRecordParts}
 use Rattle.matroska_parts.specs.ItemParts.{AreRecordPartsIf}
 use Rattle.ffv1_check.proofs.VerdictOne.{verdict_is_one, verdict_stable}
 use Rattle.ffv1_check.proofs.TrackOne.{bool_same, bool_one, Alike, same_back, same_record, same_ffv1, same_wrong, same_parities, same_flac, EachAlike, each_back, alike_at, Distinct, all_get, index_is_one}
@@ -143,8 +143,11 @@ record_part_is_one : (place : ℕ) (vouched : Bool) (a b : Track) (x y : RecordP
 record_part_is_one place vouched a b x y alike is other =
     let of : ℕ → ℕ → ℕ → Bool → Bool → RecordPart = λ p s t w v. record { place = p; size = s; track = t; is_wrong = w; is_vouched = v } in
     let bytes = record_is_one b is.bytes other.bytes (same_record a b is.bytes alike is.has) other.has in
+    let places : record_place place a (length is.bytes) ≡ record_place place b (length other.bytes) =
+    ap (λ n. place + n + (length a.private.now - length is.bytes)) alike.private_at ∙ ap (λ z. place + b.private_at + (length z - length is.bytes)) alike.private
+    ∙ ap (λ z. place + b.private_at + (length b.private.now - length z)) bytes in
     let wrong = bool_same x.is_wrong y.is_wrong (IsRecordWrong a) (IsRecordWrong b) (same_wrong a b alike) (same_wrong b a (same_back a b alike)) is.wrong other.wrong in
-    ap (λ p. of p x.size x.track x.is_wrong x.is_vouched) (is.at ∙ sym other.at)
+    ap (λ p. of p x.size x.track x.is_wrong x.is_vouched) (is.at ∙ places ∙ sym other.at)
     ∙ ap (λ s. of y.place s x.track x.is_wrong x.is_vouched) (is.size ∙ ap length bytes ∙ sym other.size)
     ∙ ap (λ t. of y.place y.size t x.is_wrong x.is_vouched) (is.named ∙ alike.number ∙ sym other.named)
     ∙ ap (λ w. of y.place y.size y.track w x.is_vouched) wrong ∙ ap (λ v. of y.place y.size y.track y.is_wrong v) (is.vouched_is ∙ sym other.vouched_is)

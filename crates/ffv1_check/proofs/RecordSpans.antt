@@ -6,7 +6,7 @@ use Rattle.std.proofs.lemmas.Bool.{eqb-true, eq-eqb, leb-true, le-leb}
 use Rattle.std.proofs.lemmas.List.{append_assoc, append-nil, take-append-drop}
 use Rattle.ffv1_bits.specs.Bits.{bits_of}
 use Rattle.ffv1_bits.specs.Parity.{remainder_of, RecordPassesParity}
-use Rattle.ebml.specs.Contents.{ElementValue, contents_with, last_among}
+use Rattle.ebml.specs.Contents.{ElementValue, contents_with, PlacedBytes, placed_with, last_among}
 use Rattle.matroska.specs.Tracks.{bytes_found, IsTrackOf, EachIsTrack, HasRecord, AreTracksOf}
 use Rattle.matroska.specs.NamedTracks.{each_after, is_unnamed, named_tracks}
 use Rattle.matroska.specs.declared.track.Track.{Track}
@@ -89,8 +89,8 @@ last_within id (e ∷ es) last c is = go (λ l same. last_within id es l c same)
 
 -- ---- the record of a track
 
-private_within : (entry : List ℕ) (t : Track) → IsTrackOf entry t → IsWithin t.private.now entry
-private_within entry t is = subst (λ z. IsWithin z entry) (sym is.private.2) (go (last_among is.private.0) refl)
+private_within : (at : ℕ) (entry : List ℕ) (t : Track) → IsTrackOf at entry t → IsWithin t.private.now entry
+private_within at entry t is = subst (λ z. IsWithin z entry) (sym is.private.2) (go (last_among is.private.0) refl)
   where
     go : (found : Option (List ℕ)) → last_among is.private.0 ≡ found → IsWithin (bytes_found found) entry
     go None e = ([], entry, refl)
@@ -99,10 +99,10 @@ private_within entry t is = subst (λ z. IsWithin z entry) (sym is.private.2) (g
       | inr within ↦ subst (IsWithin c) (sym is.private.1.1.joined) (within_more c (bytes_of is.private.1.0) is.private.1.1.rest within)
     ]
 
-record_within : (entry : List ℕ) (t : Track) (bytes : List ℕ) → IsTrackOf entry t → HasRecord t bytes → IsWithin bytes entry
-record_within entry t bytes is has = elim has [
-  | inl x ↦ subst (λ z. IsWithin z entry) (sym x.1) (private_within entry t is)
-  | inr x ↦ subst (λ z. IsWithin z entry) (sym x.2) (within_end 40 t.private.now entry (private_within entry t is))
+record_within : (at : ℕ) (entry : List ℕ) (t : Track) (bytes : List ℕ) → IsTrackOf at entry t → HasRecord t bytes → IsWithin bytes entry
+record_within at entry t bytes is has = elim has [
+  | inl x ↦ subst (λ z. IsWithin z entry) (sym x.1) (private_within at entry t is)
+  | inr x ↦ subst (λ z. IsWithin z entry) (sym x.2) (within_end 40 t.private.now entry (private_within at entry t is))
 ]
 
 passes_or_not : (bytes : List ℕ) → RecordPassesParity bytes ⊎ (RecordPassesParity bytes → ⊥)
@@ -126,12 +126,12 @@ part_checked place t found is = go found.is_wrong refl
       | inr fails ↦ let wrong = is.wrong.1 (is.bytes, is.has, is.some, fails) in let no : false ≡ true = sym e ∙ wrong in absurd (cc)
     ]
 
-entry_checked : (place : ℕ) (entry : List ℕ) (t : Track) (own : List Part) → IsTrackOf entry t → AreRecordPartsOf place false t own
+entry_checked : (place at : ℕ) (entry : List ℕ) (t : Track) (own : List Part) → IsTrackOf at entry t → AreRecordPartsOf place false t own
     → HasChecked entry (checked_bytes own)
-entry_checked place entry t own is are = elim are [
+entry_checked place at entry t own is are = elim are [
   | inl x ↦
       let size : part_bytes (part.Record x.0) ≡ checked_bytes own = omega (arith, ap checked_bytes x.2, bytes_one (part.Record x.0) []) in
-      subst (HasChecked entry) size (within_checked x.1.bytes entry _ (record_within entry t x.1.bytes is x.1.has) (part_checked place t x.0 x.1))
+      subst (HasChecked entry) size (within_checked x.1.bytes entry _ (record_within at entry t x.1.bytes is x.1.has) (part_checked place t x.0 x.1))
   | inr x ↦ subst (HasChecked entry) (sym (none_zero own x.1)) (checked_none entry)
 ]
 
@@ -143,40 +143,46 @@ if_named before t = cond (is_unnamed before t) [] (t ∷ [])
 element_checked : (e : ElementValue) (size : ℕ) → HasChecked (content_of e) size → HasChecked e.bytes size
 element_checked e size checked = within_checked (content_of e) e.bytes size (content_within e) checked
 
+-- the contents of TrackEntries where they begin, by whether the first element is one
+abbrev entries_by : ℕ → ElementValue → List ElementValue → Bool → List PlacedBytes
+entries_by from e es b =
+    cond b (record { place = from + e.head.length; bytes = content_of e } ∷ placed_with 0xAE (from + length e.bytes) es) (placed_with 0xAE (from + length e.bytes) es)
+
 -- what is known of the elements after one
-abbrev Rest : ℕ → List ElementValue → Type 0
-Rest place es = (others list : List Track) (parts : List Part) → EachIsTrack (contents_with 0xAE es) list
+abbrev Rest : ℕ → ℕ → List ElementValue → Type 0
+Rest place from es = (others list : List Track) (parts : List Part) → EachIsTrack (placed_with 0xAE from es) list
     → AreRecordParts place false (each_after if_named others list) parts → HasChecked (bytes_of es) (checked_bytes parts)
 
-records_in : (place : ℕ) (es : List ElementValue) (before all : List Track) (records : List Part) → EachIsTrack (contents_with 0xAE es) all
+records_in : (place from : ℕ) (es : List ElementValue) (before all : List Track) (records : List Part) → EachIsTrack (placed_with 0xAE from es) all
     → AreRecordParts place false (each_after if_named before all) records → HasChecked (bytes_of es) (checked_bytes records)
-records_in place [] before [] records each are = subst (HasChecked []) (sym (none_zero records are)) (checked_none [])
-records_in place [] before (t ∷ ts) records each are = absurd each
-records_in place (e ∷ es) before all records each are =
-    go (λ others list parts entries are_parts. records_in place es others list parts entries are_parts) (eqb e.head.id 0xAE) refl
+records_in place from [] before [] records each are = subst (HasChecked []) (sym (none_zero records are)) (checked_none [])
+records_in place from [] before (t ∷ ts) records each are = absurd each
+records_in place from (e ∷ es) before all records each are =
+    go (λ others list parts entries are_parts. records_in place (from + length e.bytes) es others list parts entries are_parts) (eqb e.head.id 0xAE) refl
   where
     later : HasChecked (bytes_of es) (checked_bytes records) → HasChecked (bytes_of (e ∷ es)) (checked_bytes records)
     later checked =
         let same : 0 + checked_bytes records ≡ checked_bytes records = omega arith in
         subst (HasChecked (e.bytes ++ bytes_of es)) same (checked_join e.bytes (bytes_of es) 0 (checked_bytes records) (checked_none e.bytes) checked)
 
-    named : Rest place es → (t : Track) (ts : List Track) (b : Bool) → is_unnamed before t ≡ b → EachIsTrack (content_of e ∷ contents_with 0xAE es) (t ∷ ts)
+    named : Rest place (from + length e.bytes) es → (t : Track) (ts : List Track) (b : Bool) → is_unnamed before t ≡ b
+        → EachIsTrack (entries_by from e es true) (t ∷ ts)
         → AreRecordParts place false (cond b [] (t ∷ []) ++ each_after if_named (before ++ t ∷ []) ts) records → HasChecked (bytes_of (e ∷ es)) (checked_bytes records)
     named rest t ts true is entries are = later (rest (before ++ t ∷ []) ts records entries.1 are)
     named rest t ts false is entries are =
         let size : checked_bytes are.0 + checked_bytes are.1 ≡ checked_bytes records = sym (ap checked_bytes are.2 ∙ bytes_join are.0 are.1) in
         subst (HasChecked (e.bytes ++ bytes_of es)) size
-        (checked_join e.bytes (bytes_of es) _ _ (element_checked e _ (entry_checked place (content_of e) t are.0 entries.0 are.3))
+        (checked_join e.bytes (bytes_of es) _ _ (element_checked e _ (entry_checked place (from + e.head.length) (content_of e) t are.0 entries.0 are.3))
         (rest (before ++ t ∷ []) ts are.1 entries.1 are.4))
 
-    entry : Rest place es → (list : List Track) → EachIsTrack (content_of e ∷ contents_with 0xAE es) list → AreRecordParts place false (each_after if_named before list) records
+    entry : Rest place (from + length e.bytes) es → (list : List Track) → EachIsTrack (entries_by from e es true) list → AreRecordParts place false (each_after if_named before list) records
         → HasChecked (bytes_of (e ∷ es)) (checked_bytes records)
     entry rest [] entries are = absurd entries
     entry rest (t ∷ ts) entries are = named rest t ts (is_unnamed before t) refl entries are
 
-    go : Rest place es → (b : Bool) → eqb e.head.id 0xAE ≡ b → HasChecked (bytes_of (e ∷ es)) (checked_bytes records)
-    go rest true at = entry rest all (subst (λ z. EachIsTrack z all) (contents_by 0xAE e es true at) each) are
-    go rest false at = later (rest before all records (subst (λ z. EachIsTrack z all) (contents_by 0xAE e es false at) each) are)
+    go : Rest place (from + length e.bytes) es → (b : Bool) → eqb e.head.id 0xAE ≡ b → HasChecked (bytes_of (e ∷ es)) (checked_bytes records)
+    go rest true at = entry rest all (subst (λ z. EachIsTrack z all) (ap (entries_by from e es) at) each) are
+    go rest false at = later (rest before all records (subst (λ z. EachIsTrack z all) (ap (entries_by from e es) at) each) are)
 
 pub records_checked : (place : ℕ) (content : List ℕ) (all : List Track) (records : List Part) → AreTracksOf content all
     → AreRecordParts place false (named_tracks all) records → HasChecked content (checked_bytes records)
@@ -187,4 +193,4 @@ records_checked place content all records is are =
     subst (λ z. HasChecked z (checked_bytes records)) (sym all_are.joined)
     (subst (HasChecked (bytes_of elements ++ all_are.rest)) same
     (checked_join (bytes_of elements) all_are.rest (checked_bytes records) 0
-    (records_in place elements [] all records (subst (λ z. EachIsTrack z all) is.are_entries.2 is.each) are) (checked_none all_are.rest)))
+    (records_in place 0 elements [] all records (subst (λ z. EachIsTrack z all) is.are_entries.2 is.each) are) (checked_none all_are.rest)))

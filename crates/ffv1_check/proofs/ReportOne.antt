@@ -48,8 +48,8 @@ module _ (first : Option PlacedContent) (ts us : List Track) (alike : EachAlike 
       others.content_is in
       let doc = doc_is_one others.element place (drop head.length bytes) are.doc others.doc
       (subst (λ e. AreDocParts e place (drop head.length bytes) are.doc) element are.doc_is) others.doc_is in
-      let records = records_if_one (is_at place first && is_uncut others.crc32) (passes others.crc32) place ts us are.records others.records alike
-      (subst (λ c. AreRecordPartsIf (is_at place first && is_uncut c) (passes c) place ts are.records) crc32 are.records_are) others.records_are in
+      let records = records_if_one (is_at place first && is_uncut others.crc32) (passes others.crc32) (place + head.length) ts us are.records others.records alike
+      (subst (λ c. AreRecordPartsIf (is_at place first && is_uncut c) (passes c) (place + head.length) ts are.records) crc32 are.records_are) others.records_are in
       are.joined ∙ ap (λ e. parts_by place head bytes e are.crc32 are.content are.doc are.records) element
       ∙ ap (λ c. parts_by place head bytes others.element c are.content are.doc are.records) crc32
       ∙ ap (λ z. parts_by place head bytes others.element others.crc32 z are.doc are.records) content

@@ -1,5 +1,5 @@
 -- What a file says of its tracks is one, wherever their bytes lie in memory.
-use Rattle.std.proofs.Common.{◌≡◌, ℕ, zero, suc, Bool, true, false, cond, eqb, List, [], ◌∷◌, ◌++◌, length, map, drop, refl, sym, ap, ◌∙◌, subst, arith, inl, inr}
+use Rattle.std.proofs.Common.{◌≡◌, ℕ, zero, suc, ◌+◌, Bool, true, false, cond, eqb, List, [], ◌∷◌, ◌++◌, length, map, drop, refl, sym, ap, ◌∙◌, subst, arith, inl, inr}
 use Rattle.std.specs.Prelude.{◌↔◌, ◌||◌, IsTrue, IsSome, filter, Option, Some, None, slice_get}
 use Rattle.std.specs.List.{AllByRecursion, flat_map, fold, list_any}
 use Rattle.std.proofs.lemmas.Bool.{eq-eqb}
@@ -7,10 +7,10 @@ use Rattle.std.proofs.lemmas.List.{append_assoc, drop_at}
 use Rattle.std.proofs.lemmas.List.Folds.{list_any-append}
 use Rattle.ffv1_bits.specs.Parity.{AreBytes}
 use Rattle.ffv1_texts.proofs.PartSteps.{one_parting, no_parting}
-use Rattle.ebml.specs.Contents.{ElementValue, contents_with, AreContents, OfLast, last_among}
+use Rattle.ebml.specs.Contents.{ElementValue, contents_with, AreContents, OfLast, PlacedBytes, placed_with, AreContentsAt, OfLastPlaced, last_among}
 use Rattle.ebml.proofs.Numbers.{bytes_drop}
-use Rattle.ebml.proofs.ContentList.{contents_are_one}
-use Rattle.matroska.specs.Tracks.{number_found, bytes_found, IsStringOf, IsTrackOf, EachIsTrack, AreTracksOf, IsFfv1Header, HasRecord, IsRecordWrong, SaysParities, HasParities, IsFlac}
+use Rattle.ebml.proofs.ContentList.{elements_are_one, contents_are_one}
+use Rattle.matroska.specs.Tracks.{number_found, bytes_found, place_found, IsStringOf, IsTrackOf, EachIsTrack, AreTracksOf, IsFfv1Header, HasRecord, IsRecordWrong, SaysParities, HasParities, IsFlac}
 use Rattle.matroska.specs.NamedTracks.{each_after, has_number, is_unnamed, named_tracks}
 use Rattle.matroska.specs.declared.track.Track.{Track}
 use Rattle.matroska_parts.specs.Payloads.{IsFfv1}
@@ -65,6 +65,28 @@ contents_bytes : (id : ℕ) (bytes : List ℕ) (contents : List (List ℕ)) → 
 contents_bytes id bytes contents are is =
     subst (AllByRecursion AreBytes) (sym is.2) (with_bytes id is.0 (elements_bytes is.0 is.1.rest (subst AreBytes is.1.joined are)))
 
+-- the same of those with places
+placed_bytes : (id place : ℕ) (elements : List ElementValue) → AllByRecursion (λ element. AreBytes element.bytes) elements
+    → AllByRecursion (λ it. AreBytes it.bytes) (placed_with id place elements)
+placed_bytes id place [] all = tt
+placed_bytes id place (e ∷ es) all =
+    let rest = placed_bytes id (place + length e.bytes) es all.1 in
+    elim (eqb e.head.id id) as (λ t. AllByRecursion (λ (it : PlacedBytes). AreBytes it.bytes)
+    (cond t (record { place = place + e.head.length; bytes = drop e.head.length e.bytes } ∷ placed_with id (place + length e.bytes) es) (placed_with id (place + length e.bytes) es))) [
+      | true ↦ (bytes_drop e.head.length e.bytes all.0, rest)
+      | false ↦ rest
+    ]
+
+all_placed_bytes : (id place : ℕ) (bytes : List ℕ) (placed : List PlacedBytes) → AreBytes bytes → AreContentsAt id place bytes placed
+    → AllByRecursion (λ it. AreBytes it.bytes) placed
+all_placed_bytes id place bytes placed are is =
+    subst (AllByRecursion (λ (it : PlacedBytes). AreBytes it.bytes)) (sym is.2) (placed_bytes id place is.0 (elements_bytes is.0 is.1.rest (subst AreBytes is.1.joined are)))
+
+placed_are_one : (id place : ℕ) (bytes : List ℕ) (placed others : List PlacedBytes) → AreBytes bytes → AreContentsAt id place bytes placed → AreContentsAt id place bytes others
+    → placed ≡ others
+placed_are_one id place bytes placed others are is other =
+    is.2 ∙ ap (placed_with id place) (elements_are_one bytes is.0 other.0 are is.1 other.1) ∙ sym other.2
+
 last_bytes : (found : Option (List ℕ)) (contents : List (List ℕ)) → AreBytes (bytes_found found) → AllByRecursion AreBytes contents
     → AreBytes (bytes_found (fold (λ _ x. Some x) found contents))
 last_bytes found [] are all = are
@@ -103,6 +125,7 @@ pub record Alike (a b : Track) : Type 0 where
   pub kind : a.kind ≡ b.kind
   pub codec : a.codec.now ≡ b.codec.now
   pub private : a.private.now ≡ b.private.now
+  pub private_at : a.private_at ≡ b.private_at
   pub encoded : a.is_encoded ≡ b.is_encoded
   pub width : a.width ≡ b.width
   pub height : a.height ≡ b.height
@@ -120,8 +143,13 @@ size_is_one id entry a b are p q =
     (λ video. OfLast id (bytes_found video) (λ found. b ≡ number_found found)) are p q in
     number_is_one id (bytes_found one.found) a b one.bytes one.one one.other
 
-track_is_one : (entry : List ℕ) (a b : Track) → AreBytes entry → IsTrackOf entry a → IsTrackOf entry b → Alike a b
-track_is_one entry a b are is other =
+place_is_one : (id place : ℕ) (bytes : List ℕ) (a b : ℕ) → AreBytes bytes → OfLastPlaced id place bytes (λ found. a ≡ place_found found)
+    → OfLastPlaced id place bytes (λ found. b ≡ place_found found) → a ≡ b
+place_is_one id place bytes a b are p q =
+    p.2 ∙ ap (λ z. place_found (last_among z)) (placed_are_one id place bytes p.0 q.0 are p.1 q.1) ∙ sym q.2
+
+track_is_one : (place : ℕ) (entry : List ℕ) (a b : Track) → AreBytes entry → IsTrackOf place entry a → IsTrackOf place entry b → Alike a b
+track_is_one place entry a b are is other =
     let codec = of_one 0x86 entry (λ found. IsStringOf (bytes_found found) a.codec.now) (λ found. IsStringOf (bytes_found found) b.codec.now) are is.codec other.codec in
     let private = of_one 0x63A2 entry (λ found. a.private.now ≡ bytes_found found) (λ found. b.private.now ≡ bytes_found found) are is.private other.private in
     let encoded = of_one 0x6D80 entry (λ found. IsTrue a.is_encoded ↔ IsSome found) (λ found. IsTrue b.is_encoded ↔ IsSome found) are is.encoded other.encoded in
@@ -130,6 +158,7 @@ track_is_one entry a b are is other =
       kind = number_is_one 0x83 entry a.kind b.kind are is.kind other.kind;
       codec = string_is_one (bytes_found codec.found) a.codec.now b.codec.now codec.one codec.other;
       private = private.one ∙ sym private.other;
+      private_at = place_is_one 0x63A2 place entry a.private_at b.private_at are is.private_at other.private_at;
       encoded = bool_one a.is_encoded b.is_encoded (IsSome encoded.found) encoded.one encoded.other;
       width = size_is_one 0xB0 entry a.width b.width are is.width other.width;
       height = size_is_one 0xBA entry a.height b.height are is.height other.height;
@@ -143,6 +172,7 @@ same_back a b alike = record {
   kind = sym alike.kind;
   codec = sym alike.codec;
   private = sym alike.private;
+  private_at = sym alike.private_at;
   encoded = sym alike.encoded;
   width = sym alike.width;
   height = sym alike.height;
@@ -180,18 +210,18 @@ EachAlike [] (b ∷ bs) = ⊥
 EachAlike (a ∷ as_) [] = ⊥
 EachAlike (a ∷ as_) (b ∷ bs) = Alike a b × EachAlike as_ bs
 
-tracks_of_entries : (entries : List (List ℕ)) (xs ys : List Track) → AllByRecursion AreBytes entries → EachIsTrack entries xs → EachIsTrack entries ys → EachAlike xs ys
+tracks_of_entries : (entries : List PlacedBytes) (xs ys : List Track) → AllByRecursion (λ it. AreBytes it.bytes) entries → EachIsTrack entries xs → EachIsTrack entries ys → EachAlike xs ys
 tracks_of_entries [] [] [] all are others = tt
 tracks_of_entries [] [] (y ∷ ys) all are others = absurd others
 tracks_of_entries [] (x ∷ xs) ys all are others = absurd are
 tracks_of_entries (e ∷ es) [] ys all are others = absurd are
 tracks_of_entries (e ∷ es) (x ∷ xs) [] all are others = absurd others
-tracks_of_entries (e ∷ es) (x ∷ xs) (y ∷ ys) all are others = (track_is_one e x y all.0 are.0 others.0, tracks_of_entries es xs ys all.1 are.1 others.1)
+tracks_of_entries (e ∷ es) (x ∷ xs) (y ∷ ys) all are others = (track_is_one e.place e.bytes x y all.0 are.0 others.0, tracks_of_entries es xs ys all.1 are.1 others.1)
 
 tracks_are_one : (content : List ℕ) (xs ys : List Track) → AreBytes content → AreTracksOf content xs → AreTracksOf content ys → EachAlike xs ys
 tracks_are_one content xs ys bytes are others =
-    let same = contents_are_one 0xAE content are.entries others.entries bytes are.are_entries others.are_entries in
-    tracks_of_entries are.entries xs ys (contents_bytes 0xAE content are.entries bytes are.are_entries) are.each (subst (λ z. EachIsTrack z ys) (sym same) others.each)
+    let same = placed_are_one 0xAE 0 content are.entries others.entries bytes are.are_entries others.are_entries in
+    tracks_of_entries are.entries xs ys (all_placed_bytes 0xAE 0 content are.entries bytes are.are_entries) are.each (subst (λ z. EachIsTrack z ys) (sym same) others.each)
 
 pub same_count : (xs ys : List Track) → EachAlike xs ys → length xs ≡ length ys
 same_count [] [] each = refl

@@ -65,6 +65,7 @@ of_ffv1 = record {
   kind = 1;
   codec = record { ref_ptr = (0, 0); now = codes "V_FFV1" };
   private = record { ref_ptr = (0, 0); now = [] };
+  private_at = 0;
   is_encoded = false;
   width = 48;
   height = 32;

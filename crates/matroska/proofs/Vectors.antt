@@ -90,6 +90,7 @@ numbered number kind = record {
   kind = kind;
   codec = record { ref_ptr = (0, 0); now = [] };
   private = record { ref_ptr = (0, 0); now = [] };
+  private_at = 0;
   is_encoded = false;
   width = 0;
   height = 0;

@@ -1,7 +1,7 @@
 -- Tracks (RFC 9559, section 5.1.4): what a TrackEntry says, and what is FFV1 and FLAC.
-use Rattle.std.specs.Prelude.{ℕ, ◌≡◌, ◌≢◌, ◌<◌, ◌⊎◌, ◌↔◌, IsTrue, List, [], ◌∷◌, ◌++◌, length, drop, slice_range, codes, Option, Some, None, IsSome}
+use Rattle.std.specs.Prelude.{ℕ, ◌≡◌, ◌≢◌, ◌<◌, ◌⊎◌, ◌↔◌, IsTrue, List, [], ◌∷◌, ◌++◌, length, min, drop, slice_range, codes, Option, Some, None, IsSome}
 use Rattle.std.specs.List.{AllByRecursion}
-use Rattle.ebml.specs.Contents.{AreContents, OfLast, unsigned_of}
+use Rattle.ebml.specs.Contents.{PlacedBytes, AreContentsAt, OfLast, OfLastPlaced, unsigned_of}
 use Rattle.ffv1_bits.specs.Parity.{RecordPassesParity}
 use Rattle.ffv1_range.specs.Setup.{RecordingValue, IsRecordingOf}
 use Rattle.matroska.specs.declared.track.Track.{Track}
@@ -16,33 +16,39 @@ abbrev pub bytes_found : Option (List ℕ) → List ℕ
 bytes_found None = []
 bytes_found (Some content) = content
 
+-- where they begin, as far as four octets tell it; 0 where there is none
+abbrev pub place_found : Option PlacedBytes → ℕ
+place_found None = 0
+place_found (Some found) = min found.place 0xFFFFFFFF
+
 -- The text of a String Element (RFC 8794, section 7.4): what stands before its first zero byte, or all of it.
 pub record IsStringOf (content text : List ℕ) : Type 0 where
   pub no_zero : AllByRecursion (λ byte. byte ≢ 0) text
   pub ends : (content ≡ text) ⊎ ((rest : List ℕ) × (content ≡ text ++ 0 ∷ rest))
 
--- The track that the content of a TrackEntry describes: of each field the last element counts, TrackNumber, TrackType, CodecID, CodecPrivate,
--- ContentEncodings, and in Video PixelWidth and PixelHeight.
-pub record IsTrackOf (entry : List ℕ) (track : Track) : Type 0 where
+-- The track that the content of a TrackEntry at this place describes: of each field the last element counts, TrackNumber, TrackType, CodecID,
+-- CodecPrivate and where that begins, ContentEncodings, and in Video PixelWidth and PixelHeight.
+pub record IsTrackOf (place : ℕ) (entry : List ℕ) (track : Track) : Type 0 where
   pub number : OfLast 0xD7 entry (λ found. track.number ≡ number_found found)
   pub kind : OfLast 0x83 entry (λ found. track.kind ≡ number_found found)
   pub codec : OfLast 0x86 entry (λ found. IsStringOf (bytes_found found) track.codec.now)
   pub private : OfLast 0x63A2 entry (λ found. track.private.now ≡ bytes_found found)
+  pub private_at : OfLastPlaced 0x63A2 place entry (λ found. track.private_at ≡ place_found found)
   pub encoded : OfLast 0x6D80 entry (λ found. IsTrue track.is_encoded ↔ IsSome found)
   pub width : OfLast 0xE0 entry (λ video. OfLast 0xB0 (bytes_found video) (λ found. track.width ≡ number_found found))
   pub height : OfLast 0xE0 entry (λ video. OfLast 0xBA (bytes_found video) (λ found. track.height ≡ number_found found))
 
 -- each track is that of its TrackEntry
-abbrev pub EachIsTrack : List (List ℕ) → List Track → Type 0
+abbrev pub EachIsTrack : List PlacedBytes → List Track → Type 0
 EachIsTrack [] [] = Unit {0}
 EachIsTrack [] (track ∷ tracks) = ⊥
 EachIsTrack (entry ∷ entries) [] = ⊥
-EachIsTrack (entry ∷ entries) (track ∷ tracks) = IsTrackOf entry track × EachIsTrack entries tracks
+EachIsTrack (entry ∷ entries) (track ∷ tracks) = IsTrackOf entry.place entry.bytes track × EachIsTrack entries tracks
 
--- The tracks that the content of a Tracks element describes: one for each TrackEntry, in order.
+-- The tracks that the content of a Tracks element describes: one for each TrackEntry, in order. Places are counted from where the content begins.
 pub record AreTracksOf (content : List ℕ) (tracks : List Track) : Type 0 where
-  pub entries : List (List ℕ)
-  pub are_entries : AreContents 0xAE content entries
+  pub entries : List PlacedBytes
+  pub are_entries : AreContentsAt 0xAE 0 content entries
   pub each : EachIsTrack entries tracks
 
 -- how many bytes a BITMAPINFOHEADER has

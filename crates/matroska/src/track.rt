@@ -1,9 +1,9 @@
 //! Tracks, as a TrackEntry describes each (RFC 9559, section 5.1.4).
-ghost use Rattle.std.specs.Prelude.{◌≡◌, ◌↔◌, IsTrue, IsSome, IfOk};
-ghost use Rattle.ebml.specs.Contents.{OfLast};
-ghost use Rattle.matroska.specs.Tracks.{number_found, bytes_found, IsStringOf, IsTrackOf, AreTracksOf};
+ghost use Rattle.std.specs.Prelude.{◌≡◌, ◌+◌, ◌<◌, ◌^◌, ◌↔◌, length, IsTrue, IsSome, IfOk};
+ghost use Rattle.ebml.specs.Contents.{OfLast, OfLastPlaced};
+ghost use Rattle.matroska.specs.Tracks.{number_found, bytes_found, place_found, IsStringOf, IsTrackOf, AreTracksOf};
 
-use ebml::{last_content, next_content, unsigned};
+use ebml::{last_content, last_place, next_content, unsigned};
 use ffv1_texts::split_at_byte;
 use std::alloc::{AllocError, Global};
 
@@ -36,6 +36,8 @@ pub struct Track<'a> {
     pub codec: &'a [u8],
     /// CodecPrivate.
     pub private: &'a [u8],
+    /// Where it begins, in bytes from the start of the content of its Tracks; 0 where it is missing, and 2^32 - 1 past that.
+    pub private_at: u32,
     /// Whether it has ContentEncodings: its frames are compressed once more, or encrypted.
     pub is_encoded: bool,
     /// PixelWidth of its Video, in samples.
@@ -51,15 +53,24 @@ pub fn read_tracks<'a>(alloc: Global, content: &'a [u8]) -> Result<Vec<Track<'a>
     let mut tracks = Vec::new(alloc);
     let mut left = content;
     while let Some(entry) = next_content(TRACK_ENTRY, left) {
-        tracks.push(read_track(entry.bytes))?;
+        let place = content.len() - left.len() + entry.place;
+        tracks.push(track_at(place, entry.bytes))?;
         left = entry.rest;
     }
     Ok(tracks)
 }
 
-/// The track that the content of a TrackEntry describes.
+/// The track that the content of a TrackEntry describes, as if its Tracks began with that.
 pub fn read_track<'a>(entry: &'a [u8]) -> Track<'a>
-    ensures { IsTrackOf entry.now result }
+    ensures { IsTrackOf 0 entry.now result }
+{
+    track_at(0, entry)
+}
+
+/// That of a content that begins at this place.
+fn track_at<'a>(place: usize, entry: &'a [u8]) -> Track<'a>
+    requires { place < 2 ^ 63 }
+    ensures { IsTrackOf place entry.now result }
 {
     let video = bytes_with(VIDEO, entry);
     Track {
@@ -67,6 +78,7 @@ pub fn read_track<'a>(entry: &'a [u8]) -> Track<'a>
         kind: number_with(TRACK_TYPE, entry),
         codec: text_of(bytes_with(CODEC_ID, entry)),
         private: bytes_with(CODEC_PRIVATE, entry),
+        private_at: place_with(CODEC_PRIVATE, place, entry),
         is_encoded: last_content(CONTENT_ENCODINGS, entry).is_some(),
         width: number_with(PIXEL_WIDTH, video),
         height: number_with(PIXEL_HEIGHT, video),
@@ -90,6 +102,17 @@ fn bytes_with<'a>(id: u32, bytes: &'a [u8]) -> &'a [u8]
     match last_content(id, bytes) {
         Some(content) => content,
         None => &[],
+    }
+}
+
+/// Where the content of the last element with this ID begins, of bytes that begin at a place: 2^32 - 1 at most, and 0 where there is none.
+fn place_with(id: u32, place: usize, bytes: &[u8]) -> u32
+    requires { place < 2 ^ 63 }
+    ensures { OfLastPlaced id place bytes.now (λ found. result ≡ place_found found) }
+{
+    match last_place(id, bytes) {
+        Some(at) => (place + at).min(u32::MAX as usize) as u32,
+        None => 0,
     }
 }
 

@@ -23,7 +23,7 @@ module _ (tracks : List Track) where
       let content = content_by tracks Below (λ s. tt) (λ t. tt) (λ b is. is) (λ r. tt) (λ p. tt) (child_ids head.id) _ (place + head.length) (drop head.length bytes)
       are.content are.content_is in
       let doc = doc_below tracks Below (λ s. tt) (λ t. tt) (λ b is. is) (λ r. tt) (λ p. tt) are.element place (drop head.length bytes) are.doc are.doc_is in
-      let records = records_if tracks Below (λ s. tt) (λ t. tt) (λ b is. is) (λ r. tt) (λ p. tt) _ _ place are.records are.records_are in
+      let records = records_if tracks Below (λ s. tt) (λ t. tt) (λ b is. is) (λ r. tt) (λ p. tt) _ _ (place + head.length) are.records are.records_are in
       subst (AllByRecursion Below) (sym are.joined)
       (tt, all_append Below are.content _ content (all_append Below are.doc _ doc (all_append Below are.records _ records (tt, tt))))
 

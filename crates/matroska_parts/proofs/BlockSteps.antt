@@ -17,7 +17,7 @@ use Rattle.matroska_parts.specs.Facts.{IsJudging, AreFactsOf, EachHasFacts}
 use Rattle.matroska_parts.proofs.FactSteps.{facts_at}
 
 abbrev pub no_track : Track
-no_track = record { number = 0; kind = 0; codec = record { ref_ptr = (0, 0); now = [] }; private = record { ref_ptr = (0, 0); now = [] }; is_encoded = false; width = 0; height = 0 }
+no_track = record { number = 0; kind = 0; codec = record { ref_ptr = (0, 0); now = [] }; private = record { ref_ptr = (0, 0); now = [] }; private_at = 0; is_encoded = false; width = 0; height = 0 }
 
 none_more : (number : ℕ) (t : Track) (ts : List Track) (b : Bool) → eqb t.number number ≡ b → (b || list_any (has_number number) ts) ≡ false
     → (list_any (has_number number) ts ≡ false → AllByRecursion (λ other. other.number ≢ number) ts) → AllByRecursion (λ other. other.number ≢ number) (t ∷ ts)

@@ -31,7 +31,7 @@ pub element_there : (found : Option PlacedContent) (tracks : List Track) (place 
     → vouched ≡ passes crc32 → here ≡ (is_at place found && is_uncut crc32) → p ≡ old ++ part.Begin opening ∷ []
     → AddsParts (AreContentParts head.id tracks vouched (place + head.length) (drop head.length bytes)) p q
     → AddsParts (AreDocParts element place (drop head.length bytes)) q r
-    → AddsParts (AreRecordPartsIf here vouched place tracks) r s → new ≡ s ++ part.End closing ∷ []
+    → AddsParts (AreRecordPartsIf here vouched (place + head.length) tracks) r s → new ≡ s ++ part.End closing ∷ []
     → AddsParts (AreElementParts found tracks place head bytes) old new
 element_there found tracks place head bytes element crc32 vouched here opening closing old p q r s new known crc32_is opens closes vouched_is here_is begun content doc records ended =
     let first : Part = part.Begin opening in
@@ -53,8 +53,8 @@ element_there found tracks place head bytes element crc32 vouched here opening c
         doc = doc.0;
         doc_is = doc.2;
         records = records.0;
-        records_are = subst (λ v. AreRecordPartsIf (is_at place found && is_uncut crc32) v place tracks records.0) vouched_is
-            (subst (λ h. AreRecordPartsIf h vouched place tracks records.0) here_is records.2);
+        records_are = subst (λ v. AreRecordPartsIf (is_at place found && is_uncut crc32) v (place + head.length) tracks records.0) vouched_is
+            (subst (λ h. AreRecordPartsIf h vouched (place + head.length) tracks records.0) here_is records.2);
         joined = ap (λ z. part.Begin z ∷ (content.0 ++ (doc.0 ++ (records.0 ++ part.End closing ∷ [])))) opens
             ∙ ap (λ z. part.Begin (opening_of place element head) ∷ (content.0 ++ (doc.0 ++ (records.0 ++ part.End z ∷ [])))) closes;
       },

@@ -1,7 +1,8 @@
 -- The records of tracks, one by one.
-use Rattle.std.proofs.Common.{◌≡◌, ℕ, ◌<◌, Bool, true, false, eqb, length, arith, List, [], ◌∷◌, ◌++◌, refl, sym, ap, ◌∙◌}
-use Rattle.std.proofs.lemmas.List.{append_assoc, append-nil}
+use Rattle.std.proofs.Common.{◌≡◌, ℕ, ◌+◌, ◌-◌, ◌≤◌, ◌<◌, Bool, true, false, eqb, length, arith, inl, inr, List, [], ◌∷◌, ◌++◌, refl, sym, ap, ◌∙◌}
+use Rattle.std.proofs.lemmas.List.{append_assoc, append-nil, length-drop}
 use Rattle.std.proofs.lemmas.Bool.{eqb-true}
+use Rattle.matroska.specs.Tracks.{HasRecord}
 use Rattle.matroska.specs.declared.track.Track.{Track}
 use Rattle.matroska_parts.specs.declared.parts.Part.{Part}
 use Rattle.matroska_parts.specs.RecordParts.{AreRecordPartsOf, AreRecordParts}
@@ -28,3 +29,12 @@ empty_by (b ∷ bs) e = let none : length (b ∷ bs) ≡ 0 = eqb-true (length (b
 pub some_by : (bytes : List ℕ) → eqb (length bytes) 0 ≡ false → 0 < length bytes
 some_by [] e = cc
 some_by (b ∷ bs) e = omega arith
+
+-- a record ends its CodecPrivate, after 40 bytes of that at most
+pub record_ends : (track : Track) (bytes : List ℕ) → HasRecord track bytes → (length bytes ≤ length track.private.now) × (length track.private.now ≤ length bytes + 40)
+record_ends track bytes has = elim has [
+  | inl x ↦ let long = ap length x.1 in (omega (arith, long), omega (arith, long))
+  | inr x ↦
+      let long : length bytes ≡ length track.private.now - 40 = ap length x.2 ∙ length-drop 40 track.private.now in
+      (omega (arith, long), omega (arith, long))
+]

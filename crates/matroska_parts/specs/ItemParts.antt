@@ -65,7 +65,7 @@ abbrev pub is_uncut : Crc32 → Bool
 is_uncut crc.Cut = false
 is_uncut _ = true
 
--- the records of the first Tracks, if it is not cut
+-- the records of the first Tracks, whose content begins at this place, if it is not cut
 abbrev pub AreRecordPartsIf : (here vouched : Bool) → ℕ → List Track → List Part → Type 0
 AreRecordPartsIf true vouched place tracks parts = AreRecordParts place vouched tracks parts
 AreRecordPartsIf false vouched place tracks parts = parts ≡ []
@@ -81,7 +81,7 @@ pub record AreElementParts (first : Option PlacedContent) (tracks : List Track) 
   pub doc : List Part
   pub doc_is : AreDocParts element place (drop head.length bytes) doc
   pub records : List Part
-  pub records_are : AreRecordPartsIf (is_at place first && is_uncut crc32) (passes crc32) place tracks records
+  pub records_are : AreRecordPartsIf (is_at place first && is_uncut crc32) (passes crc32) (place + head.length) tracks records
   pub joined : parts ≡ part.Begin (opening_of place element head) ∷ (content ++ (doc ++ (records ++ part.End (closing_of place element head bytes crc32) ∷ [])))
 
 abbrev pub AreItemPartsBy : Kind → Option PlacedContent → List Track → ℕ → List ℕ → List Part → Type 0

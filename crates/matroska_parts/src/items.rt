@@ -78,7 +78,7 @@ fn push_element(
     push_content(alloc, tracks, is_vouched, head.id, from, content, parts)?;
     push_doc(element, place, content, parts)?;
     let here = says_records(first, place, crc32);
-    push_records_if(tracks, here, is_vouched, place, parts)?;
+    push_records_if(tracks, here, is_vouched, from, parts)?;
     parts.push(Part::End(Closing {
         place,
         element,
@@ -89,7 +89,7 @@ fn push_element(
     Ok(())
 }
 
-/// AddsParts the records of the tracks, if they are said here; the CRC-32 of the Tracks passes or not.
+/// AddsParts the records of the tracks, if they are said here: the content of the Tracks begins at this place, and its CRC-32 passes or not.
 fn push_records_if(
     tracks: &FileTracks<'_>,
     here: bool,
@@ -97,6 +97,7 @@ fn push_records_if(
     place: u64,
     parts: &mut Vec<Part>,
 ) -> Result<(), AllocError>
+    requires { place < 2 ^ 63 }
     ensures { OnOk result (AddsParts (AreRecordPartsIf here is_vouched place tracks.now.named.tracks.items) parts.old.items parts.new.items) }
 {
     if here {

@@ -46,6 +46,21 @@ fn damaged_frame_is_seen_twice(rt: HostRuntime) -> Result<(), Fail> {
 }
 
 #[test]
+fn wrong_record_is_said_where_it_begins(rt: HostRuntime) -> Result<(), Fail> {
+    let mut file = file();
+    file[400] ^= 1;
+    let text = text_of(rt.alloc(), &file)?;
+    let wanted = "at 393 record of track 1\n\
+        at 256 crc32 Tracks 290\n\
+        track 1 V_MS/VFW/FOURCC blocks 2 checked 2\n\
+        track 2 A_FLAC blocks 2 checked 2\n\
+        bytes 1781 checked 1320\n\
+        not whole\n";
+    assert!(rt; text.as_str() == wanted);
+    Ok(())
+}
+
+#[test]
 fn cut_is_reported(rt: HostRuntime) -> Result<(), Fail> {
     let file = file();
     let text = text_of(rt.alloc(), &file[0..1000])?;

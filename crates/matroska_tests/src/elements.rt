@@ -2,8 +2,8 @@
 use crate::made::{CLUSTER, TRACKS, file};
 use ebml::{
     Element, Head, Kind, child_ids, children_end, count_items, crc32, crc32_after, crc32_element,
-    has_crc32, is_among, last_content, next_child, next_content, next_item, read_element,
-    read_head_at, read_vint_data, unsigned,
+    has_crc32, is_among, last_content, last_place, next_child, next_content, next_item,
+    read_element, read_head_at, read_vint_data, unsigned,
 };
 use std::test::Fail;
 
@@ -73,10 +73,11 @@ fn contents_are_found_by_id(rt: HostRuntime) -> Result<(), Fail> {
     let file = file();
     let content = &file[TRACKS.0..TRACKS.1];
     let first = next_content(0xAE, content).ok_or("a TrackEntry")?;
-    assert!(rt; (first.bytes.len(), first.rest.len()) == (158, 111));
+    assert!(rt; (first.place, first.bytes.len(), first.rest.len()) == (15, 158, 111));
     let last = last_content(0xAE, content).ok_or("a TrackEntry")?;
     assert!(rt; last.len() == 102);
-    assert!(rt; last_content(0xA3, content).is_none());
+    assert!(rt; last_place(0xAE, content) == Some(182));
+    assert!(rt; last_content(0xA3, content).is_none() && last_place(0xA3, content).is_none());
     Ok(())
 }
 

@@ -6,7 +6,7 @@ use Rattle.matroska_parts.proofs.FactSteps.{facts_more}
 use Rattle.matroska_parts.proofs.facts.facts_of.Goals as goal
 
 abbrev no_track : Track
-no_track = record { number = 0; kind = 0; codec = record { ref_ptr = (0, 0); now = [] }; private = record { ref_ptr = (0, 0); now = [] }; is_encoded = false; width = 0; height = 0 }
+no_track = record { number = 0; kind = 0; codec = record { ref_ptr = (0, 0); now = [] }; private = record { ref_ptr = (0, 0); now = [] }; private_at = 0; is_encoded = false; width = 0; height = 0 }
 
 pub loop-track-preserved : goal.loop-track-preserved
 loop-track-preserved c =

@@ -9,7 +9,7 @@ use Rattle.matroska.proofs.named.NamedTracks.new.Goals as goal
 use Rattle.matroska.proofs.named.NamedTracks.new.Goals.{then-track-ne0+then-not-contains_key+in_ok-insert+in_ok-push, else-track-ne0, else-track-ne0-via-then-track-ne0+else-not-contains_key, else-track-ne0-via-else-track-ne0}
 
 abbrev no_track : Track
-no_track = record { number = 0; kind = 0; codec = record { ref_ptr = (0, 0); now = [] }; private = record { ref_ptr = (0, 0); now = [] }; is_encoded = false; width = 0; height = 0 }
+no_track = record { number = 0; kind = 0; codec = record { ref_ptr = (0, 0); now = [] }; private = record { ref_ptr = (0, 0); now = [] }; private_at = 0; is_encoded = false; width = 0; height = 0 }
 
 pub loop-track-preserved : goal.loop-track-preserved
 loop-track-preserved c =
