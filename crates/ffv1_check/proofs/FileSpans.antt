@@ -66,7 +66,7 @@ named_checked place content tracks records named are = elim named [
 -- ---- elements of the top
 
 -- what is known of an element at the place of the first Tracks
-abbrev IsFirst : Option PlacedContent → List Track → ℕ → Head → List ℕ → Type 0
+abbrev pub IsFirst : Option PlacedContent → List Track → ℕ → Head → List ℕ → Type 0
 IsFirst first tracks place head bytes = is_at place first ≡ true → (head.id ≡ 0x1654AE6B) × AreNamedIn (drop head.length bytes) tracks
 
 element_size : (first : Option PlacedContent) (tracks : List Track) (place : ℕ) (head : Head) (bytes : List ℕ) (parts : List Part)
@@ -147,7 +147,7 @@ element_checked first tracks place head bytes parts are_bytes is are =
 -- ---- items
 
 -- what is known of an item at the place of the first Tracks
-abbrev IsFirstBy : Option PlacedContent → List Track → ℕ → Kind → List ℕ → Type 0
+abbrev pub IsFirstBy : Option PlacedContent → List Track → ℕ → Kind → List ℕ → Type 0
 IsFirstBy first tracks place (kind.Element head) bytes = IsFirst first tracks place head bytes
 IsFirstBy first tracks place (kind.Endless head) bytes = is_at place first ≡ false
 IsFirstBy first tracks place _ bytes = Unit {0}
@@ -165,7 +165,7 @@ item_checked first tracks place kind.Unknown bytes parts are_bytes is are =
     subst (HasChecked bytes) none (checked_none bytes)
 
 -- the first Tracks lies before a place, or is that of the items from there on
-abbrev Stands : Option PlacedContent → ℕ → List ItemValue → Type 0
+abbrev pub Stands : Option PlacedContent → ℕ → List ItemValue → Type 0
 Stands first place items = ((found : PlacedContent) × (first ≡ Some found) × (found.place < place)) ⊎ (first ≡ first_tracks place items)
 
 first_least : (place : ℕ) (items : List ItemValue) (found : PlacedContent) → first_tracks place items ≡ Some found → place ≤ found.place
@@ -200,6 +200,29 @@ is_first first tracks place (kind.Segment head) bytes t is named = tt
 is_first first tracks place (kind.Endless head) bytes t is named = cc
 is_first first tracks place kind.Unknown bytes t is named = tt
 
+-- what is known of an item, and of those after it
+pub item_stands : (first : Option PlacedContent) (tracks : List Track) → AreTracksBy first tracks → (place : ℕ) (i : ItemValue) (items : List ItemValue)
+    → Stands first place (i ∷ items) → 0 < length i.bytes → IsFirstBy first tracks place i.kind i.bytes × Stands first (place + length i.bytes) items
+item_stands first tracks named place i items stands some = elim stands [
+  | inl x ↦
+      let none : is_at place first ≡ false =
+      not_at place first (λ one at same. let is : Some x.0 ≡ Some one = sym x.1 ∙ at in let equal : x.0.place ≡ one.place = cc in omega (arith, same, equal, x.2)) in
+      (not_first first tracks place i.kind i.bytes none, inl (x.0, x.1, omega (arith, x.2)))
+  | inr is ↦ by_kind (is_tracks i.kind) refl is
+]
+  where
+    by_kind : (b : Bool) → is_tracks i.kind ≡ b → first ≡ first_tracks place (i ∷ items) → IsFirstBy first tracks place i.kind i.bytes × Stands first (place + length i.bytes) items
+    by_kind true t is =
+        let found : first ≡ Some record { place = place; content = content_by i.kind i.bytes } =
+        is ∙ ap (λ b. cond b (Some record { place = place; content = content_by i.kind i.bytes }) (first_tracks (place + length i.bytes) items)) t in
+        (is_first first tracks place i.kind i.bytes t found named, inl (record { place = place; content = content_by i.kind i.bytes }, found, omega (arith, some)))
+    by_kind false t is =
+        let found : first ≡ first_tracks (place + length i.bytes) items =
+        is ∙ ap (λ b. cond b (Some record { place = place; content = content_by i.kind i.bytes }) (first_tracks (place + length i.bytes) items)) t in
+        let none : is_at place first ≡ false =
+        not_at place first (λ one at same. omega (arith, some, same, first_least (place + length i.bytes) items one (sym found ∙ at))) in
+        (not_first first tracks place i.kind i.bytes none, inr found)
+
 items_checked : (first : Option PlacedContent) (tracks : List Track) → AreTracksBy first tracks → (place : ℕ) (items : List ItemValue) (parts : List Part)
     → AreBytes (bytes_of_items items) → EachIsItem items → Stands first place items → AreItemParts first tracks place items parts
     → HasChecked (bytes_of_items items) (checked_bytes parts)
@@ -209,33 +232,11 @@ items_checked first tracks named place (i ∷ items) parts are_bytes each stands
     let here : AreBytes i.bytes = front_bytes i.bytes (bytes_of_items items) are_bytes in
     let later : AreBytes (bytes_of_items items) =
     subst AreBytes (drop_at i.bytes (bytes_of_items items) (length i.bytes) refl) (bytes_drop (length i.bytes) (i.bytes ++ bytes_of_items items) are_bytes) in
-    let both = next some in
+    let both = item_stands first tracks named place i items stands some in
     let size : checked_bytes are.0 + checked_bytes are.1 ≡ checked_bytes parts = sym (ap checked_bytes are.2 ∙ bytes_join are.0 are.1) in
     subst (HasChecked (i.bytes ++ bytes_of_items items)) size
     (checked_join i.bytes (bytes_of_items items) _ _ (item_checked first tracks place i.kind i.bytes are.0 here both.0 are.3)
     (items_checked first tracks named (place + length i.bytes) items are.1 later each.1 both.1 are.4))
-  where
-    by_kind : (b : Bool) → is_tracks i.kind ≡ b → 0 < length i.bytes → first ≡ first_tracks place (i ∷ items)
-        → IsFirstBy first tracks place i.kind i.bytes × Stands first (place + length i.bytes) items
-    by_kind true t some is =
-        let found : first ≡ Some record { place = place; content = content_by i.kind i.bytes } =
-        is ∙ ap (λ b. cond b (Some record { place = place; content = content_by i.kind i.bytes }) (first_tracks (place + length i.bytes) items)) t in
-        (is_first first tracks place i.kind i.bytes t found named, inl (record { place = place; content = content_by i.kind i.bytes }, found, omega (arith, some)))
-    by_kind false t some is =
-        let found : first ≡ first_tracks (place + length i.bytes) items =
-        is ∙ ap (λ b. cond b (Some record { place = place; content = content_by i.kind i.bytes }) (first_tracks (place + length i.bytes) items)) t in
-        let none : is_at place first ≡ false =
-        not_at place first (λ one at same. omega (arith, some, same, first_least (place + length i.bytes) items one (sym found ∙ at))) in
-        (not_first first tracks place i.kind i.bytes none, inr found)
-
-    next : 0 < length i.bytes → IsFirstBy first tracks place i.kind i.bytes × Stands first (place + length i.bytes) items
-    next some = elim stands [
-      | inl x ↦
-          let none : is_at place first ≡ false =
-          not_at place first (λ one at same. let is : Some x.0 ≡ Some one = sym x.1 ∙ at in let equal : x.0.place ≡ one.place = cc in omega (arith, same, equal, x.2)) in
-          (not_first first tracks place i.kind i.bytes none, inl (x.0, x.1, omega (arith, x.2)))
-      | inr is ↦ by_kind (is_tracks i.kind) refl some is
-    ]
 
 pub checked_bytes_pass : CheckedBytesPass
 checked_bytes_pass file report bytes is =

@@ -13,6 +13,7 @@ pub mod PayloadSpans
 pub mod MasterSpans
 pub mod RecordSpans
 pub mod FileSpans
+pub mod RecordPlaces
 pub mod VerdictOne
 pub mod TrackOne
 pub mod PartOne

@@ -6,6 +6,7 @@ pub mod Reports
 pub mod ReportLines
 pub mod Checks
 pub mod Spans
+pub mod RecordPlaces
 pub mod LinkDamage
 pub mod SourceChecks
 pub mod Inner

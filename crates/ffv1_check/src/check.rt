@@ -3,6 +3,7 @@ ghost use Rattle.std.specs.Prelude.{IfOk};
 ghost use Rattle.ffv1_check.specs.Checks.{IsCheckOf, ReportIsOne, CutFileIsSeen, SmallDamageIsSeen};
 ghost use Rattle.ffv1_check.specs.Spans.{CheckedBytesPass};
 ghost use Rattle.ffv1_check.specs.LinkDamage.{SmallDamageInLinkIsSeen};
+ghost use Rattle.ffv1_check.specs.RecordPlaces.{RecordsAreThere};
 
 use crate::report::{Report, report_of};
 use matroska_parts::file_parts;
@@ -31,6 +32,11 @@ pub fn cut_file_is_seen()
 /// What a report counts as checked passes: its bytes are those of spans of the file that are apart, and each of these passes a check of its own.
 pub fn checked_bytes_pass()
     ensures { CheckedBytesPass }
+{}
+
+/// Each Configuration Record that is a part of a file, right or wrong, stands where the part says: those bytes are the record of its track.
+pub fn records_are_there()
+    ensures { RecordsAreThere }
 {}
 
 /// Small damage is seen: of a whole file no other is whole that differs from it only within the content of one element with a CRC-32, after

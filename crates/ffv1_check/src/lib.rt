@@ -12,8 +12,8 @@ mod tops;
 mod track_states;
 
 pub use check::{
-    check_file, checked_bytes_pass, cut_file_is_seen, report_is_one, small_damage_in_link_is_seen,
-    small_damage_is_seen,
+    check_file, checked_bytes_pass, cut_file_is_seen, records_are_there, report_is_one,
+    small_damage_in_link_is_seen, small_damage_is_seen,
 };
 pub use findings::{Finding, Line, push_line};
 pub use report::{Report, TrackCount};
