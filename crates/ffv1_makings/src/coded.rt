@@ -1,11 +1,10 @@
 //! The coded planes of a slice, cut out of the planes of its frame (RFC 9043, sections 3.7 and 4.6).
-ghost use Rattle.std.specs.Prelude.{◌<◌, ◌≤◌};
+ghost use Rattle.std.specs.Prelude.{◌≤◌};
 
-use crate::plane::{CodedPlane, coding_of};
 use crate::spec::SliceSpec;
-use ffv1_plane::Tables;
+use ffv1_plane::{Tables, group_of};
 use ffv1_range::{Recording, TileRect};
-use ffv1_vectors::MakeFault;
+use ffv1_vectors::{CodedPlane, MakeFault, coding_of};
 use std::alloc::Global;
 
 /// A plane of a frame, or what a slice has of it.
@@ -42,7 +41,7 @@ fn coded_plane<'r>(
     plane: usize,
     cut: Cut,
 ) -> Result<CodedPlane<'r>, MakeFault> {
-    let group = group_of(recording, plane);
+    let group = group_of(recording.has_chroma(), plane);
     let set = slice.tables[group] as usize;
     if set >= recording.sets() {
         return Err(MakeFault::NotSelf);
@@ -60,17 +59,6 @@ fn coded_plane<'r>(
         group,
         tables: Tables::of(recording, set),
     })
-}
-
-/// The group of a plane.
-fn group_of(recording: &Recording, plane: usize) -> usize
-    ensures { result < 3 }
-{
-    match plane {
-        0 => 0,
-        1 | 2 if recording.has_chroma() => 1,
-        _ => 2,
-    }
 }
 
 /// Where a slice lies in luma.
@@ -110,7 +98,7 @@ fn cuts_of(
 
 /// Where a rectangle of luma lies in a plane.
 fn rect_in(recording: &Recording, plane: usize, rect: TileRect) -> TileRect {
-    if !recording.is_rgb() && group_of(recording, plane) == 1 {
+    if !recording.is_rgb() && group_of(recording.has_chroma(), plane) == 1 {
         recording.grid().chroma_rect(rect)
     } else {
         rect

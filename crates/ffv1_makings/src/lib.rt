@@ -5,18 +5,14 @@ mod asked;
 mod coded;
 mod encoder;
 mod maker;
-mod parity;
-mod plane;
 mod range;
 mod record;
-mod rice;
 mod sets;
 mod slice;
 mod spec;
 mod states;
 mod successors;
 mod transitions;
-mod writer;
 
 pub use maker::Maker;
 pub use record::make_recording_record;

@@ -1,8 +1,7 @@
 //! Rows of samples written by the range coder (RFC 9043, section 3.8.1).
 
 use crate::encoder::Encoder;
-use crate::plane::{CodedPlane, RowWriter};
-use ffv1_vectors::MakeFault;
+use ffv1_vectors::{CodedPlane, MakeFault, RowWriter};
 
 /// Writes samples as signed symbols, each at the 32 states of its context in its group.
 #[derive(Drop)]

@@ -6,12 +6,11 @@ ghost use Rattle.ffv1_makings.specs.Asked.{IsAskedRecording};
 
 use crate::asked::is_asked;
 use crate::encoder::Encoder;
-use crate::parity::add_parity;
 use crate::spec::{RecordingSpec, SetSpec};
 use crate::successors::Successors;
 use ffv1_bits::GREATEST_SIDE;
 use ffv1_range::{Recording, SetupFault};
-use ffv1_vectors::MakeFault;
+use ffv1_vectors::{MakeFault, with_parity};
 use std::alloc::Global;
 
 /// The record with its parity, returned only if it reads back as what was asked: `Recording::read` for frames whose sides have
@@ -41,9 +40,7 @@ pub(crate) fn spell_recording(alloc: Global, spec: &RecordingSpec) -> Result<Vec
     spell_sets(&mut encoder, &spec.sets)?;
     spell_initial_states(&mut encoder, &mut states, &spec.sets)?;
     encoder.all_unsigned(&mut states, &[spec.ec, spec.intra])?;
-    let mut bytes = encoder.finish()?;
-    add_parity(&mut bytes)?;
-    Ok(bytes)
+    with_parity(encoder.finish()?)
 }
 
 /// Writes the deltas of the transitions, with coder_type 2.

@@ -2,16 +2,13 @@
 
 use crate::coded::coded_planes;
 use crate::encoder::Encoder;
-use crate::parity::add_parity;
-use crate::plane::{CodedPlane, RowWriter};
 use crate::range::RangeWriter;
-use crate::rice::RiceWriter;
 use crate::spec::{RecordingSpec, SliceSpec};
 use crate::states::GroupStates;
 use crate::successors::Successors;
 use ffv1_range::Recording;
 use ffv1_rice::VlcState;
-use ffv1_vectors::MakeFault;
+use ffv1_vectors::{CodedPlane, MakeFault, RiceWriter, with_parity, write_planes};
 use std::alloc::Global;
 
 /// The most bytes that a slice can have before its footer.
@@ -23,63 +20,6 @@ pub(crate) struct Making {
     pub(crate) spec: RecordingSpec,
     pub(crate) recording: Recording,
     pub(crate) successors: Successors,
-}
-
-/// Writes each plane of a slice, in coded order (section 4.7).
-fn write_planes<W: RowWriter>(
-    writer: &mut W,
-    planes: &[CodedPlane<'_>],
-    is_rgb: bool,
-) -> Result<(), MakeFault> {
-    if is_rgb {
-        write_row_after_row(writer, planes)
-    } else {
-        write_plane_after_plane(writer, planes)
-    }
-}
-
-/// Writes each plane of Y, Cb, Cr and alpha.
-fn write_plane_after_plane<W: RowWriter>(
-    writer: &mut W,
-    planes: &[CodedPlane<'_>],
-) -> Result<(), MakeFault> {
-    for plane in planes {
-        writer.begin_plane();
-        write_plane(writer, plane)?;
-    }
-    Ok(())
-}
-
-/// Writes a plane, row by row.
-fn write_plane<W: RowWriter>(writer: &mut W, plane: &CodedPlane<'_>) -> Result<(), MakeFault> {
-    for y in 0..plane.height {
-        writer.row(plane, y)?;
-    }
-    Ok(())
-}
-
-/// Writes the first row of each plane, then the second of each, and so on.
-fn write_row_after_row<W: RowWriter>(
-    writer: &mut W,
-    planes: &[CodedPlane<'_>],
-) -> Result<(), MakeFault> {
-    let height = planes.first().map_or(0, |plane| plane.height);
-    for y in 0..height {
-        write_rows(writer, planes, y)?;
-    }
-    Ok(())
-}
-
-/// Writes a row of each plane.
-fn write_rows<W: RowWriter>(
-    writer: &mut W,
-    planes: &[CodedPlane<'_>],
-    y: usize,
-) -> Result<(), MakeFault> {
-    for plane in planes {
-        writer.row(plane, y)?;
-    }
-    Ok(())
 }
 
 /// The slice, and the states that it leaves.
@@ -168,7 +108,7 @@ fn with_footer(
     bytes.extend_from_slice(&[high, middle, low])?;
     if spec.ec == 1 {
         bytes.push(slice.status)?;
-        add_parity(&mut bytes)?;
+        return with_parity(bytes);
     }
     Ok(bytes)
 }
