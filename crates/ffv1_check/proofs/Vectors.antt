@@ -1,9 +1,10 @@
 -- Lines as they are printed, computed.
 use Rattle.std.proofs.Common.{◌≡◌, ℕ, ◌-◌, ℤ, pos, List, [], ◌∷◌, true, false, refl}
-use Rattle.std.specs.Prelude.{codes, Some}
+use Rattle.std.specs.Prelude.{codes, replicate, Some}
 use Rattle.std.specs.Fmt.{digits}
 use Rattle.ffv1_check.specs.Findings.{line_text}
 use Rattle.ffv1_slice.specs.declared.chain.ChainEnd.TheVariants.{Whole}
+use Rattle.matroska_parts.specs.RecordParts.{record_place}
 use Rattle.matroska_parts.specs.declared.top_elements.TopElement.{TopElement}
 use Rattle.matroska_parts.specs.declared.parts.Part.{Part}
 use Rattle.matroska_parts.specs.declared.parts.Part.TheVariants as part
@@ -70,6 +71,10 @@ of_ffv1 = record {
   width = 48;
   height = 32;
 }
+
+-- a record of 42 bytes after a header of 40, in a Tracks whose content begins at 262
+record_after_header : record_place 262 record of_ffv1 { private = record { ref_ptr = (0, 0); now = replicate 82 0 }; private_at = 91 } 42 ≡ 393
+record_after_header = refl
 
 two_frames_count : track_count_of of_ffv1 0 two_frames ≡ record { number = 1; codec = of_ffv1.codec; blocks = 2; checked = 1 }
 two_frames_count = refl

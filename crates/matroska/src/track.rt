@@ -1,5 +1,5 @@
 //! Tracks, as a TrackEntry describes each (RFC 9559, section 5.1.4).
-ghost use Rattle.std.specs.Prelude.{◌≡◌, ◌+◌, ◌<◌, ◌^◌, ◌↔◌, length, IsTrue, IsSome, IfOk};
+ghost use Rattle.std.specs.Prelude.{◌≡◌, ◌<◌, ◌^◌, ◌↔◌, IsTrue, IsSome, IfOk};
 ghost use Rattle.ebml.specs.Contents.{OfLast, OfLastPlaced};
 ghost use Rattle.matroska.specs.Tracks.{number_found, bytes_found, place_found, IsStringOf, IsTrackOf, AreTracksOf};
 
