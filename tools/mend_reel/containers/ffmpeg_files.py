@@ -39,7 +39,7 @@ def layout(copies: Sequence[Copy], judge: Judge | None = None, records: bool = T
     containers = [probe(copy) for copy in copies]
     base = max(containers, key=lambda container: (len(container.found()), len(container.tracks), len(container.packets)))
     shown = Shown(copies, containers, base)
-    size, end = ends_at([copy.size for copy in copies], [structure_of(copy).end for copy in copies])
+    size, end = ends_at([copy.size for copy in copies], [structure_of(copy).end for copy in copies], shown.end())
     found, copy = [frame for frame in shown.frames(judge) if frame.end <= size], copies[containers.index(base)]
     tracks = with_records(copy, base.tracks) if records else base.tracks
     others = shown.others(found)
@@ -52,11 +52,14 @@ def layout(copies: Sequence[Copy], judge: Judge | None = None, records: bool = T
                   max(claims, key=lambda each: (claims.count(each), each == base.claims)), end=end, sound=sound)
 
 
-def ends_at(sizes: Sequence[int], ends: Sequence[int | None]) -> tuple[int, int | None]:
-    """Where OUT ends, and where the file does by what most copies say: what lies after that is never preferred to nothing."""
+def ends_at(sizes: Sequence[int], ends: Sequence[int | None], shown: int) -> tuple[int, int | None]:
+    """Where OUT ends, and where the file does by what most copies say: what lies after that is never preferred to nothing. `shown` is where the
+    last packet ends that a container shows: a size that is damaged hides none."""
     known = [end for end in ends if end is not None]
     end = max(known, key=known.count, default=None)
     reaching = [size for size in sizes if end is not None and size >= end]
+    if end is not None and reaching and shown <= end:
+        return end, end
     return (min(reaching) if reaching else max(sizes)), end
 
 
@@ -127,6 +130,10 @@ class Shown:
             for packet in container.packets:
                 if packet.place is not None:
                     self.spots.setdefault((packet.place, packet.size, packet.stream), []).append(packet)
+
+    def end(self) -> int:
+        """Where the last packet ends."""
+        return max((place + size for place, size, _ in self.spots), default=0)
 
     def frames(self, judge: Judge | None) -> list[Frame]:
         """The frames by their places, at the times that the base shows if it does. Of those that overlap the worthiest stand."""

@@ -18,6 +18,7 @@ from ..engine.frame_checks import MOST_BYTES
 from ..model import Claims, Content, Copy, Fault, Track, or_fault
 from . import own_checks
 from .known import structure_of
+from .structure import Flaw
 
 # How far after the place that ffprobe reports a packet's bytes are looked for, and after how many misses they no longer are.
 FARTHEST, MOST_MISSES = 64, 16
@@ -157,11 +158,12 @@ def ask(copy: Copy) -> Probed:
 
 @contextlib.contextmanager
 def address(copy: Copy) -> Iterator[str]:
-    """How FFmpeg gets a copy: up to where there are more parts than are walked, as it would walk them all; and where no part leads to
-    its tables, of a file without media in which these lie where they are expected."""
+    """How FFmpeg gets a copy: up to where there are more parts than are walked, as it would walk them all, or where another file follows one
+    whose parts hang together; and where no part leads to its tables, of a file without media in which these lie where they are expected."""
     made = structure_of(copy)
     if made.table is None:
-        yield "file:" + copy.path if made.stop is None else f"subfile,,start,0,end,{made.stop},,:{copy.path}"
+        end = made.end if made.stop is None and [found.flaw for found in made.flaws] == [Flaw.AFTER_END] else made.stop
+        yield "file:" + copy.path if end is None else f"subfile,,start,0,end,{end},,:{copy.path}"
         return
     expected, place, size = made.table
     with or_fault("cannot write a working file"), tempfile.NamedTemporaryFile() as view:
