@@ -5,6 +5,7 @@
  *   EACH     before each read and write so many in a row are interrupted
  *   FAILS    the name of the file whose reads or writes fail, once PLACE bytes of it were taken, with the number ERROR, or take nothing
  *            where that is 0; and go on after TIMES of them, where that is not 0
+ *   OPENING  which opening of that file fails so, from 1; each one, where it is 0
  *   LOG      the file descriptor to which a line is written for each of these files that is opened or made, also if it stands for
  *            a standard stream then, that was read to its end, and that is closed
  */
@@ -23,13 +24,13 @@
 struct device {
     char name[LONGEST];
     size_t taken;
-    unsigned long failed, interrupted;
+    unsigned long opening, failed, interrupted;
 };
 
 static struct device devices[MOST];
 static const char *failing;
 static size_t bite, place;
-static unsigned long each, times;
+static unsigned long each, times, opening, openings;
 static int error_number, log_descriptor;
 static ssize_t (*system_read)(int, void *, size_t);
 static ssize_t (*system_write)(int, const void *, size_t);
@@ -55,6 +56,7 @@ static void begin(void)
     place = number("PLACE");
     each = number("EACH");
     times = number("TIMES");
+    opening = number("OPENING");
     error_number = (int)number("ERROR");
     log_descriptor = (int)number("LOG");
     strcpy(devices[1].name, "1");
@@ -96,6 +98,8 @@ static int fails(struct device *device, size_t *count, ssize_t *result)
     if (bite && *count > bite)
         *count = bite;
     if (!failing || strcmp(failing, device->name) != 0 || (times && device->failed == times))
+        return 0;
+    if (opening && device->opening != opening)
         return 0;
     if (device->taken < place) {
         if (*count > place - device->taken)
@@ -149,6 +153,8 @@ static int opened(int fd, const char *path, int flags)
         return fd;
     memset(&devices[fd], 0, sizeof devices[fd]);
     strcpy(devices[fd].name, path);
+    if (failing && strcmp(failing, path) == 0)
+        devices[fd].opening = ++openings;
     report((flags & O_ACCMODE) == O_RDONLY ? "opened" : "made", path);
     if (fd <= 2)
         report("stream", path);

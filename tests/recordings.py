@@ -160,9 +160,10 @@ class Recording:
         entry += makings.element(0xE0, b"".join(makings.element(name, side.to_bytes(2, "big")) for name, side in zip((0xB0, 0xBA), self.size)))
         tracks = makings.element(0xAE, entry + makings.element(0x63A2, self.inputs["record"]))
         cluster = makings.element(0xE7, b"\0") + makings.element(0xA3, b"\x81\0\0\x80" + self.frame)
-        items = makings.element(0x1654AE6B, tracks) + makings.element(0x1F43B675, readings.element_of(cluster))
+        described, played = makings.element(0x1654AE6B, tracks), makings.element(0x1F43B675, readings.element_of(cluster))
         head = makings.element(0x1A45DFA3, makings.element(0x4282, b"matroska"))
-        self.inputs["matroska"] = head + makings.element(0x18538067, items)
+        self.inputs["matroska"] = head + makings.element(0x18538067, described + played)
+        self.end_of_tracks = len(self.inputs["matroska"]) - len(played)
         printed, status = check_reading.checked(self.inputs["matroska"])
         self.commands.append(Command(["check", "matroska"], printed, None, status))
 

@@ -162,7 +162,7 @@ impl Command {
     fn paths(self) -> (CommandPath, Option<CommandPath>) {
         match self {
             Command::Chain => (CommandPath::Frame, None),
-            Command::Check => (CommandPath::File, None),
+            Command::Check => (CommandPath::File, Some(CommandPath::File)),
             Command::Show | Command::Setup => (CommandPath::Record, None),
             Command::Take | Command::Samples => (CommandPath::Record, Some(CommandPath::Copy(0))),
             Command::Splice => (CommandPath::Copy(0), Some(CommandPath::Copy(1))),
@@ -178,10 +178,10 @@ impl Command {
     /// What its inputs have: nothing where it has one alone.
     fn inputs<'a>(self, files: &'a Files) -> (&'a [u8], &'a [u8]) {
         match self {
-            Command::Chain | Command::Check => (&FRAME, &[]),
+            Command::Chain => (&FRAME, &[]),
             Command::Show | Command::Setup => (&TWO_TILES, &[]),
             Command::Take | Command::Decode | Command::Samples => (&TWO_TILES, &FRAME),
-            Command::Splice => (&FRAME, &FRAME),
+            Command::Check | Command::Splice => (&FRAME, &FRAME),
             Command::Join | Command::Merge => (&files.part, &files.whole),
             Command::Report | Command::Restore => (&files.whole, &[]),
             Command::Picture | Command::AnyPicture => (&files.part, &[]),
@@ -244,7 +244,7 @@ fn run<'a>(
     let profile = Recordings::Profile;
     match command {
         Command::Chain => run_chain(alloc, &mut first, printed),
-        Command::Check => match run_check(alloc, &mut first, printed) {
+        Command::Check => match run_check(alloc, &mut first, &mut second, printed) {
             Ok(_) => Ok(()),
             Err(fault) => Err(fault),
         },

@@ -17,6 +17,8 @@ use Rattle.ffv1_player.specs.declared.fault.SamplesFault.{SamplesFault}
 use Rattle.ffv1_player.specs.declared.fault.SamplesFault.TheVariants as samples
 use Rattle.ffv1_play.specs.declared.play.PlayFault.{PlayFault}
 use Rattle.ffv1_play.specs.declared.play.PlayFault.TheVariants as play
+use Rattle.ebml_reader.specs.declared.fault.ReaderFault.{ReaderFault}
+use Rattle.ebml_reader.specs.declared.fault.ReaderFault.TheVariants as reader
 use Rattle.ffv1_commands.specs.declared.fault.CliFault.{CliFault}
 use Rattle.ffv1_commands.specs.declared.fault.CliFault.TheVariants as faults
 use Rattle.ffv1_commands.specs.declared.path.CommandPath.{CommandPath}
@@ -159,6 +161,11 @@ of_play (play.Samples number fault) = faults.Samples number fault
 of_play play.Out = faults.Write paths.Out
 of_play play.Output = faults.Write paths.StandardOutput
 of_play play.Memory = faults.Memory
+
+-- why the file FILE was not read on, as a fault of a command
+abbrev pub of_reader : ReaderFault → CliFault
+of_reader reader.Read = faults.Read paths.File
+of_reader reader.Memory = faults.Memory
 
 -- a frame's fault as one of a command
 abbrev pub of_frame : FrameFault → CliFault

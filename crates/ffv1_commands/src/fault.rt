@@ -1,9 +1,10 @@
 //! Why a command stopped, and how that is reported.
 ghost use Rattle.std.specs.Prelude.{◌≡◌, IfOk, string_bytes};
-ghost use Rattle.ffv1_commands.specs.Fault.{named_path, fault_line, setup_fault_number, hold_fault_number, hold_file_fault_number, frame_fault_line, samples_fault_line, of_setup, of_hold, of_frame, of_restore, of_mend, of_play, of_hold_file, of_merge, exit_status_of};
+ghost use Rattle.ffv1_commands.specs.Fault.{named_path, fault_line, setup_fault_number, hold_fault_number, hold_file_fault_number, frame_fault_line, samples_fault_line, of_setup, of_hold, of_frame, of_restore, of_mend, of_play, of_reader, of_hold_file, of_merge, exit_status_of};
 ghost use Rattle.ffv1_commands.specs.declared.fault.CliFault.TheVariants.{Memory};
 
 use crate::path::CommandPath;
+use ebml_reader::ReaderFault;
 use ffv1_hold::{HoldFault, HoldFileFault, RestoreFault};
 use ffv1_picture::FrameFault;
 use ffv1_play::PlayFault;
@@ -17,7 +18,8 @@ use std::alloc::{AllocError, AllocFailed, Global};
 pub enum CliFault {
     /// The file could not be opened or read; or it is a record, the payload of `chain` or `decode`, a copy of `splice`, a frame of
     /// `samples`, the list of ranges of `scan` or the list of `mend`, and longer than 2^30 bytes; or it is the file of `check`,
-    /// and has 2^63 bytes or more, or the file of `scan`, and ends before a range does, or a copy of `mend`, and ends within a stretch.
+    /// and has 2^62 bytes or more, or as many parts; or the file of `scan`, and ends before a range does, or a copy of `mend`, and ends
+    /// within a stretch.
     Read(CommandPath),
     /// The file could not be made or written; or it is the one that `merge`, `mend` or `samples` makes, and an input by the same word.
     Write(CommandPath),
@@ -179,6 +181,18 @@ impl From<PlayFault> for CliFault {
             PlayFault::Out => CliFault::Write(CommandPath::Out),
             PlayFault::Output => CliFault::Write(CommandPath::StandardOutput),
             PlayFault::Memory => CliFault::Memory,
+        }
+    }
+}
+
+impl From<ReaderFault> for CliFault {
+    ghost from_gives = { λ fault result. result ≡ of_reader fault };
+
+    /// The file is reported by its path, and memory as `Memory`.
+    fn from(fault: ReaderFault) -> CliFault {
+        match fault {
+            ReaderFault::Read => CliFault::Read(CommandPath::File),
+            ReaderFault::Memory => CliFault::Memory,
         }
     }
 }

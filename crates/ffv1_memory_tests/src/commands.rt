@@ -121,7 +121,7 @@ impl<'a> Run<'a> {
             Command::AnyPicture => unit(run_any_picture(alloc, &mut both, made, printed)),
             Command::Splice => splice_damaged(alloc, made, printed),
             Command::Scan => scan_frame(alloc, printed),
-            Command::Check => unit(run_check(alloc, &mut matroska().as_slice(), printed)),
+            Command::Check => check_file(alloc, printed),
             Command::Mend => mend_damaged(alloc, made, printed),
             Command::Decode => decode_payload(alloc, made, printed),
             Command::Samples => play_payload(alloc, made, printed),
@@ -177,6 +177,13 @@ fn splice_damaged(alloc: Global, made: &mut Buffer, printed: &mut Buffer) -> Res
 fn scan_frame(alloc: Global, printed: &mut Buffer) -> Result<(), CliFault> {
     let (mut ranges, mut frame) = (b"0 336\n".as_slice(), RECORDED.as_slice());
     unit(run_scan(alloc, &mut ranges, &mut frame, printed))
+}
+
+/// `run_check` of the file.
+fn check_file(alloc: Global, printed: &mut Buffer) -> Result<(), CliFault> {
+    let file = matroska();
+    let (mut first, mut second) = (file.as_slice(), file.as_slice());
+    unit(run_check(alloc, &mut first, &mut second, printed))
 }
 
 /// `run_mend` of both damaged copies as one stretch.

@@ -58,11 +58,14 @@ module _ {T : Type 0} (a b : ReadLog) (x y : WriteLog) where
   setup_unread width height (Err (faults.Read path)) ((same, unread), kept) = unread
   setup_unread width height (Err fault) reported = tt
 
-module _ (a b : ReadLog) (x y : WriteLog) where
-  pub check_unread : (r : Result Bool CliFault) → ChecksDevices r a b x y → IfErr r (IfUnread (λ _. IsUnchecked a b))
-  check_unread (Ok value) reported = tt
-  check_unread (Err (faults.Read path)) (same, unread, kept) = unread
-  check_unread (Err fault) reported = tt
+-- both sources are of one file
+module _ {Device : Type 0} (is_at : List ℕ → Device → Type 0) (log : Device → ReadLog) (word : List ℕ) (a b c d : Device) (at : is_at word a) (at_too : is_at word c) where
+  pub check_unread : (x y : WriteLog) (r : Result Bool CliFault) → ChecksDevices r (log a) (log b) (log c) (log d) x y
+      → IfErr r (IfUnread (λ _. SomeSource is_at log IsUnchecked word))
+  check_unread x y (Ok value) reported = tt
+  check_unread x y (Err (faults.Read path)) (same, inl (stopped, kept), printed) = (a, b, at, inl stopped)
+  check_unread x y (Err (faults.Read path)) (same, inr (found, finds, unread), printed) = (c, d, at_too, unread)
+  check_unread x y (Err fault) reported = tt
 
 -- ---- holding files
 

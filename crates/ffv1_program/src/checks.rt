@@ -10,7 +10,7 @@ use ffv1_devices::ThroughWrite;
 use std::alloc::Global;
 use std::io::Write;
 
-/// Checks the file of this path.
+/// Checks the file of this path, which is opened twice.
 ///
 /// It stops where `check_of` does. After a fault that is not `Write` nothing was printed.
 pub(crate) fn check_named<'a, F: FileSystem<'a>, W: Write>(
@@ -24,9 +24,12 @@ pub(crate) fn check_named<'a, F: FileSystem<'a>, W: Write>(
         nothing_written (printed_by W.contents output.old output.new)
         (Check file.entry) result }
 {
+    let mut first = files.device(file);
+    let mut second = files.device(file);
     check_of(
         alloc,
-        &mut files.device(file),
+        &mut first,
+        &mut second,
         &mut ThroughWrite::new(output),
     )
 }

@@ -32,7 +32,7 @@ const ROWS: [Row; 31] = [
         1,
         "ranges fault 1",
     ),
-    (&["check", "1"], b"ab", b"", 1, "false"),
+    (&["check", "1"], b"ab", b"", 11, "false"),
     (&["check", "0"], b"ab", b"", 0, "cannot read 0"),
     (&["show", "1", "2", "2"], b"ab", b"", 1, "setup fault 1"),
     (
@@ -197,7 +197,8 @@ fn opened(
     Ok((order.number(), reported))
 }
 
-/// Each command opens the files of its words in their order, each once, and makes its own after that, unless a fault comes first.
+/// Each command opens the files of its words in their order, each once, and that of `check` twice, and makes its own after that, unless a
+/// fault comes first.
 #[test]
 fn files_are_opened_in_their_order(rt: HostRuntime) -> Result<(), Fail> {
     for (words, first, others, files, text) in ROWS {

@@ -2,12 +2,11 @@
 use Rattle.std.specs.Prelude.{ℕ, ◌≡◌, ◌≤◌, List, length, Option, Result, Ok, Err}
 use Rattle.std.specs.Io.KnownBytes.{Consumes, IsAtEnd}
 use Rattle.ffv1_bits.specs.Limits.{payload_limit}
-use Rattle.ffv1_devices.specs.Logs.{ReadLog, WriteLog, Reads, Writes, StopsWriting}
+use Rattle.ffv1_devices.specs.Logs.{ReadLog, WriteLog, Writes, StopsWriting}
 use Rattle.ffv1_commands.specs.declared.fault.CliFault.{CliFault}
 use Rattle.ffv1_commands.specs.declared.fault.CliFault.TheVariants as faults
 use Rattle.ffv1_commands.specs.declared.path.CommandPath.{CommandPath}
 use Rattle.ffv1_commands.specs.declared.path.CommandPath.TheVariants as paths
-use Rattle.ffv1_commands.specs.CheckText.{IsUnchecked}
 use Rattle.ffv1_commands.specs.Devices.{TakesWhole, FileStops, CopyStops, BothStop}
 
 -- A reader's bytes were taken to their end, and are not too many.
@@ -41,14 +40,3 @@ WritesNamed path (Err fault) old new bytes = (fault ≡ faults.Write path) × St
 abbrev pub WritesBoth : {T : Type 0} → Result T CliFault → (file text : List ℕ) → (out_old out_new output_old output_new : WriteLog) → Type 0
 WritesBoth (Ok x) file text out_old out_new output_old output_new = Writes out_old out_new file × Writes output_old output_new text
 WritesBoth (Err fault) file text out_old out_new output_old output_new = BothStop fault file text out_old out_new output_old output_new
-
--- how the file of `check` was not read
-abbrev pub CheckedStops : CliFault → ReadLog → ReadLog → Type 0
-CheckedStops (faults.Read path) old new = (path ≡ paths.File) × IsUnchecked old new
-CheckedStops faults.Memory old new = Unit {0}
-CheckedStops _ old new = ⊥
-
--- it was read whole, or it was not
-abbrev pub ReadsChecked : {T : Type 0} → (T → List ℕ) → Result T CliFault → ReadLog → ReadLog → Type 0
-ReadsChecked items (Ok x) old new = Reads old new (items x) × IsAtEnd new.remaining
-ReadsChecked items (Err fault) old new = CheckedStops fault old new
