@@ -124,6 +124,17 @@ class ScanTest(unittest.TestCase):
                 with self.assertRaisesRegex(Fault, f"did not report what it found in {copy.path}"):
                     self.scan(folder, f"echo '{line}'\n")(copy, [(0, 10)])
 
+    def test_a_file_of_any_length_is_checked_once(self):
+        with tempfile.TemporaryDirectory() as folder, made.opened(bytes(100)) as (copy,):
+            asked = os.path.join(folder, "asked")
+            scan = self.scan(folder, f"echo $1 >> {asked}; echo bytes 100 checked 0; echo whole\n")
+            copy.size = 1 << 40
+            self.assertEqual([scan.check(copy).is_whole, scan.check(copy).is_whole], [True, True])
+            self.assertEqual(pathlib.Path(asked).read_text(), "check\n")
+            scan.forget(copy)
+            self.assertTrue(scan.check(copy).is_whole)
+            self.assertEqual(pathlib.Path(asked).read_text(), "check\ncheck\n")
+
     def test_the_judge_of_the_tests(self):
         with made.opened(frame(1, 10, 20)) as (copy,):
             self.assertEqual(judge(copy, [(0, 46), (0, 45), (1, 45)]), [Judged(2, 2, True), Judged(0, 0, False), Judged(1, 1, False)])

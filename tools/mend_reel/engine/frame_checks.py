@@ -50,11 +50,11 @@ class Scan:
                 self.known[(copy.path, *each)] = judged
         return [self.known.get((copy.path, *each), Judged()) for each in ranges]
 
-    def check(self, copy: Copy) -> file_checks.FileCheck | None:
-        """What a check of a whole Matroska file says, which is made once: nothing of a long one, as the program holds it in memory."""
-        if copy.path not in self.checks and copy.size <= MOST_BYTES:
+    def check(self, copy: Copy) -> file_checks.FileCheck:
+        """What a check of a whole Matroska file says, which is made once."""
+        if copy.path not in self.checks:
             self.checks[copy.path] = file_checks.check(self.program, copy, self.work)
-        return self.checks.get(copy.path)
+        return self.checks[copy.path]
 
     def forget(self, copy: Copy) -> None:
         """Forgets what is known of a file that was made anew."""
