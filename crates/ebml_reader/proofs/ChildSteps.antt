@@ -11,7 +11,7 @@ use Rattle.ebml.specs.declared.head.Head.{Head}
 use Rattle.ebml.proofs.Heads.{heads_are_local, after}
 use Rattle.ebml.proofs.Elements.{SoFar, one_more, head_of_front}
 use Rattle.ebml_reader.specs.Reader.{Held}
-use Rattle.ebml_reader.specs.Inner.Intake.{Passes, Has, IsBounded}
+use Rattle.ebml_reader.specs.Intake.{Passes, Has, IsBounded}
 use Rattle.ebml_reader.specs.Inner.Settled.{HasChildAt, HasNoneAt, ChildrenEndAt}
 use Rattle.std.proofs.lemmas.Bool.{cases_lt}
 use Rattle.ebml_reader.proofs.Steps.{passes-nil, passes-fill, left_is}

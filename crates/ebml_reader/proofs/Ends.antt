@@ -12,7 +12,7 @@ use Rattle.ebml.specs.declared.items.Kind.TheVariants.{Segment, Element, Endless
 use Rattle.ebml.proofs.Heads.{head_longer, heads_are_local}
 use Rattle.ebml.proofs.Elements.{head_of_front, front_head}
 use Rattle.ebml_reader.specs.Reader.{Held}
-use Rattle.ebml_reader.specs.Inner.Intake.{Passes, Has, IsBounded, Whatever}
+use Rattle.ebml_reader.specs.Intake.{Passes, Has, IsBounded, Whatever}
 use Rattle.ebml_reader.specs.Inner.Settled.{BeginsItem, ItemEndsAt, ChildrenEndAt, BeginsNoTop}
 use Rattle.ebml_reader.proofs.Steps.{passes-nil}
 

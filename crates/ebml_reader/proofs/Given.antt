@@ -11,7 +11,7 @@ use Rattle.ebml.specs.declared.items.Kind.TheVariants.{Unknown}
 use Rattle.ebml_reader.specs.declared.settled.Settled.{Settled}
 use Rattle.ebml_reader.specs.declared.fault.ReaderFault.{ReaderFault}
 use Rattle.ebml_reader.specs.Reader.{Held, nothing_held, StandsAfter, AreAllItems, GivesItem, IsFault}
-use Rattle.ebml_reader.specs.Inner.Intake.{Passes}
+use Rattle.ebml_reader.specs.Intake.{Passes}
 use Rattle.ebml_reader.specs.Inner.Settled.{ItemEndsAt, PassesItem, Settles}
 use Rattle.ebml_reader.proofs.Steps.{passes-trans, left_is, still, fault-after}
 

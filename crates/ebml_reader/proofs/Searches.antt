@@ -8,7 +8,7 @@ use Rattle.ebml.specs.Vint.{number_of}
 use Rattle.ebml.specs.Head.{HasHead}
 use Rattle.ebml.specs.Items.{BeginsKnown, long_ids}
 use Rattle.ebml_reader.specs.Reader.{Held}
-use Rattle.ebml_reader.specs.Inner.Intake.{Passes, Has, IsBounded, Whatever}
+use Rattle.ebml_reader.specs.Intake.{Passes, Has, IsBounded, Whatever}
 use Rattle.ebml_reader.specs.Inner.Settled.{BeginsNoTop, PassesItem}
 use Rattle.ebml_reader.proofs.Steps.{passes-nil, passes-fill, passes-pass, passes-trans, left_is, still}
 

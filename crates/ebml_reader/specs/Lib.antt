@@ -1,2 +1,5 @@
 pub mod Reader
+pub mod Intake
+pub mod RunningCrc
+pub mod Pieces
 pub mod Inner

@@ -1,7 +1,7 @@
 //! What was read of a source and not passed yet.
 ghost use Rattle.std.specs.Prelude.{◌≡◌, ◌↔◌, ◌<◌, ◌≤◌, false, IsTrue, length, drop};
 ghost use Rattle.ebml_reader.specs.Reader.{nothing_held};
-ghost use Rattle.ebml_reader.specs.Inner.Intake.{IsBounded, ReadsPiece, FillsUp};
+ghost use Rattle.ebml_reader.specs.Intake.{IsBounded, ReadsPiece, FillsUp};
 
 use crate::fault::ReaderFault;
 use ffv1_devices::{Source, read_some};
@@ -14,9 +14,10 @@ const PIECE: usize = 65536;
 /// A file of so many bytes or more is not read.
 const LIMIT: u64 = 1 << 62;
 
-/// What was read and not passed yet. It lies in `room` from `start` on.
+/// What was read of a source and not passed yet. It is read in pieces of 64 KiB, and grows with the bytes that are there, never by what a size says.
 #[derive(Drop)]
-pub(crate) struct Intake {
+pub struct Intake {
+    // what is held lies in it from `start` on
     room: Vec<u8>,
     start: usize,
     taken: u64,
@@ -36,7 +37,7 @@ impl Model for Intake {
 
 impl Intake {
     /// Before the first byte.
-    pub(crate) fn new(alloc: Global) -> Intake
+    pub fn new(alloc: Global) -> Intake
         ensures { result ≡ nothing_held }
     {
         Intake {
@@ -47,8 +48,8 @@ impl Intake {
         }
     }
 
-    /// The bytes.
-    pub(crate) fn bytes(&self) -> &[u8]
+    /// The bytes that are held.
+    pub fn bytes(&self) -> &[u8]
         ensures bytes { result.now ≡ self.now.bytes }
         ensures bounded { IsBounded self.now }
     {
@@ -56,14 +57,14 @@ impl Intake {
     }
 
     /// Whether the source has ended after them.
-    pub(crate) fn is_ended(&self) -> bool
+    pub fn is_ended(&self) -> bool
         ensures { result ≡ self.now.ended }
     {
         self.is_ended
     }
 
-    /// Passes so many of them.
-    pub(crate) fn pass(&mut self, count: usize)
+    /// Passes so many of them: they are held no longer.
+    pub fn pass(&mut self, count: usize)
         requires { count ≤ length self.old.bytes }
         ensures { self.new ≡ record { bytes = drop count self.old.bytes; taken = self.old.taken; ended = self.old.ended } }
     {
@@ -105,8 +106,11 @@ impl Intake {
         !self.is_ended && ((self.room.len() - self.start) as u64) < size
     }
 
-    /// Reads on, until so many bytes are there or the source has ended.
-    pub(crate) fn fill<S: Source>(&mut self, source: &mut S, size: u64) -> Result<(), ReaderFault>
+    /// Reads on, until so many bytes are held or the source has ended.
+    ///
+    /// Returns `Read` if the source failed, or gave 2^62 bytes, and `Memory` if an allocation fails. After that nothing more is said of what it
+    /// holds.
+    pub fn fill<S: Source>(&mut self, source: &mut S, size: u64) -> Result<(), ReaderFault>
         ensures { FillsUp size result self.old self.new (S.log source.old) (S.log source.new) }
     {
         while self.lacks(size) {

@@ -5,10 +5,17 @@ mod clusters;
 mod elements;
 mod fault;
 mod intake;
+mod pieces;
 mod reader;
+mod running_crc;
 mod settled;
+mod streamed;
 mod unknown;
 
 pub use fault::ReaderFault;
+pub use intake::Intake;
+pub use pieces::{pass_bytes, pass_summed};
 pub use reader::ItemReader;
+pub use running_crc::RunningCrc32;
 pub use settled::FoundItem;
+pub use streamed::{PassedContent, claimed_child, held_child, pass_content};

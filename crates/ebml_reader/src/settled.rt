@@ -1,7 +1,7 @@
 //! The item that begins what is left of a file.
 ghost use Rattle.std.specs.Prelude.{◌≡◌, ◌≢◌, ◌<◌, length};
 ghost use Rattle.ebml.specs.declared.items.Kind.TheVariants.{Unknown};
-ghost use Rattle.ebml_reader.specs.Inner.Intake.{Has, IsBounded};
+ghost use Rattle.ebml_reader.specs.Intake.{Has, IsBounded};
 ghost use Rattle.ebml_reader.specs.Inner.Settled.{BeginsItem, FindsEnd, SettlesItem, ReadsItem};
 
 use crate::clusters::cluster_end;

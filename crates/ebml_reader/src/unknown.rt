@@ -1,6 +1,6 @@
 //! What no element covers: it is searched for the next known ID in pieces, and let go.
 ghost use Rattle.std.specs.Prelude.{◌<◌, length};
-ghost use Rattle.ebml_reader.specs.Inner.Intake.{Has, IsBounded, Whatever};
+ghost use Rattle.ebml_reader.specs.Intake.{Has, IsBounded, Whatever};
 ghost use Rattle.ebml_reader.specs.Inner.Settled.{BeginsNoTop, PassesUnknown};
 
 use crate::fault::ReaderFault;

@@ -11,7 +11,7 @@ use Rattle.ebml.specs.declared.items.Kind.TheVariants.{Unknown}
 use Rattle.ebml_reader.specs.declared.fault.ReaderFault.{ReaderFault}
 use Rattle.ebml_reader.specs.declared.settled.Settled.{Settled}
 use Rattle.ebml_reader.specs.Reader.{Held, IsFault}
-use Rattle.ebml_reader.specs.Inner.Intake.{Passes, IsBounded, Whatever}
+use Rattle.ebml_reader.specs.Intake.{Passes, IsBounded, Whatever}
 
 -- an item of this kind begins the bytes, as if they were all that is left
 abbrev pub BeginsItem : Kind → List ℕ → Type 0

@@ -1,5 +1,5 @@
 use Rattle.std.proofs.Common.{[]}
-use Rattle.ebml_reader.specs.Inner.Intake.{Passes}
+use Rattle.ebml_reader.specs.Intake.{Passes}
 use Rattle.ebml_reader.proofs.Steps.{left_to_read}
 use Rattle.ebml_reader.proofs.intake.Intake.fill.Given as goal
 
