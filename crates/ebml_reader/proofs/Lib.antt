@@ -6,3 +6,4 @@ pub mod Given
 pub mod RunningSteps
 pub mod PieceSteps
 pub mod StreamSteps
+pub mod StartSteps

@@ -1,3 +1,4 @@
 -- Definitions that no contract of a public call reaches: what loops and private calls keep, so that those contracts can be proved.
 pub mod Settled
 pub mod Piece
+pub mod Front

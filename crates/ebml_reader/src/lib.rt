@@ -9,6 +9,7 @@ mod pieces;
 mod reader;
 mod running_crc;
 mod settled;
+mod starts;
 mod streamed;
 mod unknown;
 
@@ -18,4 +19,5 @@ pub use pieces::{pass_bytes, pass_summed};
 pub use reader::ItemReader;
 pub use running_crc::RunningCrc32;
 pub use settled::FoundItem;
+pub use starts::{ItemStart, pass_rest, pass_start, start_and_rest_are_item};
 pub use streamed::{PassedContent, claimed_child, held_child, pass_content};
