@@ -68,3 +68,12 @@ piece_summed count left n crc later last old now mid new x y z bytes so_far piec
   passed = piece_passed so_far.bytes count left n old now mid new x y z so_far.passed piece new_is;
   over = over_more so_far.bytes (take n mid.bytes) crc later last so_far.over (subst (λ l. GoesOver (take n l) later last) same over);
 }
+
+-- ---- with the bytes taken
+
+pub taken_passed : (bytes piece : List ℕ) (count left n : ℕ) (old now mid new : Held) (x y z : ReadLog) (taken : List ℕ) → PassedThese bytes count left old now x y
+    → HasPiece left n now mid y z → piece ≡ mid.bytes → taken ≡ bytes ++ take n piece
+    → new ≡ record { bytes = drop n mid.bytes; taken = mid.taken; ended = mid.ended } → PassedThese taken count (left - n) old new x z
+taken_passed bytes piece count left n old now mid new x y z taken so_far has same taken_is new_is =
+    subst (λ l. PassedThese l count (left - n) old new x z) (sym (taken_is ∙ ap (λ l. bytes ++ take n l) same))
+    (piece_passed bytes count left n old now mid new x y z so_far has new_is)

@@ -1,5 +1,6 @@
 -- Bytes of a source that are passed in pieces.
 use Rattle.std.specs.Prelude.{ℕ, ◌+◌, ◌≡◌, ◌<◌, ◌≤◌, ◌⊎◌, IsTrue, List, [], ◌++◌, length, take, drop, Option, Some, None, Result, Ok, Err, Contains}
+use Rattle.std.specs.Global.{Vec}
 use Rattle.ffv1_devices.specs.Logs.{ReadLog}
 use Rattle.ebml.specs.Head.{HasHead}
 use Rattle.ebml.specs.Children.{IsElement, BeginsNoChild, AreChildren}
@@ -25,6 +26,10 @@ pub record PassesUpTo (count : ℕ) (bytes : List ℕ) (old new : Held) (before 
 abbrev pub PassesBytes : ℕ → Result ℕ ReaderFault → Held → Held → ReadLog → ReadLog → Type 0
 PassesBytes count (Ok passed) old new before after = (bytes : List ℕ) × (passed ≡ length bytes) × PassesUpTo count bytes old new before after
 PassesBytes count (Err fault) old new before after = IsFault fault old.taken before after
+
+abbrev pub TakesBytes : ℕ → Result (Vec ℕ) ReaderFault → Held → Held → ReadLog → ReadLog → Type 0
+TakesBytes count (Ok taken) old new before after = PassesUpTo count taken.items old new before after
+TakesBytes count (Err fault) old new before after = IsFault fault old.taken before after
 
 -- a CRC-32 that has gone over a content goes over these bytes too
 abbrev pub GoesOver : List ℕ → CrcSoFar → CrcSoFar → Type 0

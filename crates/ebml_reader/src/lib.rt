@@ -15,7 +15,7 @@ mod unknown;
 
 pub use fault::ReaderFault;
 pub use intake::Intake;
-pub use pieces::{pass_bytes, pass_summed};
+pub use pieces::{pass_bytes, pass_summed, take_bytes};
 pub use reader::ItemReader;
 pub use running_crc::RunningCrc32;
 pub use settled::FoundItem;

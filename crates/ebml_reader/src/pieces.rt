@@ -1,11 +1,12 @@
 //! Bytes that are passed in pieces, of which one is held at a time.
-ghost use Rattle.ebml_reader.specs.Pieces.{PassesBytes, PassesSummed};
+ghost use Rattle.ebml_reader.specs.Pieces.{PassesBytes, PassesSummed, TakesBytes};
 ghost use Rattle.ebml_reader.specs.Inner.Piece.{FindsPiece};
 
 use crate::fault::ReaderFault;
 use crate::intake::Intake;
 use crate::running_crc::RunningCrc32;
 use ffv1_devices::Source;
+use std::alloc::Global;
 
 /// How many bytes the next piece has, which is held then: at most so many. None if these are 0, or the source has ended.
 fn next_piece<S: Source>(
@@ -59,6 +60,30 @@ pub fn pass_summed<S: Source>(
             return Ok(count - left);
         }
         crc.push(&intake.bytes()[..piece]);
+        intake.pass(piece);
+        left -= piece as u64;
+    }
+}
+
+/// Takes so many bytes, or all that are left of the file. They are held as they come, never by what the count says.
+///
+/// Returns `Read` if the source failed, or gave 2^62 bytes, and `Memory` if an allocation fails.
+pub fn take_bytes<S: Source>(
+    alloc: Global,
+    count: u64,
+    intake: &mut Intake,
+    source: &mut S,
+) -> Result<Vec<u8>, ReaderFault>
+    ensures { TakesBytes count result intake.old intake.new (S.log source.old) (S.log source.new) }
+{
+    let mut taken = Vec::new(alloc);
+    let mut left = count;
+    loop {
+        let piece = next_piece(left, intake, source)?;
+        if piece == 0 {
+            return Ok(taken);
+        }
+        taken.extend_from_slice(&intake.bytes()[..piece])?;
         intake.pass(piece);
         left -= piece as u64;
     }
