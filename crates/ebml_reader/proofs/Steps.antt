@@ -83,3 +83,7 @@ has_by false result long size stops lacks = elim (cases_lt long size) [
 
 pub more_taken : (p : List ℕ) (a b : Held) (x y : ReadLog) → Passes p a b x y → a.taken ≤ b.taken
 more_taken p a b x y step = let counted = step.counted in omega (arith, counted)
+
+-- memory was refused after some steps
+pub memory_after : (p : List ℕ) (a b : Held) (x y : ReadLog) → Passes p a b x y → IsFault faults.Memory a.taken x y
+memory_after p a b x y step = (step.read, step.reads)

@@ -1,6 +1,6 @@
 use Rattle.std.proofs.Common.{[]}
 use Rattle.std.proofs.lemmas.Result.{err_from_is_err_and}
-use Rattle.ebml_reader.proofs.Steps.{fault-after}
+use Rattle.ebml_reader.proofs.Steps.{fault-after, memory_after, passes-fill}
 use Rattle.ebml_reader.proofs.PieceSteps.{none_passed, taken_passed, all_passed}
 use Rattle.ebml_reader.proofs.pieces.take_bytes.Goals as goal
 
@@ -23,3 +23,11 @@ loop-taken-preserved g c =
     taken_passed c.loop-taken.taken.items c.bytes.result.now c.args.count c.loop-taken.left c.in_ok-piece.piece c.args.intake.now c.loop-taken.intake
     c.next_piece.new.intake c.pass.new.self _ _ _ c.extend_from_slice.new.self.items c.loop-taken.invariant c.in_ok-piece.ensures c.bytes.ensures.bytes
     c.in_ok-extend_from_slice.ensures.items c.pass.ensures
+
+pub returns-in_err-extend_from_slice : goal.returns-in_err-extend_from_slice
+returns-in_err-extend_from_slice g c =
+    let inv = c.loop-taken.invariant in
+    let p = err_from_is_err_and c.from_residual-in_err-extend_from_slice.result c.from_residual-in_err-extend_from_slice.ensures.1 in
+    rw (p.1, p.2)
+    (memory_after c.loop-taken.taken.items c.args.intake.now c.next_piece.new.intake _ _
+    (passes-fill c.loop-taken.taken.items c.args.intake.now c.loop-taken.intake c.next_piece.new.intake _ _ _ inv.passes c.in_ok-piece.ensures.passes))
