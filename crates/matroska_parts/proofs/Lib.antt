@@ -12,3 +12,6 @@ pub mod ContentSteps
 pub mod OneSteps
 pub mod BelowSteps
 pub mod Vectors
+pub mod InsideSteps
+pub mod PlacedSteps
+pub mod EndSteps

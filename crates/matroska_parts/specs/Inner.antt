@@ -2,3 +2,4 @@
 pub mod Added
 pub mod Firsts
 pub mod PartsSoFar
+pub mod Inside

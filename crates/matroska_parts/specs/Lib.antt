@@ -9,4 +9,5 @@ pub mod RecordParts
 pub mod ItemParts
 pub mod Named
 pub mod SourceParts
+pub mod StreamedParts
 pub mod Inner

@@ -20,7 +20,7 @@ use std::alloc::{AllocError, Global};
 /// A longer Tracks describes no track.
 const TRACKS_LIMIT: usize = 1 << 24;
 
-const TRACKS: u32 = 0x1654AE6B;
+pub(crate) const TRACKS: u32 = 0x1654AE6B;
 
 /// The tracks that a file's blocks can name, and its parts, in order.
 #[derive(Drop)]
@@ -69,7 +69,7 @@ fn first_tracks<'a>(file: &'a [u8]) -> Option<FirstTracks<'a>>
 }
 
 /// The content of an item, if it is a Tracks.
-pub(crate) fn tracks_content<'a>(kind: &Kind, bytes: &'a [u8]) -> Option<&'a [u8]>
+fn tracks_content<'a>(kind: &Kind, bytes: &'a [u8]) -> Option<&'a [u8]>
     requires { HasItsHead kind.now bytes.now }
     ensures { option_copied result ≡ (if is_tracks kind.now then Some (content_by kind.now bytes.now) else None) }
 {

@@ -36,7 +36,7 @@ pub(crate) fn push_item(
 {
     match kind {
         Kind::Segment(head) => {
-            let opening = opening_of(place, TopElement::Segment, head, bytes);
+            let opening = opening_of(place, TopElement::Segment, head);
             parts.push(Part::Begin(opening))?;
             Ok(())
         }
@@ -73,7 +73,7 @@ fn push_element(
     let content = &bytes[head.length..];
     let crc32 = crc32_of(head, bytes);
     let is_vouched = passes(crc32);
-    parts.push(Part::Begin(opening_of(place, element, head, bytes)))?;
+    parts.push(Part::Begin(opening_of(place, element, head)))?;
     let from = place + head.length as u64;
     push_content(alloc, tracks, is_vouched, head.id, from, content, parts)?;
     push_doc(element, place, content, parts)?;
@@ -89,8 +89,8 @@ fn push_element(
     Ok(())
 }
 
-/// AddsParts the records of the tracks, if they are said here: the content of the Tracks begins at this place, and its CRC-32 passes or not.
-fn push_records_if(
+/// Adds the records of the tracks, if they are said here: the content of the Tracks begins at this place, and its CRC-32 passes or not.
+pub(crate) fn push_records_if(
     tracks: &FileTracks<'_>,
     here: bool,
     is_vouched: bool,
@@ -107,7 +107,7 @@ fn push_records_if(
 }
 
 /// Whether an element at this place is the first Tracks, and not cut.
-fn says_records(first: Option<u64>, place: u64, crc32: Crc32) -> bool
+pub(crate) fn says_records(first: Option<u64>, place: u64, crc32: Crc32) -> bool
     ensures { (found : Option PlacedContent) → SaysWhere first found → result ≡ (is_at place found && is_uncut crc32) }
 {
     is_at(first, place) && is_uncut(crc32)
@@ -134,7 +134,7 @@ fn is_uncut(crc32: Crc32) -> bool
 }
 
 /// Whether an element's CRC-32 passes.
-fn passes(crc32: Crc32) -> bool
+pub(crate) fn passes(crc32: Crc32) -> bool
     ensures { result ≡ passes crc32 }
 {
     match crc32 {

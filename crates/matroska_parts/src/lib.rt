@@ -2,6 +2,7 @@
 #![tactic(auto)]
 
 mod blocks;
+mod elements;
 mod facts;
 mod file_tracks;
 mod files;
@@ -15,7 +16,9 @@ mod records;
 mod top_elements;
 mod tracks_search;
 
+pub use elements::push_span;
 pub use files::{FileParts, file_parts};
+pub use openings::{crc32_by, opening_of};
 pub use parts::{
     BlockPart, Closing, Crc32, Opening, Part, Payload, RecordPart, Span, Standing, TrackBlock,
 };

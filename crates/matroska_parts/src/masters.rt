@@ -133,7 +133,7 @@ fn push_group(
 }
 
 /// AddsParts the parts of a child of a master of the top.
-fn push_master_child(
+pub(crate) fn push_master_child(
     alloc: Global,
     tracks: &FileTracks<'_>,
     is_vouched: bool,

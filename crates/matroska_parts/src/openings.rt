@@ -1,21 +1,23 @@
 //! Where elements of the top begin and end, their CRC-32s, and the DocType of an EBML.
 ghost use Rattle.std.specs.Prelude.{ℕ, List, MatchOption, ◌≡◌, ◌+◌, ◌-◌, ◌<◌, ◌≤◌, ◌^◌, ◌↔◌, IsTrue, length, drop, OnOk};
 ghost use Rattle.ebml.specs.Head.{HasHead};
+ghost use Rattle.ebml_reader.specs.RunningCrc.{RunsOver};
 ghost use Rattle.matroska_parts.specs.Openings.{opening_of, IsCut, HasOne, IsCrc32Of, HasDocType, IsMatroskaName, IsMatroska, AreDocParts};
 ghost use Rattle.matroska_parts.specs.Inner.Added.{AddsParts};
 
 use crate::parts::{Crc32, Opening, Part};
 use crate::top_elements::TopElement;
 use ebml::{Head, child_ids, has_crc32, last_content, next_content, passes_crc32};
+use ebml_reader::RunningCrc32;
 use matroska::text_of;
 use std::alloc::AllocError;
 
 const DOC_TYPE: u32 = 0x4282;
 
 /// Where an element with this head begins, and where it ends by its size.
-pub(crate) fn opening_of(place: u64, element: TopElement, head: &Head, bytes: &[u8]) -> Opening
+pub fn opening_of(place: u64, element: TopElement, head: &Head) -> Opening
     requires place { place < 2 ^ 63 }
-    requires has { HasHead bytes.now head.now }
+    requires has { (bytes : List ℕ) × HasHead bytes head.now }
     ensures { result ≡ opening_of place element head.now }
 {
     let end = match head.size {
@@ -45,6 +47,33 @@ pub(crate) fn crc32_of(head: &Head, bytes: &[u8]) -> Crc32
         return Crc32::Passes;
     }
     Crc32::Fails
+}
+
+/// How an element of the top stands with its CRC-32, which has gone over its content: so many bytes of that are there.
+pub fn crc32_by(head: &Head, there: u64, crc: &RunningCrc32) -> Crc32
+    ensures { (bytes : List ℕ) → head.now.length ≤ length bytes → there ≡ length bytes - head.now.length
+        → RunsOver (drop head.now.length bytes) crc.now → IsCrc32Of head.now bytes result }
+{
+    if is_short(head, there) {
+        return Crc32::Cut;
+    }
+    if child_ids(head.id).is_none() || !crc.has_crc32() {
+        return Crc32::Absent;
+    }
+    if crc.passes() {
+        return Crc32::Passes;
+    }
+    Crc32::Fails
+}
+
+/// Whether so many bytes are fewer than the size of an element.
+fn is_short(head: &Head, there: u64) -> bool
+    ensures { (bytes : List ℕ) → head.now.length ≤ length bytes → there ≡ length bytes - head.now.length → IsTrue result ↔ IsCut head.now bytes }
+{
+    match head.size {
+        Some(size) => there < size,
+        None => false,
+    }
 }
 
 /// Whether an element runs past the end of the file.
@@ -94,7 +123,7 @@ fn push_doc_type(place: u64, content: &[u8], parts: &mut Vec<Part>) -> Result<()
 }
 
 /// Whether the content of an EBML has exactly one DocType, `matroska` or `webm`.
-fn is_matroska(content: &[u8]) -> bool
+pub(crate) fn is_matroska(content: &[u8]) -> bool
     ensures { IsTrue result ↔ IsMatroska content.now }
 {
     match doc_type(content) {
