@@ -176,7 +176,7 @@ no_content ids size crc held log = record {
 }
 
 -- what is passed up to a place is what is left up to it
-passed_up_to : (count : ℕ) (bytes : List ℕ) (new : Held) → length bytes ≤ count → (length bytes ≡ count) ⊎ IsAllPassed new → take count (bytes ++ (new.bytes ++ [])) ≡ bytes
+pub passed_up_to : (count : ℕ) (bytes : List ℕ) (new : Held) → length bytes ≤ count → (length bytes ≡ count) ⊎ IsAllPassed new → take count (bytes ++ (new.bytes ++ [])) ≡ bytes
 passed_up_to count bytes new most (inl all) = take_at bytes (new.bytes ++ []) count all
 passed_up_to count bytes new most (inr end) =
     ap (take count) (ap (λ l. bytes ++ l) (append-nil new.bytes ∙ end.0) ∙ append-nil bytes) ∙ take_all count bytes most

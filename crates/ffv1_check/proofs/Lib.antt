@@ -20,3 +20,6 @@ pub mod PartOne
 pub mod ReportOne
 pub mod FrameDamage
 pub mod LinkDamage
+pub mod AlikeSteps
+pub mod WaitingSteps
+pub mod ClusterSteps

@@ -3,6 +3,7 @@
 
 mod check;
 mod checked_bytes;
+mod clusters;
 mod findings;
 mod progress;
 mod report;
@@ -10,6 +11,7 @@ mod source;
 mod text;
 mod tops;
 mod track_states;
+mod waiting;
 
 pub use check::{
     check_file, checked_bytes_pass, cut_file_is_seen, records_are_there, report_is_one,

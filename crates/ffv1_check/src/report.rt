@@ -1,10 +1,13 @@
 //! What a check reports of a whole file.
-ghost use Rattle.std.specs.Prelude.{ℕ, ◌≡◌, ◌↔◌, ◌+◌, ◌^◌, ◌<◌, List, [], ◌++◌, IsTrue, Some, IfOk, OnOk, length, slice_get, option_to_list};
+ghost use Rattle.std.specs.Prelude.{ℕ, ◌≡◌, ◌↔◌, ◌+◌, ◌^◌, ◌<◌, List, [], ◌++◌, IsTrue, Some, IfOk, OnOk, length, map, get_or, slice_get, option_to_list};
 ghost use Rattle.std.specs.List.{AllByRecursion};
 ghost use Rattle.matroska.specs.declared.track.Track.{Track};
 ghost use Rattle.ffv1_check.specs.PartFindings.{lines_at, place_of};
 ghost use Rattle.ffv1_check.specs.Reports.{segment_findings, no_track_findings, IsReportOf, is_video};
-ghost use Rattle.ffv1_check.specs.Inner.Stands.{found_list, counted_in, AreCounted, IsChecked, ReporterStands};
+ghost use Rattle.ffv1_check.specs.Inner.Stands.{found_list, no_state, counted_in, AreCounted, IsChecked, ReporterStands};
+ghost use Rattle.matroska_parts.specs.Vouched.{vouched};
+ghost use Rattle.ffv1_check.specs.Inner.Vouched.{WaitsFor};
+ghost use Rattle.ffv1_check.specs.Inner.Counted.{count_of, AreVouched};
 ghost use Rattle.matroska_parts.specs.declared.parts.Part.{Part};
 ghost use Rattle.matroska_parts.specs.Named.{IsBelow};
 
@@ -12,6 +15,7 @@ use crate::findings::{Finding, Line};
 use crate::progress::Progress;
 use crate::tops::Found;
 use crate::track_states::TrackState;
+use crate::waiting::Waiting;
 use matroska::Track;
 use matroska_parts::{Opening, Part};
 use std::alloc::{AllocError, Global};
@@ -92,6 +96,24 @@ impl Reporter {
         Ok(())
     }
 
+    /// How many bytes are checked so far.
+    pub(crate) fn checked(&self) -> u128
+        ensures { result ≡ self.now.progress.checked }
+    {
+        self.progress.checked
+    }
+
+    /// Counts the last parts, which are in a Cluster, as they are if its CRC-32 passes.
+    pub(crate) fn vouch(&mut self, waiting: &Waiting)
+        requires room { self.old.taken < 2 ^ 63 }
+        requires stands { (tracks : ℕ) × (before : List Part) × (own : List Part) × ReporterStands tracks (before ++ own) self.old × WaitsFor tracks before own waiting.now }
+        ensures { (tracks : ℕ) (before own : List Part) → ReporterStands tracks (before ++ own) self.old → WaitsFor tracks before own waiting.now
+            → ReporterStands tracks (before ++ map vouched own) self.new }
+    {
+        vouch_blocks(&mut self.progress.tracks, &waiting.blocks);
+        self.progress.checked = waiting.checked;
+    }
+
     /// The report of a file of this size, whose blocks can name these tracks, after all its parts.
     pub(crate) fn report<'a>(
         self,
@@ -118,6 +140,18 @@ impl Reporter {
             checked: progress.checked,
             is_whole,
         })
+    }
+}
+
+/// Counts a block more as checked for each that is of a track.
+fn vouch_blocks(tracks: &mut [TrackState], blocks: &[usize])
+    requires below { AllByRecursion (λ index. index < length tracks.old) blocks.now }
+    requires room { (index : ℕ) → index < length tracks.old → (get_or tracks.old index no_state).checked + count_of index blocks.now < 2 ^ 64 }
+    ensures { AreVouched blocks.now tracks.old tracks.new }
+{
+    for block in blocks {
+        let state = tracks[*block].vouched();
+        tracks[*block] = state;
     }
 }
 

@@ -7,6 +7,7 @@ ghost use Rattle.ffv1_check.specs.Before.{first_of, timestamp_after};
 ghost use Rattle.ffv1_check.specs.PartFindings.{is_rising, payload_findings, standing_findings};
 ghost use Rattle.ffv1_check.specs.Reports.{is_checked};
 ghost use Rattle.ffv1_check.specs.Inner.Stands.{found_list, TrackStands};
+ghost use Rattle.ffv1_check.specs.Inner.Counted.{checked_more};
 
 use crate::findings::Finding;
 use crate::tops::Found;
@@ -46,6 +47,17 @@ impl TrackState {
             blocks: self.blocks + 1,
             checked: self.checked_with(block),
             last: self.last_with(timestamp, block),
+        }
+    }
+
+    /// With one block more of those that it has checked.
+    pub(crate) fn vouched(&self) -> TrackState
+        requires { self.now.checked + 1 < 2 ^ 64 }
+        ensures { result ≡ checked_more self.now 1 }
+    {
+        TrackState {
+            checked: self.checked + 1,
+            ..*self
         }
     }
 

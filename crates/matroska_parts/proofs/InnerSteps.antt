@@ -80,7 +80,7 @@ module _ (tracks : List Track) (P : Part → Type 0) (unknown : (span : Span) �
       master_below (IsGroupChild tracks vouched) (group_child vouched) _ (place + head_length) content parts is
   master_child_by child.Other vouched place head_length element content parts is = none_below parts is
 
-  master_child : (vouched : Bool) (place : ℕ) (element : List ℕ) (parts : List Part) → IsMasterChild tracks vouched place element parts → AreBelow parts
+  pub master_child : (vouched : Bool) (place : ℕ) (element : List ℕ) (parts : List Part) → IsMasterChild tracks vouched place element parts → AreBelow parts
   master_child vouched place element parts is =
       master_child_by (child_kind is.0.id) vouched place is.0.length element (drop is.0.length element) parts is.2
 

@@ -15,3 +15,4 @@ pub mod Vectors
 pub mod InsideSteps
 pub mod PlacedSteps
 pub mod EndSteps
+pub mod VouchSteps

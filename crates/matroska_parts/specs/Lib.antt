@@ -10,4 +10,5 @@ pub mod ItemParts
 pub mod Named
 pub mod SourceParts
 pub mod StreamedParts
+pub mod Vouched
 pub mod Inner

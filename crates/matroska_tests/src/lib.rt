@@ -13,6 +13,8 @@ mod lines;
 #[cfg(test)]
 mod made;
 #[cfg(test)]
+mod pieces;
+#[cfg(test)]
 mod sources;
 #[cfg(test)]
 mod tracks;

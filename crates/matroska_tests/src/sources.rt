@@ -12,7 +12,7 @@ use std::test::Fail;
 
 /// A reader of bytes that gives so many at a time, and then ends, or fails.
 #[derive(Drop)]
-struct Input<'a> {
+pub struct Input<'a> {
     bytes: &'a [u8],
     most: usize,
     fails: bool,
@@ -29,7 +29,7 @@ impl Read for Input<'_> {
     }
 }
 
-fn source_of<'a>(bytes: &'a [u8], most: usize) -> FromRead<Input<'a>> {
+pub fn source_of<'a>(bytes: &'a [u8], most: usize) -> FromRead<Input<'a>> {
     FromRead::new(Input {
         bytes,
         most,
@@ -99,7 +99,7 @@ fn known_ids_are_seen_where_pieces_end(rt: HostRuntime) -> Result<(), Fail> {
 }
 
 /// The text of the report of a file that is read so many bytes at a time.
-fn text_of(alloc: Global, bytes: &[u8], most: usize) -> Result<String, Fail> {
+pub fn text_of(alloc: Global, bytes: &[u8], most: usize) -> Result<String, Fail> {
     let found = find_tracks(alloc, &mut source_of(bytes, most))
         .ok()
         .ok_or("tracks")?;

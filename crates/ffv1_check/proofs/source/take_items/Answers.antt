@@ -1,63 +1,86 @@
-use Rattle.std.proofs.Common.{◌≡◌, List, ◌++◌, refl, sym, subst, inl, inr, length, arith}
-use Rattle.std.specs.List.{AllByRecursion}
-use Rattle.matroska_parts.specs.declared.parts.Part.{Part}
-use Rattle.matroska_parts.specs.Named.{IsBelow}
-use Rattle.ffv1_check.specs.Inner.Stands.{ReporterStands}
+use Rattle.std.proofs.Common.{◌≡◌, inl, arith}
 use Rattle.std.proofs.lemmas.Result.{err_from_is_err_and}
-use Rattle.matroska_parts.proofs.ReadSteps.{given_at, less_left}
-use Rattle.ffv1_check.proofs.SourceSteps.{own_below, one_more, many_parts, no_room}
+use Rattle.ebml_reader.proofs.Given.{fault_given, all_given}
+use Rattle.matroska_parts.proofs.PlacedSteps.{fault_within}
+use Rattle.ffv1_check.proofs.SourceSteps.{check_none, check_room, check_less, check_on, start_placed}
 use Rattle.ffv1_check.proofs.source.take_items.Goals as goal
 
-pub returns-in_err-item : goal.returns-in_err-item
-returns-in_err-item g c =
-    let inv = c.loop-parts.invariant in
+pub loop-intake-init : goal.loop-intake-init
+loop-intake-init g c = check_none _ c.args.tracks.now.first c.args.tracks.now.tracks c.new-intake.result c.args.reporter.now c.new-intake.ensures c.requires
+
+pub returns-in_err-start : goal.returns-in_err-start
+returns-in_err-start g c =
+    let inv = c.loop-intake.invariant in
     let p = err_from_is_err_and c.from_residual.result c.from_residual.ensures.1 in
-    rw (p.1, p.2) (inl (c.in_err-item.ensures (g.S.Source.log c.args.source.now) inv.items inv.stands))
+    rw (p.1, p.2) (inl (fault_given c.in_err-start.field-0.0 (g.S.Source.log c.args.source.now) _ _ inv.items c.loop-intake.intake inv.stands c.in_err-start.ensures))
 
-pub push-requires : goal.push-requires
-push-requires g c =
-    let inv = c.loop-parts.invariant in
-    let gives = rw c.in-Some.is at (c.in_ok-item.ensures (g.S.Source.log c.args.source.now) inv.items inv.stands) in
-    (gives.bytes, given_at _ inv.items c.in-Some.item c.next.new.self _ gives c.loop-parts.place c.bytes.result.now inv.at c.bytes.ensures)
+pub take_item-requires-clause-start : goal.take_item-requires-clause-start
+take_item-requires-clause-start g c =
+    let starts = rw c.in-Some.is at c.in_ok-start.ensures in
+    (starts.bytes, starts.is, starts.long)
 
-pub returns-then-not-has_room : goal.returns-then-not-has_room
-returns-then-not-has_room g c =
-    let inv = c.loop-parts.invariant in
-    let gives = rw c.in-Some.is at (c.in_ok-item.ensures (g.S.Source.log c.args.source.now) inv.items inv.stands) in
-    let adds = c.in_ok-push.ensures gives.bytes (given_at _ inv.items c.in-Some.item c.next.new.self _ gives c.loop-parts.place c.bytes.result.now inv.at c.bytes.ensures) in
-    let many : c.len.result ≡ length c.push.new.parts.items = omega (arith, c.len.ensures) in
-    inr (
-      refl,
-      many_parts _ c.args.tracks.now.first c.args.tracks.now.tracks c.loop-parts.reader c.next.new.self c.loop-parts.reporter _ _ c.loop-parts.place inv c.in-Some.item
-          gives c.clear.new.self.items c.push.new.parts.items c.clear.ensures.items adds
-          (λ room. no_room c.has_room.result c.if-not-has_room.true (c.has_room.ensures.1 (omega (arith, room, many)))),
-    )
+pub take_item-requires-clause-bounded : goal.take_item-requires-clause-bounded
+take_item-requires-clause-bounded g c =
+    let starts = rw c.in-Some.is at c.in_ok-start.ensures in
+    starts.bounded
 
-pub take-requires-clause-stands : goal.take-requires-clause-stands
-take-requires-clause-stands g c =
-    let inv = c.loop-parts.invariant in
-    let gives = rw c.in-Some.is at (c.in_ok-item.ensures (g.S.Source.log c.args.source.now) inv.items inv.stands) in
-    let adds = c.in_ok-push.ensures gives.bytes (given_at _ inv.items c.in-Some.item c.next.new.self _ gives c.loop-parts.place c.bytes.result.now inv.at c.bytes.ensures) in (
-      length c.args.tracks.now.tracks,
-      inv.parts,
-      inv.reports,
-      subst (AllByRecursion (IsBelow (length c.args.tracks.now.tracks))) (sym c.deref.ensures.value)
-          (own_below _ c.args.tracks.now.first c.args.tracks.now.tracks c.loop-parts.reader c.next.new.self c.loop-parts.reporter _ _ c.loop-parts.place inv
-          c.in-Some.item gives c.clear.new.self.items c.push.new.parts.items c.clear.ensures.items adds),
-    )
+pub take_item-requires-clause-placed : goal.take_item-requires-clause-placed
+take_item-requires-clause-placed g c =
+    let starts = rw c.in-Some.is at c.in_ok-start.ensures in
+    start_placed _ _ _ c.args.tracks.now.first c.args.tracks.now.tracks c.loop-intake.place c.in-Some.start c.loop-intake.intake c.pass_start.new.intake c.loop-intake.reporter
+    c.loop-intake.invariant starts
 
-pub loop-parts-smaller : goal.loop-parts-smaller
-loop-parts-smaller g c =
-    let inv = c.loop-parts.invariant in
-    let gives = rw c.in-Some.is at (c.in_ok-item.ensures (g.S.Source.log c.args.source.now) inv.items inv.stands) in
-    less_left _ inv.items c.in-Some.item c.next.new.self _ gives c.bytes.result.now c.bytes.ensures c.loop-parts.place inv.at
+pub take_item-requires-clause-stands : goal.take_item-requires-clause-stands
+take_item-requires-clause-stands g c = (c.loop-intake.invariant.parts, c.loop-intake.invariant.reports)
 
-pub loop-parts-preserved : goal.loop-parts-preserved
-loop-parts-preserved g c =
-    let inv = c.loop-parts.invariant in
-    let gives = rw c.in-Some.is at (c.in_ok-item.ensures (g.S.Source.log c.args.source.now) inv.items inv.stands) in
-    let adds = c.in_ok-push.ensures gives.bytes (given_at _ inv.items c.in-Some.item c.next.new.self _ gives c.loop-parts.place c.bytes.result.now inv.at c.bytes.ensures) in
-    one_more _ c.args.tracks.now.first c.args.tracks.now.tracks c.loop-parts.reader c.next.new.self c.loop-parts.reporter _ _ c.loop-parts.place inv
-    c.in-Some.item gives c.clear.new.self.items c.push.new.parts.items c.clear.ensures.items adds c.take.new.self
-    (subst (λ (l : List Part). ReporterStands (length c.args.tracks.now.tracks) (inv.parts ++ l) c.take.new.self) c.deref.ensures.value
-    (c.in_ok-take.ensures (length c.args.tracks.now.tracks) inv.parts inv.reports))
+pub returns-in_err-rest : goal.returns-in_err-rest
+returns-in_err-rest g c =
+    let inv = c.loop-intake.invariant in
+    let starts = rw c.in-Some.is at c.in_ok-start.ensures in
+    let p = err_from_is_err_and c.from_residual-in_err-rest.result c.from_residual-in_err-rest.ensures.1 in
+    rw (p.1, p.2)
+    (inl (fault_within c.in_err-rest.field-0.0 (g.S.Source.log c.args.source.now) _ _ _ inv.items starts.bytes c.loop-intake.intake c.pass_start.new.intake inv.stands
+    starts.passes (c.in_err-rest.ensures starts.bytes starts.is starts.long)))
+
+pub overflow_add-place : goal.overflow_add-place
+overflow_add-place g c =
+    let starts = rw c.in-Some.is at c.in_ok-start.ensures in
+    let taken = c.in_ok-rest.ensures starts.bytes starts.is starts.long in
+    let room = check_room _ _ _ _ c.args.tracks.now c.loop-intake.place c.in-Some.start c.loop-intake.intake c.pass_start.new.intake c.take_item.new.intake
+    c.loop-intake.reporter c.take_item.new.reporter c.loop-intake.invariant starts taken.0 c.in_ok-rest.rest taken.1 taken.2 in
+    omega (arith, room)
+
+pub overflow_add-place-in-Some : goal.overflow_add-place-in-Some
+overflow_add-place-in-Some g c =
+    let starts = rw c.in-Some.is at c.in_ok-start.ensures in
+    let taken = c.in_ok-rest.ensures starts.bytes starts.is starts.long in
+    let room = check_room _ _ _ _ c.args.tracks.now c.loop-intake.place c.in-Some.start c.loop-intake.intake c.pass_start.new.intake c.take_item.new.intake
+    c.loop-intake.reporter c.take_item.new.reporter c.loop-intake.invariant starts taken.0 c.in_ok-rest.rest taken.1 taken.2 in
+    omega (arith, room)
+
+pub loop-intake-smaller : goal.loop-intake-smaller
+loop-intake-smaller g c =
+    let starts = rw c.in-Some.is at c.in_ok-start.ensures in
+    let taken = c.in_ok-rest.ensures starts.bytes starts.is starts.long in
+    check_less _ _ _ _ c.args.tracks.now c.loop-intake.place c.in-Some.start c.loop-intake.intake c.pass_start.new.intake c.take_item.new.intake
+    c.loop-intake.reporter c.take_item.new.reporter c.loop-intake.invariant starts taken.0 c.in_ok-rest.rest taken.1 taken.2
+
+pub loop-intake-preserved : goal.loop-intake-preserved
+loop-intake-preserved g c =
+    let starts = rw c.in-Some.is at c.in_ok-start.ensures in
+    let taken = c.in_ok-rest.ensures starts.bytes starts.is starts.long in
+    check_on _ _ _ _ c.args.tracks.now c.loop-intake.place c.in-Some.start c.loop-intake.intake c.pass_start.new.intake c.take_item.new.intake
+    c.loop-intake.reporter c.take_item.new.reporter c.loop-intake.invariant starts taken.0 c.in_ok-rest.rest taken.1 taken.2 taken.3
+
+pub returns : goal.returns
+returns g c =
+    let inv = c.loop-intake.invariant in
+    let ends = rw c.in_default.is at c.in_ok-start.ensures in
+    record {
+      items = inv.items;
+      all = all_given _ _ _ inv.items c.loop-intake.intake c.pass_start.new.intake inv.stands ends.0 ends.1.0 ends.1.1;
+      size_is = inv.at;
+      parts = inv.parts;
+      have = inv.have;
+      reports = inv.reports;
+    }
