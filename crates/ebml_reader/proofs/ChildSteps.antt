@@ -1,5 +1,5 @@
 -- The children of a Cluster, as they are read.
-use Rattle.std.proofs.Common.{◌≡◌, ℕ, ◌+◌, ◌-◌, ◌^◌, ◌<◌, ◌≤◌, List, [], ◌++◌, length, take, drop, min, refl, sym, ap, ◌∙◌, subst, arith, inl, inr}
+use Rattle.std.proofs.Common.{◌≡◌, ℕ, ◌+◌, ◌-◌, ◌^◌, ◌<◌, ◌≤◌, List, [], ◌++◌, length, take, drop, min, sym, ap, ◌∙◌, subst, arith, inl, inr}
 use Rattle.std.specs.Prelude.{IsTrue, Some, Contains}
 use Rattle.std.specs.List.{concat}
 use Rattle.std.proofs.lemmas.List.{length-append, length-drop, length-take-le, take-append-drop, take-append-le, drop-append-le, drop-drop, append-nil, append_assoc, take_rest, take_all}
@@ -14,7 +14,7 @@ use Rattle.ebml_reader.specs.Reader.{Held}
 use Rattle.ebml_reader.specs.Intake.{Passes, Has, IsBounded}
 use Rattle.ebml_reader.specs.Inner.Settled.{HasChildAt, HasNoneAt, ChildrenEndAt}
 use Rattle.std.proofs.lemmas.Bool.{cases_lt}
-use Rattle.ebml_reader.proofs.Steps.{passes-nil, passes-fill, left_is}
+use Rattle.ebml_reader.proofs.Steps.{passes-fill, left_is}
 
 pub record ChildrenSoFar (from end : ℕ) (old new : Held) (x y : ReadLog) : Type 0 where
   pub passes : Passes [] old new x y

@@ -1,5 +1,5 @@
 -- The items that were given so far, and one more.
-use Rattle.std.proofs.Common.{◌≡◌, ℕ, ◌+◌, List, [], ◌∷◌, ◌++◌, length, take, drop, refl, sym, ap, ◌∙◌, subst, arith, zero-add}
+use Rattle.std.proofs.Common.{◌≡◌, ℕ, ◌+◌, List, [], ◌∷◌, ◌++◌, length, take, drop, refl, sym, ap, ◌∙◌, subst, zero-add}
 use Rattle.std.specs.Prelude.{◌≢◌, IsTrue}
 use Rattle.std.proofs.lemmas.List.{length-append, length-take-le, take-append-drop, take-append-le, drop-append-le, append-nil, append_assoc}
 use Rattle.ffv1_devices.specs.Logs.{ReadLog, Reads}
@@ -12,7 +12,7 @@ use Rattle.ebml_reader.specs.declared.settled.Settled.{Settled}
 use Rattle.ebml_reader.specs.declared.fault.ReaderFault.{ReaderFault}
 use Rattle.ebml_reader.specs.Reader.{Held, nothing_held, StandsAfter, AreAllItems, GivesItem, IsFault}
 use Rattle.ebml_reader.specs.Intake.{Passes}
-use Rattle.ebml_reader.specs.Inner.Settled.{ItemEndsAt, PassesItem, Settles}
+use Rattle.ebml_reader.specs.Inner.Settled.{ItemEndsAt, Settles}
 use Rattle.ebml_reader.proofs.Steps.{passes-trans, left_is, still, fault-after}
 
 abbrev pub item_of : Settled → List ℕ → ItemValue

@@ -1,12 +1,12 @@
 -- A CRC-32 that goes over a content, piece by piece.
-use Rattle.std.proofs.Common.{◌≡◌, ℕ, ◌+◌, ◌-◌, ◌<◌, ◌≤◌, List, [], ◌∷◌, ◌++◌, length, take, drop, min, refl, sym, ap, ◌∙◌, subst, arith, inl, inr}
+use Rattle.std.proofs.Common.{◌≡◌, ℕ, ◌+◌, ◌-◌, ◌<◌, ◌≤◌, List, [], ◌++◌, length, take, drop, min, sym, ap, ◌∙◌, subst, arith, inl, inr}
 use Rattle.std.proofs.lemmas.Bool.{cases_lt}
-use Rattle.std.proofs.lemmas.List.{length-append, length-take, length-take-le, take-append-drop, take-append-le, drop-append-le, append-nil, take_all, drop_all}
+use Rattle.std.proofs.lemmas.List.{length-append, length-take, length-take-le, take-append-drop, take-append-le, drop-append-le, append-nil, take_all}
 use Rattle.std.proofs.Math.Seq.{take-append-add, drop-append-add}
 use Rattle.ebml.specs.Crc.{crc32_of}
 use Rattle.ebml.specs.CrcElement.{HasCrc32}
 use Rattle.ebml.proofs.Advances.{crc32_of_none}
-use Rattle.ebml_reader.specs.RunningCrc.{CrcSoFar, RunsOver}
+use Rattle.ebml_reader.specs.RunningCrc.{RunsOver}
 
 -- a front of a front
 front_of_front : (xs : List ℕ) → 6 ≤ length xs → take 2 (take 6 xs) ≡ take 2 xs

@@ -1,10 +1,9 @@
 -- Items that are passed: their starts, and what follows these.
-use Rattle.std.proofs.Common.{◌≡◌, ℕ, ◌+◌, ◌-◌, ◌^◌, ◌<◌, ◌≤◌, List, [], ◌∷◌, ◌++◌, length, take, drop, min, refl, sym, ap, ◌∙◌, subst, arith, inl, inr, le_refl}
-use Rattle.std.specs.Prelude.{◌⊎◌, ◌≢◌, IsTrue, Some, None, Result, Ok, Err}
+use Rattle.std.proofs.Common.{◌≡◌, ℕ, ◌+◌, ◌^◌, ◌<◌, ◌≤◌, List, [], ◌∷◌, ◌++◌, length, take, drop, refl, sym, ap, ◌∙◌, subst, arith, inl, inr, le_refl}
+use Rattle.std.specs.Prelude.{Some, None, Result, Ok, Err}
 use Rattle.std.specs.List.{AllByRecursion, concat}
 use Rattle.std.proofs.lemmas.List.{length-append, length-take-le, append-nil, append_assoc, drop_at, length-drop}
 use Rattle.ffv1_devices.specs.Logs.{ReadLog}
-use Rattle.ebml.specs.Head.{HasHead}
 use Rattle.ebml.specs.Children.{IsChild}
 use Rattle.ebml.specs.Items.{IsHeaded, IsItem, ItemValue, bytes_of_items, EachBefore}
 use Rattle.ffv1_devices.specs.Logs.{Reads}
@@ -19,11 +18,10 @@ use Rattle.ebml.specs.declared.items.Kind.TheVariants as kind
 use Rattle.ebml.proofs.Heads.{head_longer}
 use Rattle.ebml.proofs.Elements.{head_of_front, front_head, concat_snoc, each_snoc}
 use Rattle.ebml_reader.specs.declared.fault.ReaderFault.{ReaderFault}
-use Rattle.ebml_reader.specs.declared.starts.ItemStart.{ItemStart}
 use Rattle.ebml_reader.specs.Reader.{Held, StandsAfter}
 use Rattle.ebml_reader.specs.Intake.{Passes, Has, IsBounded, Whatever}
 use Rattle.ebml_reader.specs.Pieces.{PassesBytes, PassesUpTo, HoldsChild, HasNoChild}
-use Rattle.ebml_reader.specs.Starts.{IsStartOf, StartsItem, PassesChildren, EndsItem, PassesRest, PassesItemOf}
+use Rattle.ebml_reader.specs.Starts.{IsStartOf, StartsItem, EndsItem, PassesRest, PassesItemOf}
 use Rattle.ebml_reader.specs.Inner.Settled.{BeginsItem, PassesUnknown}
 use Rattle.ebml_reader.specs.Inner.Front.{PassesFront, PassesAllChildren}
 use Rattle.ebml_reader.proofs.Steps.{passes-nil, passes-trans, passes-fill, passes-pass, left_is, still}

@@ -5,7 +5,7 @@ use Rattle.std.proofs.lemmas.Bool.{cases_lt}
 use Rattle.ffv1_devices.specs.Logs.{ReadLog, Reads, BreaksOff}
 use Rattle.ffv1_devices.proofs.Steps.{Reads-nil, Reads-trans, BreaksOff-after}
 use Rattle.ebml_reader.specs.Reader.{Held, IsFault, limit}
-use Rattle.ebml_reader.specs.Intake.{Passes, Whatever}
+use Rattle.ebml_reader.specs.Intake.{Passes}
 use Rattle.ebml_reader.specs.declared.fault.ReaderFault.{ReaderFault}
 use Rattle.ebml_reader.specs.declared.fault.ReaderFault.TheVariants as faults
 

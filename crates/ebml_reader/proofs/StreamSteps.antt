@@ -1,16 +1,15 @@
 -- The children of a master, as they are read.
-use Rattle.std.proofs.Common.{◌≡◌, ℕ, ◌+◌, ◌-◌, ◌^◌, ◌<◌, ◌≤◌, List, [], ◌∷◌, ◌++◌, length, take, drop, min, refl, sym, ap, ◌∙◌, subst, arith, inl, inr}
+use Rattle.std.proofs.Common.{◌≡◌, ℕ, ◌+◌, ◌-◌, ◌^◌, ◌<◌, ◌≤◌, List, [], ◌∷◌, ◌++◌, length, take, min, refl, sym, ap, ◌∙◌, subst, arith, inl, inr}
 use Rattle.std.specs.Prelude.{◌⊎◌, IsTrue, Option, Some, None, Contains}
 use Rattle.std.specs.List.{AllByRecursion, concat}
 use Rattle.std.proofs.lemmas.Bool.{cases_lt}
-use Rattle.std.proofs.lemmas.List.{length-append, length-take, length-take-le, take-append-drop, take-append-le, append-nil, append_assoc, take_all, take_at, drop_at}
+use Rattle.std.proofs.lemmas.List.{length-append, length-take, length-take-le, take-append-le, append-nil, take_all, take_at, drop_at}
 use Rattle.ffv1_devices.specs.Logs.{ReadLog}
 use Rattle.ebml.specs.Head.{HasHead}
 use Rattle.ebml.specs.Children.{IsElement, IsChild, BeginsNoChild}
 use Rattle.ebml.specs.declared.head.Head.{Head}
 use Rattle.ebml.proofs.Heads.{heads_are_local, head_longer}
 use Rattle.ebml.proofs.Elements.{head_of_front, front_head, long_head, concat_snoc, each_snoc}
-use Rattle.ebml_reader.specs.declared.streamed.PassedContent.{PassedContent}
 use Rattle.ebml_reader.specs.Reader.{Held}
 use Rattle.ebml_reader.specs.RunningCrc.{CrcSoFar}
 use Rattle.ebml_reader.specs.Intake.{Passes, Has, IsBounded, Whatever}

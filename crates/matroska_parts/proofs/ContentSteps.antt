@@ -1,10 +1,10 @@
 -- What holds of the content of an element of the top and of its parts, as it holds of what it is put together of.
-use Rattle.std.proofs.Common.{◌≡◌, ℕ, zero, suc, ◌+◌, ◌<◌, Bool, List, [], ◌∷◌, ◌++◌, length, take, drop, refl, sym, ap, ◌∙◌, subst, arith}
+use Rattle.std.proofs.Common.{◌≡◌, ℕ, zero, suc, ◌+◌, Bool, List, [], ◌∷◌, ◌++◌, length, take, drop, refl, sym, ap, ◌∙◌, subst, arith}
 use Rattle.std.specs.Prelude.{Option, Some, None}
 use Rattle.std.specs.List.{AllByRecursion, concat, Contains}
 use Rattle.std.proofs.lemmas.List.{take-append-drop, append_assoc, drop_at, take_at}
 use Rattle.ffv1_bits.specs.Parity.{AreBytes}
-use Rattle.ebml.specs.Children.{IsElement, IsChild}
+use Rattle.ebml.specs.Children.{IsChild}
 use Rattle.ebml.specs.Masters.{only_ids, block_group_ids}
 use Rattle.ebml.specs.declared.head.Head.{Head}
 use Rattle.ebml.proofs.Heads.{one_head}

@@ -1,5 +1,5 @@
 -- The content of an element of the top that is no Cluster.
-use Rattle.std.proofs.Common.{◌≡◌, ℕ, ◌+◌, ◌-◌, ◌≤◌, Bool, true, false, cond, eqb, List, [], ◌∷◌, ◌++◌, length, drop, refl, sym, ap, ◌∙◌, subst, arith, rules, inl, inr}
+use Rattle.std.proofs.Common.{◌≡◌, ℕ, ◌+◌, ◌≤◌, Bool, true, false, cond, eqb, List, [], ◌∷◌, length, drop, refl, sym, ap, ◌∙◌, subst, arith, rules, inl, inr}
 use Rattle.std.specs.Prelude.{◌⊎◌, ◌≢◌, IsTrue, ◌↔◌, Option, Some, None, Contains}
 use Rattle.std.specs.List.{AllByRecursion, concat}
 use Rattle.std.proofs.lemmas.Bool.{eqb-true}
@@ -10,12 +10,8 @@ use Rattle.matroska.specs.declared.track.Track.{Track}
 use Rattle.matroska_parts.specs.TopElements.{top_element_of}
 use Rattle.matroska_parts.specs.declared.top_elements.TopElement.{TopElement}
 use Rattle.matroska_parts.specs.declared.top_elements.TopElement.TheVariants as tops
-use Rattle.matroska_parts.specs.declared.masters.ChildKind.{ChildKind}
 use Rattle.matroska_parts.specs.declared.masters.ChildKind.TheVariants as child
-use Rattle.matroska_parts.specs.declared.parts.Part.{Part}
-use Rattle.matroska_parts.specs.declared.parts.Part.TheVariants as part
-use Rattle.matroska_parts.specs.declared.elements.Inside.{Inside}
-use Rattle.matroska_parts.specs.MasterParts.{child_kind, EachHasParts, unknown_parts, AreMasterParts, IsMasterChildBy, IsMasterChild, AreContentPartsBy, AreContentParts}
+use Rattle.matroska_parts.specs.MasterParts.{child_kind, EachHasParts, unknown_parts, IsMasterChildBy, IsMasterChild, AreContentPartsBy, AreContentParts}
 use Rattle.matroska_parts.specs.Openings.{IsMatroska, AreDocParts}
 use Rattle.matroska_parts.specs.Inner.Inside.{doc_parts, IsInside}
 

@@ -1,5 +1,5 @@
 -- Items of a file that are passed, and where they lie.
-use Rattle.std.proofs.Common.{◌≡◌, ℕ, ◌+◌, ◌-◌, ◌^◌, ◌<◌, ◌≤◌, Bool, true, false, List, [], ◌∷◌, ◌++◌, length, drop, refl, sym, ap, ◌∙◌, subst, arith, inl, inr}
+use Rattle.std.proofs.Common.{◌≡◌, ℕ, ◌+◌, ◌-◌, ◌^◌, ◌<◌, true, false, List, [], ◌++◌, length, refl, sym, ap, ◌∙◌, subst, arith, inl, inr}
 use Rattle.std.specs.Prelude.{◌⊎◌, ◌≢◌, Option, Some, None}
 use Rattle.std.proofs.lemmas.List.{length-append, drop_at}
 use Rattle.ffv1_devices.specs.Logs.{ReadLog}
@@ -8,13 +8,12 @@ use Rattle.ebml.specs.declared.head.Head.{Head}
 use Rattle.ebml.specs.declared.items.Kind.{Kind}
 use Rattle.ebml.specs.declared.items.Kind.TheVariants as kind
 use Rattle.ebml_reader.specs.declared.fault.ReaderFault.{ReaderFault}
-use Rattle.ebml_reader.specs.declared.settled.FoundItem.{FoundItem}
 use Rattle.ebml_reader.specs.declared.starts.ItemStart.{ItemStart}
 use Rattle.ebml_reader.specs.Reader.{Held, ReaderState, StandsAfter, GivesItem, IsFault}
 use Rattle.ebml_reader.specs.Intake.{Passes, IsBounded}
 use Rattle.ebml_reader.specs.Pieces.{PassesUpTo}
 use Rattle.ebml_reader.specs.Starts.{IsStartOf, StartsItem, EndsItem, PassesItemOf}
-use Rattle.ebml_reader.proofs.Steps.{fault-after, memory_after}
+use Rattle.ebml_reader.proofs.Steps.{fault-after}
 use Rattle.ebml_reader.proofs.Given.{fault_given}
 use Rattle.ebml_reader.proofs.StartSteps.{item_passed, stands_passed}
 use Rattle.matroska_parts.specs.ItemParts.{is_tracks, content_by}

@@ -4,13 +4,11 @@ use Rattle.std.specs.Prelude.{map}
 use Rattle.std.specs.List.{AllByRecursion, concat}
 use Rattle.matroska.specs.declared.track.Track.{Track}
 use Rattle.matroska_parts.specs.declared.parts.Part.{Part}
-use Rattle.matroska_parts.specs.declared.parts.Part.TheVariants as part
-use Rattle.matroska_parts.specs.declared.parts.BlockPart.{BlockPart}
 use Rattle.matroska_parts.specs.declared.parts.Standing.{Standing}
 use Rattle.matroska_parts.specs.declared.parts.Standing.TheVariants as standing
 use Rattle.matroska_parts.specs.declared.masters.ChildKind.{ChildKind}
 use Rattle.matroska_parts.specs.declared.masters.ChildKind.TheVariants as child
-use Rattle.matroska_parts.specs.BlockParts.{IsStanding, IsBlockPart}
+use Rattle.matroska_parts.specs.BlockParts.{IsStanding}
 use Rattle.matroska_parts.specs.MasterParts.{child_kind, EachHasParts, unknown_parts, AreMasterParts, IsOneBlock, IsGroupChildBy, IsGroupChild, IsMasterChildBy, IsMasterChild}
 use Rattle.matroska_parts.proofs.InnerSteps.{all_append}
 use Rattle.matroska_parts.specs.Vouched.{vouched_standing, vouched, vouched_if, IsUnvouched, IsInner}

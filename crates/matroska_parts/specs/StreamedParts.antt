@@ -1,5 +1,5 @@
 -- The parts of an element of the top that is read from a source: those of each child, and what is said at its end.
-use Rattle.std.specs.Prelude.{ℕ, ◌+◌, ◌≡◌, ◌&&◌, Bool, true, false, List, [], ◌∷◌, ◌++◌, length, Option, Result, Ok, Err}
+use Rattle.std.specs.Prelude.{ℕ, ◌+◌, ◌≡◌, ◌&&◌, false, List, [], ◌∷◌, ◌++◌, length, Result, Ok, Err}
 use Rattle.ffv1_devices.specs.Logs.{ReadLog}
 use Rattle.ebml.specs.declared.head.Head.{Head}
 use Rattle.ebml.specs.declared.items.Kind.TheVariants as kind
@@ -9,7 +9,7 @@ use Rattle.ebml_reader.specs.declared.fault.ReaderFault.{ReaderFault}
 use Rattle.matroska.specs.declared.track.Track.{Track}
 use Rattle.matroska_parts.specs.MasterParts.{IsMasterChild}
 use Rattle.matroska_parts.specs.Openings.{passes}
-use Rattle.matroska_parts.specs.ItemParts.{PlacedContent, is_at, is_uncut, AreRecordPartsIf}
+use Rattle.matroska_parts.specs.ItemParts.{is_at, is_uncut, AreRecordPartsIf}
 use Rattle.matroska_parts.specs.SourceParts.{KnownTracks, AddsItemParts}
 use Rattle.matroska_parts.specs.declared.parts.Part.{Part}
 use Rattle.matroska_parts.specs.declared.parts.Part.TheVariants as part

@@ -11,7 +11,6 @@ use Rattle.matroska_parts.specs.Openings.{AreDocParts}
 use Rattle.matroska_parts.specs.declared.top_elements.TopElement.{TopElement}
 use Rattle.matroska_parts.specs.declared.parts.Part.{Part}
 use Rattle.matroska_parts.specs.declared.parts.Part.TheVariants as part
-use Rattle.matroska_parts.specs.declared.parts.Span.{Span}
 use Rattle.matroska_parts.specs.declared.elements.Inside.{Inside}
 
 -- what is said of the DocType

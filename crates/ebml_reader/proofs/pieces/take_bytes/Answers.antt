@@ -1,4 +1,3 @@
-use Rattle.std.proofs.Common.{[]}
 use Rattle.std.proofs.lemmas.Result.{err_from_is_err_and}
 use Rattle.ebml_reader.proofs.Steps.{fault-after, memory_after, passes-fill}
 use Rattle.ebml_reader.proofs.PieceSteps.{none_passed, taken_passed, all_passed}

@@ -1,9 +1,9 @@
 use Rattle.std.proofs.Common.{◌≡◌, ◌+◌, sym, ap, ◌∙◌, subst}
-use Rattle.std.specs.Prelude.{Some, Contains}
+use Rattle.std.specs.Prelude.{Contains}
 use Rattle.std.proofs.lemmas.Bool.{iff_false}
 use Rattle.ebml.specs.declared.head.Head.{Head}
 use Rattle.ebml_reader.specs.Pieces.{up_to, IsWithin}
-use Rattle.ebml_reader.proofs.StreamSteps.{same_head, head_within, none_claimed, one_claimed}
+use Rattle.ebml_reader.proofs.StreamSteps.{same_head, none_claimed, one_claimed}
 use Rattle.ebml_reader.proofs.streamed.claimed_child.Goals as goal
 
 pub returns-in_default : goal.returns-in_default

@@ -1,7 +1,7 @@
-use Rattle.std.proofs.Common.{◌≡◌, ◌<◌, ◌^◌, length, sym, arith}
+use Rattle.std.proofs.Common.{arith}
 use Rattle.std.proofs.lemmas.Result.{err_from_is_err_and}
 use Rattle.ebml_reader.proofs.Steps.{fault-after, passes-fill}
-use Rattle.ebml_reader.proofs.StreamSteps.{no_content, fits_whole, some_whole, child_more, child_cut, content_end}
+use Rattle.ebml_reader.proofs.StreamSteps.{fits_whole, some_whole, child_more, child_cut, content_end}
 use Rattle.ebml_reader.proofs.streamed.pass_content.Goals as goal
 
 pub returns-in_err-head : goal.returns-in_err-head

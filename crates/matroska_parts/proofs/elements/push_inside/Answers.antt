@@ -1,4 +1,4 @@
-use Rattle.std.proofs.Common.{◌≡◌, ◌+◌, ◌-◌, ◌++◌, List, ℕ, length, drop, refl, sym, ap, ◌∙◌, subst, arith}
+use Rattle.std.proofs.Common.{◌≡◌, ◌++◌, List, ℕ, drop, refl, sym, subst, arith}
 use Rattle.std.proofs.lemmas.List.{length-append, length-drop, drop_at}
 use Rattle.ebml_reader.specs.RunningCrc.{RunsOver}
 use Rattle.matroska_parts.proofs.MasterSteps.{on_ok}

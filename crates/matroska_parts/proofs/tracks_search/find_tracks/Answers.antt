@@ -1,4 +1,4 @@
-use Rattle.std.proofs.Common.{◌≡◌, [], sym, refl, arith, inl, inr, subst}
+use Rattle.std.proofs.Common.{[], refl, arith}
 use Rattle.std.proofs.lemmas.Result.{err_from_is_err_and}
 use Rattle.ebml_reader.proofs.Given.{fault_given, all_given}
 use Rattle.matroska_parts.proofs.ReadSteps.{no_tracks_there}

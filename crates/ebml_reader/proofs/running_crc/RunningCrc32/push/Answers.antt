@@ -1,8 +1,8 @@
-use Rattle.std.proofs.Common.{◌≡◌, ◌-◌, ◌++◌, List, ℕ, length, take, min, sym, ap, ◌∙◌, subst, arith}
+use Rattle.std.proofs.Common.{◌++◌, List, ℕ, take, sym, ap, ◌∙◌, subst, arith}
 use Rattle.std.proofs.lemmas.List.{length-take-le}
 use Rattle.ebml.specs.Crc.{crc32_of}
 use Rattle.ebml.specs.CrcElement.{HasCrc32}
-use Rattle.ebml_reader.specs.RunningCrc.{CrcSoFar, RunsOver}
+use Rattle.ebml_reader.specs.RunningCrc.{RunsOver}
 use Rattle.ebml_reader.proofs.RunningSteps.{pushed}
 use Rattle.ebml_reader.proofs.running_crc.RunningCrc32.push.Goals as goal
 
