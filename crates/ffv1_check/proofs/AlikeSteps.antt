@@ -1,10 +1,8 @@
 -- Nothing but counts of checked blocks and bytes depends on whether a Cluster's CRC-32 passes.
-use Rattle.std.proofs.Common.{◌≡◌, ℕ, ◌+◌, ◌*◌, ◌^◌, ◌<◌, ◌≤◌, ℤ, Bool, true, false, cond, eqb, List, [], ◌∷◌, ◌++◌, length, get_or, refl, sym, ap, ◌∙◌, subst, arith}
-use Rattle.std.specs.Prelude.{map, count_by, sum_by, ◌&&◌, ◌||◌, not, is_some, Option, Some, None, option_map, option_to_list}
-use Rattle.std.specs.List.{AllByRecursion, list_any, fold, flat_map}
-use Rattle.std.proofs.lemmas.List.{length-append}
-use Rattle.std.proofs.lemmas.List.Sums.{fold-append, sum_by-append}
-use Rattle.matroska.specs.NamedTracks.{each_after, by_those_before}
+use Rattle.std.proofs.Common.{◌≡◌, ℕ, ◌+◌, Bool, true, cond, eqb, List, [], ◌∷◌, ◌++◌, refl, sym, ap, ◌∙◌}
+use Rattle.std.specs.Prelude.{map, count_by, ◌||◌, not, is_some, Option, Some, None, option_map, option_to_list}
+use Rattle.std.specs.List.{list_any, fold}
+use Rattle.matroska.specs.NamedTracks.{each_after}
 use Rattle.matroska_parts.specs.declared.top_elements.TopElement.{TopElement}
 use Rattle.matroska_parts.specs.declared.top_elements.TopElement.TheVariants as tops
 use Rattle.matroska_parts.specs.declared.parts.Part.{Part}
@@ -12,14 +10,12 @@ use Rattle.matroska_parts.specs.declared.parts.Part.TheVariants as part
 use Rattle.matroska_parts.specs.declared.parts.Standing.{Standing}
 use Rattle.matroska_parts.specs.declared.parts.Standing.TheVariants as standing
 use Rattle.matroska_parts.specs.declared.parts.TrackBlock.{TrackBlock}
-use Rattle.matroska_parts.specs.declared.parts.Opening.{Opening}
 use Rattle.matroska_parts.specs.declared.parts.Closing.{Closing}
 use Rattle.matroska_parts.specs.declared.parts.Crc32.{Crc32}
 use Rattle.matroska_parts.specs.declared.parts.Crc32.TheVariants as crc
-use Rattle.ffv1_check.specs.declared.findings.Finding.{Finding}
 use Rattle.ffv1_check.specs.declared.findings.Finding.TheVariants as found
 use Rattle.ffv1_check.specs.Before.{begins_any, begins_ebml, first_of, segment_in, first_segment, has_crc32, stamp, timestamp_after, time_of, is_of, is_block_of, time_in, time_at, last_time}
-use Rattle.ffv1_check.specs.PartFindings.{is_misplaced, opening_findings, if_bare, closing_by, closing_findings, is_rising, time_findings, payload_findings, number_of_block, standing_findings, lines_at, place_of, part_findings, lines_of_part, lines_of_parts}
+use Rattle.ffv1_check.specs.PartFindings.{is_misplaced, if_bare, closing_by, is_rising, time_findings, payload_findings, number_of_block, standing_findings, lines_at, place_of, part_findings, lines_of_part, lines_of_parts}
 use Rattle.matroska_parts.specs.Vouched.{vouched_standing, vouched}
 use Rattle.matroska_parts.proofs.VouchSteps.{map_append}
 

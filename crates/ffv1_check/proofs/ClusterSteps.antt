@@ -1,23 +1,23 @@
 -- Clusters that are taken child by child.
-use Rattle.std.proofs.Common.{◌≡◌, ℕ, zero, suc, ◌+◌, ◌-◌, ◌^◌, ◌<◌, ◌≤◌, Bool, true, false, List, [], ◌∷◌, ◌++◌, length, take, drop, refl, sym, ap, ◌∙◌, subst, arith, inl, inr, zero-add}
-use Rattle.std.specs.Prelude.{◌⊎◌, ◌&&◌, IsTrue, map, Option, Some, None, Result, Ok, Err}
+use Rattle.std.proofs.Common.{◌≡◌, ℕ, zero, suc, ◌+◌, ◌-◌, ◌^◌, ◌<◌, ◌≤◌, Bool, false, List, [], ◌∷◌, ◌++◌, length, take, drop, refl, sym, ap, ◌∙◌, subst, arith, inl, inr}
+use Rattle.std.specs.Prelude.{Option, Some, None, Result, Ok, Err}
 use Rattle.std.specs.List.{AllByRecursion, concat, flat_map}
 use Rattle.std.proofs.lemmas.Grind.{flat_map-append}
-use Rattle.std.proofs.lemmas.List.{append_assoc, append-nil, length-append, length-take-le, drop_at, drop_all}
+use Rattle.std.proofs.lemmas.List.{append_assoc, append-nil, length-append, length-take-le, drop_at}
 use Rattle.ffv1_devices.specs.Logs.{ReadLog}
 use Rattle.ebml.specs.Head.{HasHead}
-use Rattle.ebml.specs.Children.{IsChild, BeginsNoChild, AreChildren}
+use Rattle.ebml.specs.Children.{IsChild, BeginsNoChild}
 use Rattle.ebml.specs.Masters.{cluster_id, cluster_ids, child_ids}
 use Rattle.ebml.specs.declared.head.Head.{Head}
 use Rattle.ebml.specs.declared.children.Element.{Element}
 use Rattle.ebml.specs.declared.items.Kind.{Kind}
 use Rattle.ebml.specs.declared.items.Kind.TheVariants as kind
 use Rattle.ebml_reader.specs.declared.fault.ReaderFault.{ReaderFault}
-use Rattle.ebml.proofs.Elements.{concat_snoc, each_snoc, long_head, head_of_front}
+use Rattle.ebml.proofs.Elements.{concat_snoc, each_snoc, long_head}
 use Rattle.ebml_reader.specs.Reader.{Held}
 use Rattle.ebml_reader.specs.RunningCrc.{CrcSoFar, RunsOver}
 use Rattle.ebml_reader.specs.Intake.{Passes, IsBounded, Whatever}
-use Rattle.ebml_reader.specs.Pieces.{PassesUpTo, PassesSummed, GoesOver, up_to, IsWithin, HoldsChild, HasNoChild}
+use Rattle.ebml_reader.specs.Pieces.{PassesSummed, GoesOver, up_to, IsWithin, HoldsChild, HasNoChild}
 use Rattle.ebml_reader.specs.Starts.{PassesChildren}
 use Rattle.ebml_reader.proofs.Steps.{passes-nil, passes-trans, passes-fill, passes-pass, left_is, still}
 use Rattle.ebml_reader.proofs.PieceSteps.{over_none, over_more}
@@ -26,7 +26,7 @@ use Rattle.ebml_reader.proofs.StartSteps.{dropped}
 use Rattle.matroska.specs.declared.track.Track.{Track}
 use Rattle.matroska_parts.specs.TopElements.{top_element_of}
 use Rattle.matroska_parts.specs.Named.{IsBelow}
-use Rattle.matroska_parts.specs.MasterParts.{EachHasParts, unknown_parts, AreMasterParts, IsMasterChild, AreContentPartsBy}
+use Rattle.matroska_parts.specs.MasterParts.{EachHasParts, unknown_parts, IsMasterChild, AreContentPartsBy}
 use Rattle.matroska_parts.specs.Openings.{opening_of, IsCrc32Of, passes}
 use Rattle.matroska_parts.specs.ItemParts.{AreElementParts}
 use Rattle.matroska_parts.specs.SourceParts.{KnownTracks}
@@ -45,7 +45,6 @@ use Rattle.matroska_parts.proofs.EndSteps.{element_parts}
 use Rattle.matroska_parts.proofs.PlacedSteps.{placed_after, placed_room}
 use Rattle.ffv1_check.specs.declared.report.Reporter.{Reporter}
 use Rattle.ffv1_check.specs.declared.waiting.Waiting.{Waiting}
-use Rattle.ffv1_check.specs.CheckedBytes.{checked_bytes}
 use Rattle.ffv1_check.specs.Inner.Stands.{ReporterStands}
 use Rattle.matroska_parts.specs.Vouched.{vouched, vouched_if}
 use Rattle.ffv1_check.specs.Inner.Vouched.{waits, WaitsFor}

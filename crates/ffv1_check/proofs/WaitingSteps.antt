@@ -1,5 +1,5 @@
 -- Blocks that are counted as checked once a Cluster's CRC-32 is known to pass.
-use Rattle.std.proofs.Common.{◌≡◌, ℕ, zero, suc, ◌+◌, ◌*◌, ◌^◌, ◌<◌, ◌≤◌, Bool, true, false, cond, eqb, List, [], ◌∷◌, ◌++◌, length, take, drop, get_or, set, refl, sym, ap, ◌∙◌, subst, arith, get_or-set_same, get_or-set_other}
+use Rattle.std.proofs.Common.{◌≡◌, ℕ, zero, suc, ◌+◌, ◌^◌, ◌<◌, ◌≤◌, Bool, true, false, eqb, List, [], ◌∷◌, ◌++◌, length, take, drop, get_or, set, refl, sym, ap, ◌∙◌, subst, arith, get_or-set_same, get_or-set_other}
 use Rattle.std.specs.Prelude.{map, count_by, sum_by, ◌&&◌}
 use Rattle.std.specs.List.{AllByRecursion, fold, flat_map}
 use Rattle.std.specs.Global.{Vec}
@@ -13,18 +13,17 @@ use Rattle.matroska_parts.specs.declared.parts.Part.{Part}
 use Rattle.matroska_parts.specs.declared.parts.Part.TheVariants as part
 use Rattle.matroska_parts.specs.declared.parts.Standing.{Standing}
 use Rattle.matroska_parts.specs.declared.parts.Standing.TheVariants as standing
-use Rattle.matroska_parts.specs.declared.parts.TrackBlock.{TrackBlock}
 use Rattle.matroska_parts.specs.declared.parts.Payload.{Payload}
 use Rattle.matroska_parts.specs.declared.parts.Payload.TheVariants as payload
 use Rattle.matroska_parts.specs.Named.{IsNamedBelow, IsBelow}
 use Rattle.ffv1_check.specs.declared.track_states.TrackState.{TrackState}
 use Rattle.ffv1_check.specs.declared.report.Reporter.{Reporter}
 use Rattle.ffv1_check.specs.declared.waiting.Waiting.{Waiting}
-use Rattle.ffv1_check.specs.Before.{begins_any, begins_ebml, first_segment, has_crc32, timestamp_after, is_block_of, last_time}
+use Rattle.ffv1_check.specs.Before.{first_segment, timestamp_after, is_block_of, last_time}
 use Rattle.ffv1_check.specs.CheckedBytes.{block_bytes, part_bytes, checked_bytes}
 use Rattle.ffv1_check.specs.PartFindings.{lines_of_parts}
 use Rattle.ffv1_check.specs.Reports.{is_checked, is_checked_in, is_checked_of}
-use Rattle.ffv1_check.specs.Inner.Stands.{TopsStand, TrackStands, EachStands, ProgressStands, ReporterStands, no_state}
+use Rattle.ffv1_check.specs.Inner.Stands.{TopsStand, TrackStands, ReporterStands, no_state}
 use Rattle.matroska_parts.specs.Vouched.{vouched_standing, vouched, IsUnvouched, IsInner}
 use Rattle.ffv1_check.specs.Inner.Vouched.{waits_by, waits_in, waits, WaitsFor}
 use Rattle.ffv1_check.specs.Inner.Counted.{checked_more, count_of, AreVouched}

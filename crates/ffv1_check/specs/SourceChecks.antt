@@ -1,16 +1,11 @@
 -- What a check of a file reports that is read from a source (own): the report of the bytes that the source gave.
-use Rattle.std.specs.Prelude.{ℕ, ◌≡◌, ◌≤◌, ◌^◌, ◌⊎◌, List, ◌++◌, length, Option, Result, Ok, Err}
+use Rattle.std.specs.Prelude.{ℕ, List, Result, Ok, Err}
 use Rattle.std.specs.Io.KnownBytes.{IsAtEnd}
 use Rattle.ffv1_bits.specs.Parity.{AreBytes}
 use Rattle.ffv1_devices.specs.Logs.{ReadLog, Reads}
-use Rattle.ebml.specs.Items.{ItemValue, bytes_of_items}
 use Rattle.ebml_reader.specs.Reader.{IsFault}
 use Rattle.ebml_reader.specs.declared.fault.ReaderFault.{ReaderFault}
-use Rattle.ebml_reader.specs.declared.fault.ReaderFault.TheVariants.{Read}
-use Rattle.matroska.specs.declared.track.Track.{Track}
-use Rattle.matroska_parts.specs.declared.parts.Part.{Part}
 use Rattle.matroska_parts.specs.declared.tracks_search.FoundTracks.{FoundTracks}
-use Rattle.matroska_parts.specs.ItemParts.{PlacedContent, AreItemParts}
 use Rattle.matroska_parts.specs.SourceParts.{found_in, IsFirstTracksOf}
 use Rattle.ffv1_check.specs.declared.report.Report.{Report}
 use Rattle.ffv1_check.specs.Checks.{IsCheckOf}
@@ -22,17 +17,6 @@ pub record IsReadAndChecked (found : FoundTracks) (report : Report) (old new : R
   pub end : IsAtEnd new.remaining
   pub is : AreBytes file → IsFirstTracksOf (found_in found) file → IsCheckOf file report
 
--- What was read begins with items that have 2^62 parts or more.
-pub record HasManyParts (old new : ReadLog) : Type 0 where
-  pub items : List ItemValue
-  pub left : List ℕ
-  pub reads : Reads old new (bytes_of_items items ++ left)
-  pub first : Option PlacedContent
-  pub tracks : List Track
-  pub parts : List Part
-  pub have : AreItemParts first tracks 0 items parts
-  pub many : 2 ^ 62 ≤ length parts
-
 abbrev pub ChecksSource : FoundTracks → Result Report ReaderFault → ReadLog → ReadLog → Type 0
 ChecksSource found (Ok report) old new = IsReadAndChecked found report old new
-ChecksSource found (Err fault) old new = IsFault fault 0 old new ⊎ ((fault ≡ Read) × HasManyParts old new)
+ChecksSource found (Err fault) old new = IsFault fault 0 old new

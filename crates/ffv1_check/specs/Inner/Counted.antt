@@ -1,5 +1,5 @@
 -- Blocks that are counted as checked after others.
-use Rattle.std.specs.Prelude.{ℕ, ◌+◌, ◌≡◌, ◌==◌, ◌<◌, Bool, List, length, get_or, count_by}
+use Rattle.std.specs.Prelude.{ℕ, ◌+◌, ◌≡◌, ◌==◌, ◌<◌, List, length, get_or, count_by}
 use Rattle.ffv1_check.specs.declared.track_states.TrackState.{TrackState}
 use Rattle.ffv1_check.specs.Inner.Stands.{no_state}
 

@@ -1,4 +1,4 @@
-use Rattle.std.proofs.Common.{◌++◌, List, sym, ap, ◌∙◌, subst, replicate, length}
+use Rattle.std.proofs.Common.{◌++◌, sym, subst, replicate, length}
 use Rattle.std.specs.List.{AllByRecursion}
 use Rattle.std.proofs.lemmas.List.{length-replicate}
 use Rattle.matroska_parts.specs.Named.{IsBelow}

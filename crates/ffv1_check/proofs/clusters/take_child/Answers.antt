@@ -1,4 +1,4 @@
-use Rattle.std.proofs.Common.{◌≡◌, List, ℕ, ◌++◌, length, sym, ap, ◌∙◌, subst, false}
+use Rattle.std.proofs.Common.{List, ◌++◌, length, sym, ap, ◌∙◌, subst, false}
 use Rattle.std.specs.List.{AllByRecursion}
 use Rattle.matroska_parts.specs.declared.parts.Part.{Part}
 use Rattle.matroska_parts.specs.Named.{IsBelow}

@@ -1,8 +1,7 @@
-use Rattle.std.proofs.Common.{◌≡◌, ◌+◌, List, ℕ, Ok, Option, length, take, sym, ap, subst, arith}
+use Rattle.std.proofs.Common.{◌+◌, List, ℕ, Ok, length, take, ap, subst, arith}
 use Rattle.std.proofs.lemmas.Result.{err_from_is_err_and}
 use Rattle.std.proofs.lemmas.List.{length-take-le}
-use Rattle.ebml.specs.Masters.{cluster_ids}
-use Rattle.ebml_reader.specs.Pieces.{GoesOver, HoldsChild, HasNoChild}
+use Rattle.ebml_reader.specs.Pieces.{GoesOver}
 use Rattle.ebml_reader.proofs.Steps.{fault-after, memory_after, passes-fill}
 use Rattle.ffv1_check.specs.Inner.TakenParts.{TakesChild}
 use Rattle.ffv1_check.proofs.ClusterSteps.{no_child_taken, child_placed, one_child_taken, children_taken}

@@ -1,4 +1,4 @@
-use Rattle.std.proofs.Common.{◌≡◌, ◌++◌, ◌+◌, [], ◌∷◌, length, ◌∙◌, arith}
+use Rattle.std.proofs.Common.{◌++◌, ◌+◌, [], ◌∷◌, length, ◌∙◌, arith}
 use Rattle.std.proofs.lemmas.Result.{err_from_is_err_and}
 use Rattle.ebml_reader.proofs.Steps.{fault-after, memory_after, passes-trans}
 use Rattle.matroska_parts.specs.declared.parts.Part.TheVariants as part

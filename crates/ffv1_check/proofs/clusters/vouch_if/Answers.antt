@@ -1,5 +1,4 @@
-use Rattle.std.proofs.Common.{sym, ap, subst, ◌++◌, List}
-use Rattle.std.specs.Prelude.{map}
+use Rattle.std.proofs.Common.{sym, subst, ◌++◌, List}
 use Rattle.matroska_parts.specs.declared.parts.Part.{Part}
 use Rattle.matroska_parts.specs.declared.parts.Crc32.{Crc32}
 use Rattle.matroska_parts.specs.Openings.{passes}

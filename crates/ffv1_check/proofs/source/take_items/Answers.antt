@@ -1,4 +1,4 @@
-use Rattle.std.proofs.Common.{◌≡◌, inl, arith}
+use Rattle.std.proofs.Common.{arith}
 use Rattle.std.proofs.lemmas.Result.{err_from_is_err_and}
 use Rattle.ebml_reader.proofs.Given.{fault_given, all_given}
 use Rattle.matroska_parts.proofs.PlacedSteps.{fault_within}
@@ -12,7 +12,7 @@ pub returns-in_err-start : goal.returns-in_err-start
 returns-in_err-start g c =
     let inv = c.loop-intake.invariant in
     let p = err_from_is_err_and c.from_residual.result c.from_residual.ensures.1 in
-    rw (p.1, p.2) (inl (fault_given c.in_err-start.field-0.0 (g.S.Source.log c.args.source.now) _ _ inv.items c.loop-intake.intake inv.stands c.in_err-start.ensures))
+    rw (p.1, p.2) (fault_given c.in_err-start.field-0.0 (g.S.Source.log c.args.source.now) _ _ inv.items c.loop-intake.intake inv.stands c.in_err-start.ensures)
 
 pub take_item-requires-clause-start : goal.take_item-requires-clause-start
 take_item-requires-clause-start g c =
@@ -39,8 +39,8 @@ returns-in_err-rest g c =
     let starts = rw c.in-Some.is at c.in_ok-start.ensures in
     let p = err_from_is_err_and c.from_residual-in_err-rest.result c.from_residual-in_err-rest.ensures.1 in
     rw (p.1, p.2)
-    (inl (fault_within c.in_err-rest.field-0.0 (g.S.Source.log c.args.source.now) _ _ _ inv.items starts.bytes c.loop-intake.intake c.pass_start.new.intake inv.stands
-    starts.passes (c.in_err-rest.ensures starts.bytes starts.is starts.long)))
+    (fault_within c.in_err-rest.field-0.0 (g.S.Source.log c.args.source.now) _ _ _ inv.items starts.bytes c.loop-intake.intake c.pass_start.new.intake inv.stands
+    starts.passes (c.in_err-rest.ensures starts.bytes starts.is starts.long))
 
 pub overflow_add-place : goal.overflow_add-place
 overflow_add-place g c =
