@@ -276,16 +276,16 @@ module _ (known : KnownTracks) (place : ℕ) (head : Head) (start : List ℕ) (i
 
 -- ---- as the code has them
 
-pub end_below : (known : KnownTracks) (closing : Closing) (none span all : List Part) (place : ℕ) (bytes : List ℕ) → none ≡ [] → span ≡ none ++ unknown_parts place bytes
-    → AddsEndParts known closing span all → AllByRecursion (IsBelow (length known.tracks)) all
-end_below known closing none span all place bytes empty span_is ends =
+pub end_below : (known : KnownTracks) (start : ℕ) (closing : Closing) (none span all : List Part) (place : ℕ) (bytes : List ℕ) → none ≡ [] → span ≡ none ++ unknown_parts place bytes
+    → AddsEndParts known start closing span all → AllByRecursion (IsBelow (length known.tracks)) all
+end_below known start closing none span all place bytes empty span_is ends =
     let Below : Part → Type 0 = IsBelow (length known.tracks) in
     let same : all ≡ unknown_parts place bytes ++ (ends.0 ++ part.End closing ∷ []) =
     ends.2 ∙ ap (λ l. l ++ (ends.0 ++ part.End closing ∷ [])) (span_is ∙ ap (λ l. l ++ unknown_parts place bytes) empty) in
     subst (AllByRecursion (IsBelow (length known.tracks))) (sym same)
     (all_append (IsBelow (length known.tracks)) (unknown_parts place bytes) (ends.0 ++ part.End closing ∷ []) (unknown_below place bytes)
     (all_append (IsBelow (length known.tracks)) ends.0 (part.End closing ∷ [])
-    (records_if known.tracks (IsBelow (length known.tracks)) (λ s. tt) (λ t. tt) (λ b below. below) (λ r. tt) (λ p. tt) _ _ closing.place ends.0 ends.1) (tt, tt)))
+    (records_if known.tracks (IsBelow (length known.tracks)) (λ s. tt) (λ t. tt) (λ b below. below) (λ r. tt) (λ p. tt) _ _ start ends.0 ends.1) (tt, tt)))
   where
     unknown_below : (from : ℕ) (xs : List ℕ) → AllByRecursion (IsBelow (length known.tracks)) (unknown_parts from xs)
     unknown_below from [] = tt
@@ -296,7 +296,7 @@ module _ (known : KnownTracks) (place : ℕ) (head : Head) (children rest : ℕ)
     (vouches : (tracks : ℕ) (before own : List Part) → ReporterStands tracks (before ++ own) reporter → WaitsFor tracks before own waiting
     → ReporterStands tracks (before ++ vouched_if (passes crc32) own) mid)
     (none span all parts : List Part) (empty : none ≡ []) (span_is : (bytes : List ℕ) → rest ≡ length bytes → span ≡ none ++ unknown_parts (place + head.length + children) bytes)
-    (ends : AddsEndParts known (closing_with place tops.Cluster (head.length + (children + rest)) (children + rest) crc32) span all) (parts_are : parts ≡ all) where
+    (ends : AddsEndParts known (place + head.length) (closing_with place tops.Cluster (head.length + (children + rest)) (children + rest) crc32) span all) (parts_are : parts ≡ all) where
   pub cluster_ended : {T : Type 0} (result : Result T ReaderFault) → TakesParts parts result mid later → EndsCluster known place head children rest crc waiting result reporter later
   cluster_ended (Err fault) takes = takes
   cluster_ended (Ok x) takes = λ start content bytes before own begins total last runs stands waits_for.

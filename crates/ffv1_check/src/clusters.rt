@@ -194,8 +194,9 @@ fn end_cluster(
     let crc32 = crc32_by(head, length, crc);
     vouch_if(crc32, waiting, reporter);
     let head_length = head.length as u64;
+    let from = place + head_length;
     let mut parts = Vec::new(alloc);
-    push_span(&mut parts, place + head_length + children, rest)?;
+    push_span(&mut parts, from + children, rest)?;
     let closing = Closing {
         place,
         element: TopElement::Cluster,
@@ -203,7 +204,7 @@ fn end_cluster(
         content: length,
         crc32,
     };
-    tracks.push_end(&closing, &mut parts)?;
+    tracks.push_end(from, &closing, &mut parts)?;
     take_parts(reporter, &parts)
 }
 

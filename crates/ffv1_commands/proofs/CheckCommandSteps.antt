@@ -31,10 +31,8 @@ check_unfound a b c output stops.Memory read = (read, ([], Reads-nil c), refl)
 -- the file was not read after that, which leaves the output as it was
 pub check_unread : (a b c d : ReadLog) (output : WriteLog) (found : FoundTracks) → FindsTracks found a b → (fault : ReaderFault) → ChecksSource found (Err fault) c d
     → CheckBreaks (of_reader fault) a b c d output output
-check_unread a b c d output found finds stops.Read (inl stopped) = (refl, inr (found, finds, inl stopped), refl)
-check_unread a b c d output found finds stops.Read (inr (is, many)) = (refl, inr (found, finds, inr many), refl)
-check_unread a b c d output found finds stops.Memory (inl read) = ((finds.read, finds.reads), read, refl)
-check_unread a b c d output found finds stops.Memory (inr (is, many)) = absurd (cc)
+check_unread a b c d output found finds stops.Read stopped = (refl, inr (found, finds, stopped), refl)
+check_unread a b c d output found finds stops.Memory read = ((finds.read, finds.reads), read, refl)
 
 -- there was no memory for the report's text
 pub check_untold : (a b c d : ReadLog) (output : WriteLog) (report : Report) → TakesReport a b c d report → CheckBreaks faults.Memory a b c d output output

@@ -8,7 +8,7 @@ use Rattle.ebml_reader.specs.declared.fault.ReaderFault.TheVariants as stops
 use Rattle.matroska_parts.specs.SourceParts.{FindsTracks}
 use Rattle.matroska_parts.specs.declared.tracks_search.FoundTracks.{FoundTracks}
 use Rattle.ffv1_check.specs.Checks.{IsCheckOf}
-use Rattle.ffv1_check.specs.SourceChecks.{IsReadAndChecked, HasManyParts}
+use Rattle.ffv1_check.specs.SourceChecks.{IsReadAndChecked}
 use Rattle.ffv1_check.specs.ReportLines.{check_text}
 use Rattle.ffv1_check.specs.declared.report.Report.{Report}
 use Rattle.ffv1_commands.specs.Devices.{WritesFront}
@@ -25,14 +25,14 @@ pub record TakesReport (first_old first_new second_old second_new : ReadLog) (re
   pub finds : FindsTracks found first_old first_new
   pub checks : IsReadAndChecked found report second_old second_new
 
--- A source was given up, or gave 2^62 bytes or more; or its items have 2^62 parts or more.
+-- A source was given up, or gave 2^62 bytes or more.
 abbrev pub IsUnchecked : ReadLog → ReadLog → Type 0
-IsUnchecked old new = IsFault stops.Read 0 old new ⊎ HasManyParts old new
+IsUnchecked old new = IsFault stops.Read 0 old new
 
 -- The first source was given up or gave too many bytes, and the second was not touched; or the second went so, after the Tracks was found.
 abbrev pub AreUnchecked : (first_old first_new second_old second_new : ReadLog) → Type 0
 AreUnchecked first_old first_new second_old second_new =
-    (IsFault stops.Read 0 first_old first_new × (second_new ≡ second_old))
+    (IsUnchecked first_old first_new × (second_new ≡ second_old))
     ⊎ ((found : FoundTracks) × FindsTracks found first_old first_new × IsUnchecked second_old second_new)
 
 -- How a fault stopped the command: the file was not read, or memory ran out and no source was given up, which leaves the output as it was; or

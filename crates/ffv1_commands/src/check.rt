@@ -21,11 +21,11 @@ use std::io::{Read, Write};
 /// start. Returns whether the file is whole: no line says that something is wrong, and each block of a video track is checked.
 ///
 /// The file is opened twice: `first` is read as far as its first Tracks, which says what tracks there are, and `second` to its end. One
-/// element of the file's top is held at a time. If both give the same bytes, what is printed and returned is that of these bytes.
+/// block is held at a time, and one piece. If both give the same bytes, what is printed and returned is that of these bytes.
 ///
-/// Any bytes can be judged. Returns `Read` if one of both can't be read or gives 2^62 bytes or more, or if the file's items have 2^62 parts or
-/// more, and `Memory` if an allocation fails: then nothing was written. Where `first` is at fault, `second` was not read. Returns `Write` if
-/// the output fails: then a front of the report was written.
+/// Any bytes can be judged. Returns `Read` if one of both can't be read or gives 2^62 bytes or more, and `Memory` if an allocation fails: then
+/// nothing was written. Where `first` is at fault, `second` was not read. Returns `Write` if the output fails: then a front of the report was
+/// written.
 pub fn run_check<R: Read, S: Read, W: Write>(
     alloc: Global,
     first: &mut R,

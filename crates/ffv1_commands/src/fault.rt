@@ -18,8 +18,7 @@ use std::alloc::{AllocError, AllocFailed, Global};
 pub enum CliFault {
     /// The file could not be opened or read; or it is a record, the payload of `chain` or `decode`, a copy of `splice`, a frame of
     /// `samples`, the list of ranges of `scan` or the list of `mend`, and longer than 2^30 bytes; or it is the file of `check`,
-    /// and has 2^62 bytes or more, or as many parts; or the file of `scan`, and ends before a range does, or a copy of `mend`, and ends
-    /// within a stretch.
+    /// and has 2^62 bytes or more; or the file of `scan`, and ends before a range does, or a copy of `mend`, and ends within a stretch.
     Read(CommandPath),
     /// The file could not be made or written; or it is the one that `merge`, `mend` or `samples` makes, and an input by the same word.
     Write(CommandPath),

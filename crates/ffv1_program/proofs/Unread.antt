@@ -63,7 +63,7 @@ module _ {Device : Type 0} (is_at : List ℕ → Device → Type 0) (log : Devic
   pub check_unread : (x y : WriteLog) (r : Result Bool CliFault) → ChecksDevices r (log a) (log b) (log c) (log d) x y
       → IfErr r (IfUnread (λ _. SomeSource is_at log IsUnchecked word))
   check_unread x y (Ok value) reported = tt
-  check_unread x y (Err (faults.Read path)) (same, inl (stopped, kept), printed) = (a, b, at, inl stopped)
+  check_unread x y (Err (faults.Read path)) (same, inl (stopped, kept), printed) = (a, b, at, stopped)
   check_unread x y (Err (faults.Read path)) (same, inr (found, finds, unread), printed) = (c, d, at_too, unread)
   check_unread x y (Err fault) reported = tt
 

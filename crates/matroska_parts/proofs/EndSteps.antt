@@ -26,7 +26,7 @@ closing_with place element size content crc32 = record { place = place; element 
 pub element_parts : (found : Option PlacedContent) (tracks : List Track) (place : ℕ) (head : Head) (start content : List ℕ) (element : TopElement) (crc32 : Crc32) (n : ℕ)
     (own doc records : List Part) → top_element_of head.id ≡ Some element → length start ≡ head.length → n ≡ length content → IsCrc32Of head (start ++ content) crc32
     → AreContentParts head.id tracks (passes crc32) (place + head.length) content own → AreDocParts element place content doc
-    → AreRecordPartsIf (is_at place found && is_uncut crc32) (passes crc32) place tracks records
+    → AreRecordPartsIf (is_at place found && is_uncut crc32) (passes crc32) (place + head.length) tracks records
     → AreElementParts found tracks place head (start ++ content)
     (part.Begin (opening_of place element head) ∷ (own ++ (doc ++ (records ++ part.End (closing_with place element (head.length + n) n crc32) ∷ []))))
 element_parts found tracks place head start content element crc32 n own doc records known begins long crc32_is own_are doc_are records_are =
@@ -57,7 +57,7 @@ pub inside_parts : (found : Option PlacedContent) (tracks : List Track) (place :
     (opening : Opening) (old p q r new : List Part) → top_element_of head.id ≡ Some element → length start ≡ head.length → IsInside head.id element content inside
     → IsCrc32Of head (start ++ content) crc32 → opening ≡ opening_of place element head → p ≡ old ++ part.Begin opening ∷ []
     → q ≡ p ++ unknown_parts (place + head.length + inside.children) (drop inside.children content) → r ≡ q ++ doc_parts inside.is_matroska place
-    → AddsEndParts record { first = found; tracks = tracks } (closing_with place element (head.length + inside.length) inside.length crc32) r new
+    → AddsEndParts record { first = found; tracks = tracks } (place + head.length) (closing_with place element (head.length + inside.length) inside.length crc32) r new
     → AddsParts (AreElementParts found tracks place head (start ++ content)) old new
 inside_parts found tracks place head start content element crc32 inside opening old p q r new known begins is crc32_is opens p_is q_is r_is ends =
     let own : List Part = unknown_parts (place + head.length + inside.children) (drop inside.children content) in

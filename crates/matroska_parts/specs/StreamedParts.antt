@@ -23,11 +23,11 @@ IsPlacedAt place held = place + length held.bytes ≡ held.taken
 abbrev pub AddsChildParts : List Track → ℕ → List ℕ → (old new : List Part) → Type 0
 AddsChildParts tracks place child old new = (more : List Part) × (new ≡ old ++ more) × IsMasterChild tracks false place child more
 
--- what is said at the end of an element was added: the records, if it is the first Tracks, and the end
-abbrev pub AddsEndParts : KnownTracks → Closing → (old new : List Part) → Type 0
-AddsEndParts known closing old new =
+-- what is said at the end of an element was added, whose content begins at this place: the records, if it is the first Tracks, and the end
+abbrev pub AddsEndParts : KnownTracks → ℕ → Closing → (old new : List Part) → Type 0
+AddsEndParts known from closing old new =
     (records : List Part)
-    × AreRecordPartsIf (is_at closing.place known.first && is_uncut closing.crc32) (passes closing.crc32) closing.place known.tracks records
+    × AreRecordPartsIf (is_at closing.place known.first && is_uncut closing.crc32) (passes closing.crc32) from known.tracks records
     × (new ≡ old ++ (records ++ part.End closing ∷ []))
 
 -- what follows the start of an element was passed, up to its end, and its parts were added

@@ -129,7 +129,7 @@ pub(crate) fn push_inside(
         content: inside.length,
         crc32: crc32_by(head, inside.length, crc),
     };
-    push_end(tracks, first, &closing, parts)
+    push_end(tracks, first, from, &closing, parts)
 }
 
 /// Adds so many bytes that are nothing known, from a place of the file on; nothing if there are none.
@@ -153,19 +153,22 @@ fn push_doc_part(is_matroska: bool, place: u64, parts: &mut Vec<Part>) -> Result
     Ok(())
 }
 
-/// Adds what is said at the end of an element: the records of the tracks, if it is the first Tracks and not cut, and the end.
+/// Adds what is said at the end of an element, whose content begins at a place: the records of the tracks, if it is the first Tracks and not
+/// cut, and the end.
 pub(crate) fn push_end(
     tracks: &FileTracks<'_>,
     first: Option<u64>,
+    from: u64,
     closing: &Closing,
     parts: &mut Vec<Part>,
 ) -> Result<(), AllocError>
+    requires { from < 2 ^ 63 }
     ensures { (known : KnownTracks) → SaysWhere first known.first → known.tracks ≡ tracks.now.named.tracks.items
-        → OnOk result (AddsEndParts known closing.now parts.old.items parts.new.items) }
+        → OnOk result (AddsEndParts known from closing.now parts.old.items parts.new.items) }
 {
     let here = says_records(first, closing.place, closing.crc32);
     let is_vouched = passes(closing.crc32);
-    push_records_if(tracks, here, is_vouched, closing.place, parts)?;
+    push_records_if(tracks, here, is_vouched, from, parts)?;
     parts.push(Part::End(*closing))?;
     Ok(())
 }

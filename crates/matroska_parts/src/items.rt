@@ -18,7 +18,7 @@ use crate::top_elements::{TopElement, top_element};
 use ebml::{Head, Kind};
 use std::alloc::{AllocError, Global};
 
-/// AddsParts the parts of an item at a place of the file; the first Tracks begins at another.
+/// Adds the parts of an item at a place of the file; the first Tracks begins at another.
 pub(crate) fn push_item(
     alloc: Global,
     tracks: &FileTracks<'_>,
@@ -50,7 +50,7 @@ pub(crate) fn push_item(
     }
 }
 
-/// AddsParts those of an element of the top.
+/// Adds those of an element of the top.
 fn push_element(
     alloc: Global,
     tracks: &FileTracks<'_>,

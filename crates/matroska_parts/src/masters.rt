@@ -38,7 +38,7 @@ fn child_kind(id: u32) -> ChildKind
     }
 }
 
-/// AddsParts what is nothing known, from a place of the file on.
+/// Adds what is nothing known, from a place of the file on.
 pub(crate) fn push_unknown(
     parts: &mut Vec<Part>,
     place: u64,
@@ -54,7 +54,7 @@ pub(crate) fn push_unknown(
     Ok(())
 }
 
-/// AddsParts a SimpleBlock or a Block at a place of the file.
+/// Adds a SimpleBlock or a Block at a place of the file.
 fn push_block(
     alloc: Global,
     tracks: &FileTracks<'_>,
@@ -77,7 +77,7 @@ fn push_block(
     Ok(())
 }
 
-/// AddsParts the parts of a child of a BlockGroup.
+/// Adds the parts of a child of a BlockGroup.
 fn push_group_child(
     alloc: Global,
     tracks: &FileTracks<'_>,
@@ -97,7 +97,7 @@ fn push_group_child(
     }
 }
 
-/// AddsParts the parts in the content of a BlockGroup.
+/// Adds the parts in the content of a BlockGroup.
 fn push_group(
     alloc: Global,
     tracks: &FileTracks<'_>,
@@ -132,7 +132,7 @@ fn push_group(
     push_unknown(parts, place + at as u64, &content[at..])
 }
 
-/// AddsParts the parts of a child of a master of the top.
+/// Adds the parts of a child of a master of the top.
 pub(crate) fn push_master_child(
     alloc: Global,
     tracks: &FileTracks<'_>,
@@ -168,7 +168,7 @@ pub(crate) fn push_master_child(
     }
 }
 
-/// AddsParts the parts in the content of an element of the top with this ID, at a place of the file.
+/// Adds the parts in the content of an element of the top with this ID, at a place of the file.
 pub(crate) fn push_content(
     alloc: Global,
     tracks: &FileTracks<'_>,
@@ -188,7 +188,7 @@ pub(crate) fn push_content(
     }
 }
 
-/// AddsParts the parts in the content of a master of the top, with these children.
+/// Adds the parts in the content of a master of the top, with these children.
 fn push_master(
     alloc: Global,
     tracks: &FileTracks<'_>,

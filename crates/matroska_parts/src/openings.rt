@@ -97,7 +97,7 @@ fn has_one(head: &Head, content: &[u8]) -> bool
     }
 }
 
-/// AddsParts that an EBML is no Matroska file's, if so.
+/// Adds that an EBML is no Matroska file's, if so.
 pub(crate) fn push_doc(
     element: TopElement,
     place: u64,

@@ -146,11 +146,17 @@ impl<'a> PlacedTracks<'a> {
         push_master_child(alloc, &self.file, false, place, child, head, parts)
     }
 
-    /// Adds what is said at the end of an element of the top: the records of the tracks, if it is the first Tracks and not cut, and the end. It
-    /// fails only if an allocation fails.
-    pub fn push_end(&self, closing: &Closing, parts: &mut Vec<Part>) -> Result<(), AllocError>
-        ensures { OnOk result (AddsEndParts self.now closing.now parts.old.items parts.new.items) }
+    /// Adds what is said at the end of an element of the top, whose content begins at a place of the file: the records of the tracks, if it is the
+    /// first Tracks and not cut, and the end. It fails only if an allocation fails.
+    pub fn push_end(
+        &self,
+        from: u64,
+        closing: &Closing,
+        parts: &mut Vec<Part>,
+    ) -> Result<(), AllocError>
+        requires { from < 2 ^ 63 }
+        ensures { OnOk result (AddsEndParts self.now from closing.now parts.old.items parts.new.items) }
     {
-        push_end(&self.file, self.found.place, closing, parts)
+        push_end(&self.file, self.found.place, from, closing, parts)
     }
 }

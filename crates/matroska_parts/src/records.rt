@@ -8,7 +8,7 @@ use crate::parts::{Part, RecordPart};
 use matroska::{Track, is_record_wrong, record_of};
 use std::alloc::AllocError;
 
-/// AddsParts those of all tracks, which the Tracks describes whose content begins at this place; its CRC-32 passes or not.
+/// Adds those of all tracks, which the Tracks describes whose content begins at this place; its CRC-32 passes or not.
 pub(crate) fn push_records(
     place: u64,
     is_vouched: bool,
@@ -24,7 +24,7 @@ pub(crate) fn push_records(
     Ok(())
 }
 
-/// AddsParts that of one track.
+/// Adds that of one track.
 fn push_record(
     place: u64,
     is_vouched: bool,

@@ -97,7 +97,7 @@ pub record ClusterEnd (known : KnownTracks) (place : ℕ) (head : Head) (childre
   pub crc32 : Crc32
   pub crc32_is : IsCrc32Of head (start ++ content) crc32
   pub records : List Part
-  pub are_records : AreRecordPartsIf (is_at place known.first && is_uncut crc32) (passes crc32) place known.tracks records
+  pub are_records : AreRecordPartsIf (is_at place known.first && is_uncut crc32) (passes crc32) (place + head.length) known.tracks records
   pub stands : ReporterStands (length known.tracks)
       ((before ++ vouched_if (passes crc32) own)
       ++ (unknown_parts (place + head.length + children) bytes

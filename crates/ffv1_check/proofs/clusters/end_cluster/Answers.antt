@@ -16,7 +16,7 @@ take_parts-requires c =
       r.0 ++ vouched_if (passes c.crc32_by-crc32.result) r.1,
       c.vouch_if.ensures n r.0 r.1 r.2 r.3,
       subst (AllByRecursion (IsBelow (length c.args.tracks.now.tracks))) (sym c.deref.ensures.value)
-          (end_below c.args.tracks.now _ c.new-parts.result.items c.push_span.new.parts.items c.push_end.new.parts.items _ zeros c.new-parts.ensures.items
+          (end_below c.args.tracks.now _ _ c.new-parts.result.items c.push_span.new.parts.items c.push_end.new.parts.items _ zeros c.new-parts.ensures.items
           (c.in_ok-push_span.ensures zeros (sym (length-replicate c.args.rest 0))) c.in_ok-push_end.ensures),
     )
 
