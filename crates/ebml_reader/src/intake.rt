@@ -71,10 +71,13 @@ impl Intake {
         self.start += count;
     }
 
-    /// Lets those go that were passed.
+    /// Lets those go that were passed. Where none were nothing moves, so that a long block is not copied for each piece of it.
     fn clear_passed(&mut self)
         ensures { self.new ≡ self.old }
     {
+        if self.start == 0 {
+            return;
+        }
         let left = self.room.len() - self.start;
         self.room.copy_within(self.start.., 0);
         self.room.truncate(left);
