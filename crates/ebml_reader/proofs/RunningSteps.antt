@@ -51,13 +51,6 @@ module _ (content piece front : List ℕ) (n crc : ℕ) (so_far : RunsOver conte
   pub still_none : length (content ++ piece) < 6 → crc ≡ 0
   still_none short = so_far.none (omega (arith, short, length-append content piece))
 
-  pub not_pushed : (HasCrc32 (front ++ take n piece) → ⊥) → RunsOver (content ++ piece) record { front = front ++ take n piece; crc = crc }
-  not_pushed hasnt = record {
-    front = front_more;
-    none = still_none;
-    crc = λ has. absurd (hasnt (subst HasCrc32 (sym front_more) (has_in_front (content ++ piece) has)));
-  }
-
   module _ (later : ℕ) (advances : (bytes : List ℕ) → crc ≡ crc32_of bytes → later ≡ crc32_of (bytes ++ drop n piece)) where
     crc_long : 6 ≤ length content → HasCrc32 (content ++ piece) → later ≡ crc32_of (drop 6 (content ++ piece))
     crc_long long has =

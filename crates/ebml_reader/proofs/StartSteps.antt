@@ -1,6 +1,6 @@
 -- Items that are passed: their starts, and what follows these.
 use Rattle.std.proofs.Common.{◌≡◌, ℕ, ◌+◌, ◌^◌, ◌<◌, ◌≤◌, List, [], ◌∷◌, ◌++◌, length, take, drop, refl, sym, ap, ◌∙◌, subst, arith, inl, inr, le_refl}
-use Rattle.std.specs.Prelude.{Some, None, Result, Ok, Err}
+use Rattle.std.specs.Prelude.{None, Result, Ok, Err}
 use Rattle.std.specs.List.{AllByRecursion, concat}
 use Rattle.std.proofs.lemmas.List.{length-append, length-take-le, append-nil, append_assoc, drop_at, length-drop}
 use Rattle.ffv1_devices.specs.Logs.{ReadLog}
@@ -20,8 +20,8 @@ use Rattle.ebml.proofs.Elements.{head_of_front, front_head, concat_snoc, each_sn
 use Rattle.ebml_reader.specs.declared.fault.ReaderFault.{ReaderFault}
 use Rattle.ebml_reader.specs.Reader.{Held, StandsAfter}
 use Rattle.ebml_reader.specs.Intake.{Passes, Has, IsBounded, Whatever}
-use Rattle.ebml_reader.specs.Pieces.{PassesBytes, PassesUpTo, HoldsChild, HasNoChild}
-use Rattle.ebml_reader.specs.Starts.{IsStartOf, StartsItem, EndsItem, PassesRest, PassesItemOf}
+use Rattle.ebml_reader.specs.Pieces.{PassesUpTo, HoldsChild, HasNoChild}
+use Rattle.ebml_reader.specs.Starts.{IsStartOf, StartsItem, EndsItem, PassesItemOf}
 use Rattle.ebml_reader.specs.Inner.Settled.{BeginsItem, PassesUnknown}
 use Rattle.ebml_reader.specs.Inner.Front.{PassesFront, PassesAllChildren}
 use Rattle.ebml_reader.proofs.Steps.{passes-nil, passes-trans, passes-fill, passes-pass, left_is, still}
@@ -150,17 +150,6 @@ children_passed passed old now new x y z so_far none = (
     none = none.none;
   },
 )
-
-pub endless_rest : (head : Head) (result : Result ℕ ReaderFault) (old new : Held) (x y : ReadLog) → PassesAllChildren result old new x y
-    → PassesRest (kind.Endless head) result old new x y
-endless_rest head (Ok long) old new x y passes = passes
-endless_rest head (Err fault) old new x y passes = passes
-
-pub element_rest : (head : Head) (size : ℕ) (result : Result ℕ ReaderFault) (old new : Held) (x y : ReadLog) → head.size ≡ Some size
-    → PassesBytes size result old new x y → PassesRest (kind.Element head) result old new x y
-element_rest head size (Ok long) old new x y is passes =
-    (passes.0, passes.1, λ other known. let same : Some size ≡ Some other = sym is ∙ known in let one : size ≡ other = cc in subst (λ n. PassesUpTo n passes.0 old new x y) one passes.2)
-element_rest head size (Err fault) old new x y is passes = passes
 
 -- ---- whole items
 

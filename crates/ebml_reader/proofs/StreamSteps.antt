@@ -12,20 +12,16 @@ use Rattle.ebml.proofs.Heads.{heads_are_local, head_longer}
 use Rattle.ebml.proofs.Elements.{head_of_front, front_head, long_head, concat_snoc, each_snoc}
 use Rattle.ebml_reader.specs.Reader.{Held}
 use Rattle.ebml_reader.specs.RunningCrc.{CrcSoFar}
-use Rattle.ebml_reader.specs.Intake.{Passes, Has, IsBounded, Whatever}
+use Rattle.ebml_reader.specs.Intake.{Passes, Has, IsBounded}
 use Rattle.ebml_reader.specs.Pieces.{PassesUpTo, GoesOver, IsAllPassed, up_to, IsWithin, ClaimsChild, HasNoChild, HoldsChild, PassesMaster}
-use Rattle.ebml_reader.proofs.Steps.{passes-nil, passes-trans, passes-fill, left_is, still}
-use Rattle.ebml_reader.proofs.PieceSteps.{over_none, over_more}
+use Rattle.ebml_reader.proofs.Steps.{passes-trans, passes-fill, left_is, still}
+use Rattle.ebml_reader.proofs.PieceSteps.{over_more}
 
 -- ---- heads up to a place
 
 pub head_up_to : (limit : Option ℕ) (xs : List ℕ) (head : Head) → HasHead (up_to limit xs) head → HasHead xs head
 head_up_to None xs head has = has
 head_up_to (Some m) xs head has = head_of_front xs m head has
-
-pub head_within : (limit : Option ℕ) (xs : List ℕ) (head : Head) → HasHead (up_to limit xs) head → IsWithin head.length limit
-head_within None xs head has = tt
-head_within (Some m) xs head has = let room = has.room in omega (arith, room, length-take m xs)
 
 -- a front of what is left up to a place ends within that
 long_within : (limit : Option ℕ) (xs : List ℕ) (n : ℕ) → IsWithin (length (take n (up_to limit xs))) limit
@@ -53,9 +49,6 @@ pub record IsSeenTo (seen : ℕ) (limit : Option ℕ) : Type 0 where
   pub some : (m : ℕ) → limit ≡ Some m → seen ≡ min 12 m
 
 module _ (new : Held) where
-  SeesHeads : Option ℕ → Type 0
-  SeesHeads limit = Whatever new (λ left. (head : Head) → HasHead (up_to limit left) head → HasHead (up_to limit new.bytes) head)
-
   ended_heads : (limit : Option ℕ) → IsTrue new.ended → (more : List ℕ) → (IsTrue new.ended → more ≡ []) → (head : Head) → HasHead (up_to limit (new.bytes ++ more)) head
       → HasHead (up_to limit new.bytes) head
   ended_heads limit ended more ends head has =
@@ -161,18 +154,6 @@ pub record ContentSoFar (ids : List ℕ) (size passed : ℕ) (crc later : CrcSoF
   pub children : List (List ℕ)
   pub joined : content ≡ concat children
   pub each : AllByRecursion (IsChild ids) children
-
-pub no_content : (ids : List ℕ) (size : ℕ) (crc : CrcSoFar) (held : Held) (log : ReadLog) → ContentSoFar ids size 0 crc crc held held log log
-no_content ids size crc held log = record {
-  content = [];
-  long = refl;
-  most = omega arith;
-  passes = passes-nil held log;
-  over = over_none crc;
-  children = [];
-  joined = refl;
-  each = tt;
-}
 
 -- what is passed up to a place is what is left up to it
 pub passed_up_to : (count : ℕ) (bytes : List ℕ) (new : Held) → length bytes ≤ count → (length bytes ≡ count) ⊎ IsAllPassed new → take count (bytes ++ (new.bytes ++ [])) ≡ bytes

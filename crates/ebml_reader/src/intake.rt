@@ -57,7 +57,7 @@ impl Intake {
     }
 
     /// Whether the source has ended after them.
-    pub fn is_ended(&self) -> bool
+    pub(crate) fn is_ended(&self) -> bool
         ensures { result ≡ self.now.ended }
     {
         self.is_ended

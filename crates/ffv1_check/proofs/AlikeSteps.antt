@@ -16,7 +16,7 @@ use Rattle.matroska_parts.specs.declared.parts.Crc32.TheVariants as crc
 use Rattle.ffv1_check.specs.declared.findings.Finding.TheVariants as found
 use Rattle.ffv1_check.specs.Before.{begins_any, begins_ebml, first_of, segment_in, first_segment, has_crc32, stamp, timestamp_after, time_of, is_of, is_block_of, time_in, time_at, last_time}
 use Rattle.ffv1_check.specs.PartFindings.{is_misplaced, if_bare, closing_by, is_rising, time_findings, payload_findings, number_of_block, standing_findings, lines_at, place_of, part_findings, lines_of_part, lines_of_parts}
-use Rattle.matroska_parts.specs.Vouched.{vouched_standing, vouched}
+use Rattle.matroska_parts.specs.Inner.Vouched.{vouched_standing, vouched}
 use Rattle.matroska_parts.proofs.VouchSteps.{map_append}
 
 -- ---- words over lists

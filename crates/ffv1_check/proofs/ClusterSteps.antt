@@ -17,7 +17,7 @@ use Rattle.ebml.proofs.Elements.{concat_snoc, each_snoc, long_head}
 use Rattle.ebml_reader.specs.Reader.{Held}
 use Rattle.ebml_reader.specs.RunningCrc.{CrcSoFar, RunsOver}
 use Rattle.ebml_reader.specs.Intake.{Passes, IsBounded, Whatever}
-use Rattle.ebml_reader.specs.Pieces.{PassesSummed, GoesOver, up_to, IsWithin, HoldsChild, HasNoChild}
+use Rattle.ebml_reader.specs.Pieces.{GoesOver, up_to, IsWithin, HoldsChild, HasNoChild}
 use Rattle.ebml_reader.specs.Starts.{PassesChildren}
 use Rattle.ebml_reader.proofs.Steps.{passes-nil, passes-trans, passes-fill, passes-pass, left_is, still}
 use Rattle.ebml_reader.proofs.PieceSteps.{over_none, over_more}
@@ -46,9 +46,9 @@ use Rattle.matroska_parts.proofs.PlacedSteps.{placed_after, placed_room}
 use Rattle.ffv1_check.specs.declared.report.Reporter.{Reporter}
 use Rattle.ffv1_check.specs.declared.waiting.Waiting.{Waiting}
 use Rattle.ffv1_check.specs.Inner.Stands.{ReporterStands}
-use Rattle.matroska_parts.specs.Vouched.{vouched, vouched_if}
+use Rattle.matroska_parts.specs.Inner.Vouched.{vouched, vouched_if}
 use Rattle.ffv1_check.specs.Inner.Vouched.{waits, WaitsFor}
-use Rattle.ffv1_check.specs.Inner.TakenParts.{TakesParts, ReportsParts, TakesChild, left_of, ReportsChildren, ChildrenTaken, closing_with, ClusterEnd, PassesAfter, PassesAfterIn, EndsCluster, EndsBy, TakesCluster, TakesItem}
+use Rattle.ffv1_check.specs.Inner.TakenParts.{TakesParts, ReportsParts, TakesChild, left_of, ReportsChildren, ChildrenTaken, closing_with, ClusterEnd, PassesAfter, EndsCluster, EndsBy, TakesCluster, TakesItem}
 use Rattle.matroska_parts.proofs.VouchSteps.{child_inner, children_vouched}
 
 pub child_below : (tracks : List Track) (vouched : Bool) (place : ℕ) (element : List ℕ) (parts : List Part) → IsMasterChild tracks vouched place element parts
@@ -217,9 +217,6 @@ module _ (known : KnownTracks) (place : ℕ) (head : Head) (start : List ℕ) (i
   run : RunsOver (taken.content ++ rest) crc2
   run = over taken.content (taken.over [] runs)
 
-  drop_rest : drop passed (taken.content ++ rest) ≡ rest
-  drop_rest = drop_at taken.content rest passed (sym taken.long)
-
   known_cluster : top_element_of head.id ≡ Some tops.Cluster
   known_cluster = ap top_element_of is_cluster
 
@@ -328,12 +325,6 @@ after_room None children rest mid new y z m after placed few =
     let none = ap length after.0 in let room = placed_room m mid placed few in omega (arith, none, room)
 after_room (Some size) children rest mid new y z m after placed few =
     placed_room (m + length rest) new (placed_after m rest mid new y z after.passes placed) after.bounded
-
-pub after_over : (size : Option ℕ) (children : ℕ) (result : Result ℕ ReaderFault) (s : ℕ) (crc last : CrcSoFar) (old new : Held) (x y : ReadLog) → size ≡ Some s
-    → PassesSummed (s - children) result crc last old new x y → PassesAfterIn size children result crc last old new x y
-after_over size children (Ok long) s crc last old new x y is passes =
-    (passes.0, passes.1, subst (λ o. PassesAfter o children passes.0 old new x y) (sym is) passes.2, passes.3)
-after_over size children (Err fault) s crc last old new x y is passes = passes
 
 -- ---- items
 

@@ -24,7 +24,7 @@ use Rattle.ffv1_check.specs.CheckedBytes.{block_bytes, part_bytes, checked_bytes
 use Rattle.ffv1_check.specs.PartFindings.{lines_of_parts}
 use Rattle.ffv1_check.specs.Reports.{is_checked, is_checked_in, is_checked_of}
 use Rattle.ffv1_check.specs.Inner.Stands.{TopsStand, TrackStands, ReporterStands, no_state}
-use Rattle.matroska_parts.specs.Vouched.{vouched_standing, vouched, IsUnvouched, IsInner}
+use Rattle.matroska_parts.specs.Inner.Vouched.{vouched_standing, vouched, IsUnvouched, IsInner}
 use Rattle.ffv1_check.specs.Inner.Vouched.{waits_by, waits_in, waits, WaitsFor}
 use Rattle.ffv1_check.specs.Inner.Counted.{checked_more, count_of, AreVouched}
 use Rattle.ffv1_check.proofs.TrackSteps.{one_if, count_more}

@@ -12,7 +12,7 @@ ghost use Rattle.matroska_parts.specs.Named.{IsBelow};
 ghost use Rattle.matroska_parts.specs.Openings.{opening_of, passes};
 ghost use Rattle.matroska_parts.specs.StreamedParts.{IsPlacedAt};
 ghost use Rattle.ffv1_check.specs.Inner.Stands.{ReporterStands};
-ghost use Rattle.matroska_parts.specs.Vouched.{vouched_if};
+ghost use Rattle.matroska_parts.specs.Inner.Vouched.{vouched_if};
 ghost use Rattle.ffv1_check.specs.Inner.Vouched.{WaitsFor};
 ghost use Rattle.ffv1_check.specs.Inner.TakenParts.{TakesParts, TakesChild, left_of, TakesChildren, PassesAfterIn, EndsCluster, TakesCluster};
 

@@ -5,7 +5,7 @@ ghost use Rattle.matroska.specs.declared.track.Track.{Track};
 ghost use Rattle.ffv1_check.specs.PartFindings.{lines_at, place_of};
 ghost use Rattle.ffv1_check.specs.Reports.{segment_findings, no_track_findings, IsReportOf, is_video};
 ghost use Rattle.ffv1_check.specs.Inner.Stands.{found_list, no_state, counted_in, AreCounted, IsChecked, ReporterStands};
-ghost use Rattle.matroska_parts.specs.Vouched.{vouched};
+ghost use Rattle.matroska_parts.specs.Inner.Vouched.{vouched};
 ghost use Rattle.ffv1_check.specs.Inner.Vouched.{WaitsFor};
 ghost use Rattle.ffv1_check.specs.Inner.Counted.{count_of, AreVouched};
 ghost use Rattle.matroska_parts.specs.declared.parts.Part.{Part};

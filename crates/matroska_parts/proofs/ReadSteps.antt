@@ -1,6 +1,6 @@
 -- The items that were read of a file, by all that it has: the first Tracks, and the parts so far.
-use Rattle.std.proofs.Common.{◌≡◌, ℕ, ◌+◌, ◌-◌, ◌^◌, ◌<◌, Bool, true, false, cond, List, [], ◌∷◌, ◌++◌, length, drop, refl, sym, ap, ◌∙◌, subst, arith, rules, inl, inr, zero-add}
-use Rattle.std.specs.Prelude.{◌≢◌, IsTrue, IsSome, Option, Some, None, option_map, Contains}
+use Rattle.std.proofs.Common.{◌≡◌, ℕ, ◌+◌, ◌^◌, ◌<◌, Bool, true, false, cond, List, [], ◌∷◌, ◌++◌, length, drop, refl, sym, ap, ◌∙◌, subst, arith, rules, inl, inr, zero-add}
+use Rattle.std.specs.Prelude.{IsTrue, IsSome, Option, Some, None, option_map, Contains}
 use Rattle.std.proofs.lemmas.List.{append_assoc, append-nil, append_cancel_left, length-append, drop_at}
 use Rattle.ffv1_bits.specs.Parity.{AreBytes}
 use Rattle.ffv1_devices.specs.Logs.{ReadLog}
@@ -15,7 +15,7 @@ use Rattle.matroska_parts.specs.declared.tracks_search.FoundTracks.{FoundTracks}
 use Rattle.matroska_parts.specs.TopElements.{top_element_of}
 use Rattle.matroska_parts.specs.ItemParts.{PlacedContent, is_tracks, content_by, first_tracks}
 use Rattle.matroska_parts.specs.Inner.Firsts.{SaysWhere}
-use Rattle.matroska_parts.specs.SourceParts.{found_in, IsFirstTracksOf, FindsTracks, HasItsHead, IsGivenAt}
+use Rattle.matroska_parts.specs.SourceParts.{found_in, IsFirstTracksOf, FindsTracks, HasItsHead}
 
 -- ---- items by what was given of them
 
@@ -52,14 +52,6 @@ module _ (first : ReadLog) (items : List ItemValue) (found : FoundItem) (reading
   given_room place at =
       let counted = gives.stands.counted in let few = gives.few in let all = long_with in
       omega (arith, at, counted, few, all, length-append (bytes_of_items (items ++ item_of found gives.bytes ∷ [])) reading.held.bytes)
-
-  pub given_at : (place : ℕ) (kept : List ℕ) → place ≡ length (bytes_of_items items) → kept ≡ reading.given → IsGivenAt place found kept gives.bytes
-  given_at place kept at is = record {
-    long = gives.long;
-    same = λ known. is ∙ gives.given known;
-    headed = its_head found.kind gives.bytes (reading.held.bytes ++ []) given_is;
-    room = given_room place at;
-  }
 
 -- ---- the items of a file begin with those that were given
 
@@ -175,33 +167,6 @@ no_tracks_there first place old before now so_far tracks none are = record {
 }
 
 -- ---- as the code has them
-
-pub head_kept : (k : Kind) (kept all : List ℕ) → (k ≢ kind.Unknown → kept ≡ all) → HasItsHead k all → HasItsHead k kept
-head_kept (kind.Segment head) kept all same headed = subst (HasItsHead (kind.Segment head)) (sym (same (λ e. cc))) headed
-head_kept (kind.Element head) kept all same headed = subst (HasItsHead (kind.Element head)) (sym (same (λ e. cc))) headed
-head_kept (kind.Endless head) kept all same headed = subst (HasItsHead (kind.Endless head)) (sym (same (λ e. cc))) headed
-head_kept kind.Unknown kept all same headed = tt
-
-content_kept : (k : Kind) (kept all : List ℕ) → (k ≢ kind.Unknown → kept ≡ all) → is_tracks k ≡ true → content_by k kept ≡ content_by k all
-content_kept (kind.Segment head) kept all same is = refl
-content_kept (kind.Element head) kept all same is = ap (content_by (kind.Element head)) (same (λ e. cc))
-content_kept (kind.Endless head) kept all same is = refl
-content_kept kind.Unknown kept all same is = refl
-
-module _ (first : ReadLog) (items : List ItemValue) (found : FoundItem) (reading : ReaderState) (now : ReadLog) (gives : GivesItem first items found reading now)
-    (kept : List ℕ) (same : kept ≡ reading.given) where
-  pub head_given : HasItsHead found.kind kept
-  head_given = head_kept found.kind kept gives.bytes (λ known. same ∙ gives.given known)
-      (its_head found.kind gives.bytes (reading.held.bytes ++ []) (given_is first items found reading now gives))
-
-  pub content_given : (content copy : List ℕ) → is_tracks found.kind ≡ true → content ≡ content_by found.kind kept → copy ≡ [] ++ content
-      → copy ≡ content_by found.kind gives.bytes
-  content_given content copy is content_is copied = copied ∙ content_is ∙ content_kept found.kind kept gives.bytes (λ known. same ∙ gives.given known) is
-
-  pub less_left : (place : ℕ) → place ≡ length (bytes_of_items items) → 2 ^ 63 - (place + found.length) < 2 ^ 63 - place
-  less_left place at =
-      let long = gives.long in let some = given_some first items found reading now gives in let room = given_room first items found reading now gives place at in
-      omega (arith, long, some, room)
 
 said_by : (place : Option ℕ) (content : List ℕ)
     → place ≡ option_map (λ (it : PlacedContent). it.place) (option_map (λ (p : ℕ). let v : PlacedContent = record { place = p; content = content } in v) place)

@@ -11,7 +11,7 @@ use Rattle.matroska_parts.specs.declared.masters.ChildKind.TheVariants as child
 use Rattle.matroska_parts.specs.BlockParts.{IsStanding}
 use Rattle.matroska_parts.specs.MasterParts.{child_kind, EachHasParts, unknown_parts, AreMasterParts, IsOneBlock, IsGroupChildBy, IsGroupChild, IsMasterChildBy, IsMasterChild}
 use Rattle.matroska_parts.proofs.InnerSteps.{all_append}
-use Rattle.matroska_parts.specs.Vouched.{vouched_standing, vouched, vouched_if, IsUnvouched, IsInner}
+use Rattle.matroska_parts.specs.Inner.Vouched.{vouched_standing, vouched, vouched_if, IsUnvouched, IsInner}
 
 pub map_append : {X Y : Type 0} (f : X → Y) (xs ys : List X) → map f (xs ++ ys) ≡ map f xs ++ map f ys
 map_append f [] ys = refl

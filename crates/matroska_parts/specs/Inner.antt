@@ -3,3 +3,4 @@ pub mod Added
 pub mod Firsts
 pub mod PartsSoFar
 pub mod Inside
+pub mod Vouched

@@ -10,5 +10,4 @@ pub mod ItemParts
 pub mod Named
 pub mod SourceParts
 pub mod StreamedParts
-pub mod Vouched
 pub mod Inner

@@ -27,12 +27,12 @@ fn with_cluster_of(alloc: Global, size: &[u8; 8]) -> Result<Vec<u8>, Fail> {
     Ok(bytes)
 }
 
-/// The file, and after it an Attachments whose child claims 100,000 bytes and this many more, with so many bytes of it.
-fn with_attachment(alloc: Global, more: u8, has: usize) -> Result<Vec<u8>, Fail> {
+/// The file, and after it an Attachments whose child claims 99,840 bytes and as many more as this octet says, with so many bytes of it.
+fn with_attachment(alloc: Global, octet: u8, has: usize) -> Result<Vec<u8>, Fail> {
     let mut bytes = Vec::new(alloc);
     bytes.extend_from_slice(&file())?;
     bytes.extend_from_slice(&[0x19, 0x41, 0xA4, 0x69, 0x10, 0x01, 0x86, 0xA6])?;
-    bytes.extend_from_slice(&[0x61, 0xA7, 0x10, 0x01, 0x86, 0xA0 + more])?;
+    bytes.extend_from_slice(&[0x61, 0xA7, 0x10, 0x01, 0x86, octet])?;
     let filler = vec![in alloc; 7u8; has]?;
     bytes.extend_from_slice(&filler)?;
     Ok(bytes)
@@ -60,12 +60,18 @@ fn clusters_that_claim_too_much_are_read(rt: HostRuntime) -> Result<(), Fail> {
 #[test]
 fn attachments_longer_than_a_piece_are_read(rt: HostRuntime) -> Result<(), Fail> {
     let alloc = rt.alloc();
-    for (more, has) in [(0, 100000), (0, 65000), (0, 0), (1, 100000), (1, 100009)] {
-        let bytes = with_attachment(alloc, more, has)?;
+    for (octet, has) in [
+        (0xA0, 100000),
+        (0xA0, 65000),
+        (0xA0, 0),
+        (0xA1, 100000),
+        (0xA1, 100009),
+    ] {
+        let bytes = with_attachment(alloc, octet, has)?;
         let wanted = text_in_memory(alloc, &bytes)?;
         for most in [1, 1000, 65536] {
             let text = text_of(alloc, &bytes, most)?;
-            assert!(rt; text == wanted, "{more} {has} {most}");
+            assert!(rt; text == wanted, "{octet} {has} {most}");
         }
     }
     Ok(())
@@ -90,7 +96,7 @@ fn items_are_passed(rt: HostRuntime) -> Result<(), Fail> {
     let file = file();
     let mut source = source_of(&file, 1000);
     let mut intake = Intake::new(alloc);
-    let mut passed = 0;
+    let mut passed: u64 = 0;
     for _ in 0..9 {
         let start = pass_start(&mut intake, &mut source)
             .ok()
@@ -99,7 +105,7 @@ fn items_are_passed(rt: HostRuntime) -> Result<(), Fail> {
         let rest = pass_rest(&start.kind, &mut intake, &mut source)
             .ok()
             .ok_or("its rest")?;
-        passed += start.length + rest;
+        passed = passed.saturating_add(start.length).saturating_add(rest);
     }
     assert!(rt; passed == 1781);
     assert!(rt; pass_start(&mut intake, &mut source) == Ok(None));
@@ -148,5 +154,7 @@ fn children_are_held(rt: HostRuntime) -> Result<(), Fail> {
     assert!(rt; child.length == 343 && intake.bytes().len() >= 343);
     let none = held_child(&[0xA3], Some(342), &mut intake, &mut source);
     assert!(rt; none == Ok(None));
+    intake.pass(child.length);
+    assert!(rt; pass_bytes(2000, &mut intake, &mut source) == Ok(707));
     Ok(())
 }

@@ -27,7 +27,7 @@ use Rattle.matroska_parts.specs.SourceParts.{KnownTracks}
 use Rattle.ffv1_check.specs.declared.report.Reporter.{Reporter}
 use Rattle.ffv1_check.specs.declared.waiting.Waiting.{Waiting}
 use Rattle.ffv1_check.specs.Inner.Stands.{ReporterStands}
-use Rattle.matroska_parts.specs.Vouched.{vouched_if}
+use Rattle.matroska_parts.specs.Inner.Vouched.{vouched_if}
 use Rattle.ffv1_check.specs.Inner.Vouched.{waits, WaitsFor}
 
 -- parts were taken, or memory was refused

@@ -5,7 +5,7 @@ use Rattle.matroska_parts.specs.declared.parts.Part.{Part}
 use Rattle.matroska_parts.specs.declared.parts.Part.TheVariants as part
 use Rattle.matroska_parts.specs.declared.parts.Standing.{Standing}
 use Rattle.matroska_parts.specs.declared.parts.Standing.TheVariants as standing
-use Rattle.matroska_parts.specs.Vouched.{IsInner}
+use Rattle.matroska_parts.specs.Inner.Vouched.{IsInner}
 use Rattle.matroska_parts.specs.declared.parts.Payload.{Payload}
 use Rattle.matroska_parts.specs.declared.parts.Payload.TheVariants as payload
 use Rattle.ffv1_check.specs.declared.waiting.Waiting.{Waiting}

@@ -3,7 +3,7 @@ use Rattle.std.specs.List.{AllByRecursion}
 use Rattle.std.proofs.lemmas.List.{length-replicate}
 use Rattle.matroska_parts.specs.Named.{IsBelow}
 use Rattle.matroska_parts.specs.Openings.{passes}
-use Rattle.matroska_parts.specs.Vouched.{vouched_if}
+use Rattle.matroska_parts.specs.Inner.Vouched.{vouched_if}
 use Rattle.ffv1_check.proofs.ClusterSteps.{end_below, cluster_ended}
 use Rattle.ffv1_check.proofs.clusters.end_cluster.Goals as goal
 

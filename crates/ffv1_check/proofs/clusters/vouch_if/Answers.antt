@@ -3,7 +3,7 @@ use Rattle.matroska_parts.specs.declared.parts.Part.{Part}
 use Rattle.matroska_parts.specs.declared.parts.Crc32.{Crc32}
 use Rattle.matroska_parts.specs.Openings.{passes}
 use Rattle.ffv1_check.specs.Inner.Stands.{ReporterStands}
-use Rattle.matroska_parts.specs.Vouched.{vouched_if}
+use Rattle.matroska_parts.specs.Inner.Vouched.{vouched_if}
 use Rattle.ffv1_check.proofs.ClusterSteps.{vouched_not}
 use Rattle.ffv1_check.proofs.clusters.vouch_if.Goals as goal
 
