@@ -154,7 +154,8 @@ fn children_are_held(rt: HostRuntime) -> Result<(), Fail> {
     assert!(rt; child.length == 343 && intake.bytes().len() >= 343);
     let none = held_child(&[0xA3], Some(342), &mut intake, &mut source);
     assert!(rt; none == Ok(None));
-    intake.pass(child.length);
+    let count = child.length.min(intake.bytes().len());
+    intake.pass(count);
     assert!(rt; pass_bytes(2000, &mut intake, &mut source) == Ok(707));
     Ok(())
 }
