@@ -104,7 +104,7 @@ class Timeline:
             spans.append((kind, span))
             damaged = {copy for result in self.results.within(number) for copy in result.damaged} if outcome and stretch.parts else set()
             if outcome:
-                self.damage(kind, span, outcome, damaged)
+                self.damage(kind, span, outcome, damaged, bool(stretch.parts) and not self.results.open_beside(number))
         lacking = self.marks_of.items() if None in stretch.places else ()
         lacking = [copy for copy, own in lacking if all(stretch.places[at] is None for at in own)]
         for row, each in spans:
@@ -112,9 +112,9 @@ class Timeline:
             for copy in lacking:
                 self.rows[copy, row].count(each, -1)
 
-    def damage(self, kind: str, span: range, outcome: Outcome, damaged: set[int]) -> None:
-        """Adds damage beside frames. Where a copy's frames in it are damaged, what else of it is not known."""
-        shade = Shade.LOST
+    def damage(self, kind: str, span: range, outcome: Outcome, damaged: set[int], is_alike: bool) -> None:
+        """Adds damage beside frames. Where a copy's frames in it are damaged, what else of it is not known, unless all copies have it alike."""
+        shade = Shade.WHOLE if is_alike else Shade.LOST
         if outcome.state.is_good():
             shade = Shade.WHOLE if damaged or "0" not in outcome.marks else Shade.WOVEN if outcome.state is State.WOVEN else Shade.RESTORED
         self.rows[None, kind].damage(span, shade)
