@@ -13,9 +13,6 @@ front_of_front : (xs : List ℕ) → 6 ≤ length xs → take 2 (take 6 xs) ≡ 
 front_of_front xs long =
     sym (take-append-le 2 (take 6 xs) (drop 6 xs) (omega (arith, length-take-le 6 xs long))) ∙ ap (take 2) (take-append-drop 6 xs)
 
-pub has_in_front : (xs : List ℕ) → HasCrc32 xs → HasCrc32 (take 6 xs)
-has_in_front xs has = (omega (arith, length-take-le 6 xs has.0), front_of_front xs has.0 ∙ has.1)
-
 pub has_by_front : (xs : List ℕ) → HasCrc32 (take 6 xs) → HasCrc32 xs
 has_by_front xs has =
     let long = has.0 in
@@ -47,9 +44,6 @@ module _ (content piece front : List ℕ) (n crc : ℕ) (so_far : RunsOver conte
 
   pub front_more : front ++ take n piece ≡ take 6 (content ++ piece)
   front_more = elim (cases_lt (length content) 6) [ inl short ↦ front_short short | inr long ↦ front_long long ]
-
-  pub still_none : length (content ++ piece) < 6 → crc ≡ 0
-  still_none short = so_far.none (omega (arith, short, length-append content piece))
 
   module _ (later : ℕ) (advances : (bytes : List ℕ) → crc ≡ crc32_of bytes → later ≡ crc32_of (bytes ++ drop n piece)) where
     crc_long : 6 ≤ length content → HasCrc32 (content ++ piece) → later ≡ crc32_of (drop 6 (content ++ piece))

@@ -13,7 +13,7 @@ use Rattle.ebml.proofs.Elements.{head_of_front, front_head, long_head, concat_sn
 use Rattle.ebml_reader.specs.Reader.{Held}
 use Rattle.ebml_reader.specs.RunningCrc.{CrcSoFar}
 use Rattle.ebml_reader.specs.Intake.{Passes, Has, IsBounded}
-use Rattle.ebml_reader.specs.Pieces.{PassesUpTo, GoesOver, IsAllPassed, up_to, IsWithin, ClaimsChild, HasNoChild, HoldsChild, PassesMaster}
+use Rattle.ebml_reader.specs.Pieces.{PassesUpTo, GoesOver, IsAllPassed, up_to, IsWithinLeft, ClaimsChild, HasNoChild, HoldsChild, PassesMaster}
 use Rattle.ebml_reader.proofs.Steps.{passes-trans, passes-fill, left_is, still}
 use Rattle.ebml_reader.proofs.PieceSteps.{over_more}
 
@@ -24,7 +24,7 @@ head_up_to None xs head has = has
 head_up_to (Some m) xs head has = head_of_front xs m head has
 
 -- a front of what is left up to a place ends within that
-long_within : (limit : Option ℕ) (xs : List ℕ) (n : ℕ) → IsWithin (length (take n (up_to limit xs))) limit
+long_within : (limit : Option ℕ) (xs : List ℕ) (n : ℕ) → IsWithinLeft (length (take n (up_to limit xs))) limit
 long_within None xs n = tt
 long_within (Some m) xs n = omega (arith, length-take n (take m xs), length-take m xs)
 
@@ -71,7 +71,7 @@ module _ (new : Held) where
 module _ (ids : List ℕ) (limit : Option ℕ) (seen : ℕ) (old new : Held) (x y : ReadLog) (bytes : List ℕ) (is : IsSeenTo seen limit) (step : Passes [] old new x y)
     (has_seen : Has seen new) (bounded : IsBounded new) (front : bytes ≡ up_to limit new.bytes) where
   -- no head is there by which a child could begin
-  pub none_claimed : ((head : Head) → HasHead bytes head → Contains ids head.id → (size : ℕ) → head.size ≡ Some size → IsWithin (head.length + size) limit → ⊥)
+  pub none_claimed : ((head : Head) → HasHead bytes head → Contains ids head.id → (size : ℕ) → head.size ≡ Some size → IsWithinLeft (head.length + size) limit → ⊥)
       → HasNoChild ids limit old new x y
   none_claimed nothing = record {
     passes = step;
@@ -81,11 +81,11 @@ module _ (ids : List ℕ) (limit : Option ℕ) (seen : ℕ) (old new : Held) (x 
         sees_heads new seen limit is has_seen more ends child.head (head_of_front (up_to limit (new.bytes ++ more)) n child.head child.element.has) in
         let whole = child_long child.head _ _ child.element child.element.whole in
         nothing child.head (subst (λ l. HasHead l child.head) (sym front) there) child.known _ child.element.whole
-        (subst (λ k. IsWithin k limit) (sym whole) (long_within limit (new.bytes ++ more) n));
+        (subst (λ k. IsWithinLeft k limit) (sym whole) (long_within limit (new.bytes ++ more) n));
   }
 
   pub one_claimed : (head : Head) (size : ℕ) → HasHead bytes head → ((other : Head) → HasHead bytes other → other ≡ head) → Contains ids head.id → head.size ≡ Some size
-      → IsWithin (head.length + size) limit → ClaimsChild ids limit head old new x y
+      → IsWithinLeft (head.length + size) limit → ClaimsChild ids limit head old new x y
   one_claimed head size has only known size_is within = record {
     passes = step;
     bounded = bounded;
@@ -135,7 +135,7 @@ module _ (ids : List ℕ) (limit : Option ℕ) (head : Head) (whole : ℕ) (old 
         bounded = bounded;
         some = omega (arith, some, exact);
         there = there;
-        within = subst (λ k. IsWithin k limit) (sym exact) claims.within;
+        within = subst (λ k. IsWithinLeft k limit) (sym exact) claims.within;
         known = claims.known;
         is = record {
           has = front_head new.bytes whole head (omega (arith, exact)) begins;

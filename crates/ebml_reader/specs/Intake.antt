@@ -14,11 +14,6 @@ pub record Passes (passed : List ℕ) (old new : Held) (before after : ReadLog) 
   pub stays : IsTrue old.ended → (read ≡ []) × IsTrue new.ended
   pub end : (IsTrue old.ended → IsAtEnd before.remaining) → IsTrue new.ended → IsAtEnd after.remaining
 
--- one piece was read, or the source had ended
-abbrev pub ReadsPiece : {T : Type 0} → Result T ReaderFault → Held → Held → ReadLog → ReadLog → Type 0
-ReadsPiece (Ok x) old new before after = Passes [] old new before after × (IsTrue new.ended ⊎ (old.taken < new.taken))
-ReadsPiece (Err fault) old new before after = IsFault fault old.taken before after
-
 -- so many bytes are there, or the source has ended
 abbrev pub Has : ℕ → Held → Type 0
 Has size held = IsTrue held.ended ⊎ (size ≤ length held.bytes)

@@ -48,9 +48,9 @@ up_to None bytes = bytes
 up_to (Some n) bytes = take n bytes
 
 -- so many bytes, with a place up to which there are
-abbrev pub IsWithin : ℕ → Option ℕ → Type 0
-IsWithin n None = Unit {0}
-IsWithin n (Some limit) = n ≤ limit
+abbrev pub IsWithinLeft : ℕ → Option ℕ → Type 0
+IsWithinLeft n None = Unit {0}
+IsWithinLeft n (Some limit) = n ≤ limit
 
 -- A head of a child begins what is left up to a place, and the child ends there by its size; but the file may end before it does.
 pub record ClaimsChild (ids : List ℕ) (limit : Option ℕ) (head : Head) (old new : Held) (before after : ReadLog) : Type 0 where
@@ -60,7 +60,7 @@ pub record ClaimsChild (ids : List ℕ) (limit : Option ℕ) (head : Head) (old 
   pub known : Contains ids head.id
   pub size : ℕ
   pub size_is : head.size ≡ Some size
-  pub within : IsWithin (head.length + size) limit
+  pub within : IsWithinLeft (head.length + size) limit
   pub only : Whatever new (λ left. (other : Head) → HasHead (up_to limit left) other → other ≡ head)
 
 -- No child begins what is left up to a place.
@@ -80,7 +80,7 @@ pub record HoldsChild (ids : List ℕ) (limit : Option ℕ) (child : Element) (o
   pub bounded : IsBounded new
   pub some : 0 < child.length
   pub there : child.length ≤ length new.bytes
-  pub within : IsWithin child.length limit
+  pub within : IsWithinLeft child.length limit
   pub known : Contains ids child.head.id
   pub is : IsElement child.head (take child.length new.bytes)
 

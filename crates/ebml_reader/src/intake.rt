@@ -1,7 +1,8 @@
 //! What was read of a source and not passed yet.
 ghost use Rattle.std.specs.Prelude.{◌≡◌, ◌↔◌, ◌<◌, ◌≤◌, false, IsTrue, length, drop};
 ghost use Rattle.ebml_reader.specs.Reader.{nothing_held};
-ghost use Rattle.ebml_reader.specs.Intake.{IsBounded, ReadsPiece, FillsUp};
+ghost use Rattle.ebml_reader.specs.Intake.{IsBounded, FillsUp};
+ghost use Rattle.ebml_reader.specs.Inner.Piece.{ReadsPiece};
 
 use crate::fault::ReaderFault;
 use ffv1_devices::{Source, read_some};

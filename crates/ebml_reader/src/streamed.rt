@@ -1,6 +1,6 @@
 //! The children of a master, as they are read: by their heads alone, or held one at a time.
 ghost use Rattle.std.specs.Prelude.{ℕ, ◌≡◌, ◌+◌, true, false, Some, None, min};
-ghost use Rattle.ebml_reader.specs.Pieces.{up_to, IsWithin, FindsClaim, FindsHeld, PassesContent};
+ghost use Rattle.ebml_reader.specs.Pieces.{up_to, IsWithinLeft, FindsClaim, FindsHeld, PassesContent};
 
 use crate::elements::whole_length;
 use crate::fault::ReaderFault;
@@ -66,9 +66,9 @@ fn front<'a>(bytes: &'a [u8], left: Option<u64>) -> &'a [u8]
 
 /// Whether an element with this head has a size, and ends by that within the bytes that are left.
 fn fits(head: &Head, left: Option<u64>) -> bool
-    requires { IsWithin head.now.length left }
-    ensures some { result ≡ true → (size : ℕ) × (head.now.size ≡ Some size) × IsWithin (head.now.length + size) left }
-    ensures none { result ≡ false → (size : ℕ) → head.now.size ≡ Some size → IsWithin (head.now.length + size) left → ⊥ }
+    requires { IsWithinLeft head.now.length left }
+    ensures some { result ≡ true → (size : ℕ) × (head.now.size ≡ Some size) × IsWithinLeft (head.now.length + size) left }
+    ensures none { result ≡ false → (size : ℕ) → head.now.size ≡ Some size → IsWithinLeft (head.now.length + size) left → ⊥ }
 {
     let Some(size) = head.size else {
         return false;

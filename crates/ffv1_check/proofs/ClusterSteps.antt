@@ -17,7 +17,7 @@ use Rattle.ebml.proofs.Elements.{concat_snoc, each_snoc, long_head}
 use Rattle.ebml_reader.specs.Reader.{Held}
 use Rattle.ebml_reader.specs.RunningCrc.{CrcSoFar, RunsOver}
 use Rattle.ebml_reader.specs.Intake.{Passes, IsBounded, Whatever}
-use Rattle.ebml_reader.specs.Pieces.{GoesOver, up_to, IsWithin, HoldsChild, HasNoChild}
+use Rattle.ebml_reader.specs.Pieces.{GoesOver, up_to, IsWithinLeft, HoldsChild, HasNoChild}
 use Rattle.ebml_reader.specs.Starts.{PassesChildren}
 use Rattle.ebml_reader.proofs.Steps.{passes-nil, passes-trans, passes-fill, passes-pass, left_is, still}
 use Rattle.ebml_reader.proofs.PieceSteps.{over_none, over_more}
@@ -48,7 +48,7 @@ use Rattle.ffv1_check.specs.declared.waiting.Waiting.{Waiting}
 use Rattle.ffv1_check.specs.Inner.Stands.{ReporterStands}
 use Rattle.matroska_parts.specs.Inner.Vouched.{vouched, vouched_if}
 use Rattle.ffv1_check.specs.Inner.Vouched.{waits, WaitsFor}
-use Rattle.ffv1_check.specs.Inner.TakenParts.{TakesParts, ReportsParts, TakesChild, left_of, ReportsChildren, ChildrenTaken, closing_with, ClusterEnd, PassesAfter, EndsCluster, EndsBy, TakesCluster, TakesItem}
+use Rattle.ffv1_check.specs.Inner.TakenParts.{TakesParts, ReportsParts, TakesChild, size_left, ReportsChildren, ChildrenTaken, closing_with, ClusterEnd, PassesAfter, EndsCluster, EndsBy, TakesCluster, TakesItem}
 use Rattle.matroska_parts.proofs.VouchSteps.{child_inner, children_vouched}
 
 pub child_below : (tracks : List Track) (vouched : Bool) (place : ℕ) (element : List ℕ) (parts : List Part) → IsMasterChild tracks vouched place element parts
@@ -78,16 +78,16 @@ no_child_taken tracks place size crc reporter waiting held log = record {
   reports = λ before stands waits_for. ([], refl, subst (λ l. ReporterStands (length tracks) l reporter) (sym (append-nil before)) stands, waits_for);
 }
   where
-    none_within : (s : Option ℕ) → IsWithin 0 s
+    none_within : (s : Option ℕ) → IsWithinLeft 0 s
     none_within None = tt
     none_within (Some n) = omega arith
 
-more_within : (size : Option ℕ) (passed n : ℕ) → IsWithin passed size → IsWithin n (left_of size passed) → IsWithin (passed + n) size
+more_within : (size : Option ℕ) (passed n : ℕ) → IsWithinLeft passed size → IsWithinLeft n (size_left size passed) → IsWithinLeft (passed + n) size
 more_within None passed n within more = tt
 more_within (Some size) passed n within more = omega (arith, within, more)
 
 module _ (tracks : List Track) (place : ℕ) (size : Option ℕ) (passed : ℕ) (crc later last : CrcSoFar) (r0 r : Reporter) (w0 w : Waiting) (old now mid : Held) (x y z : ReadLog)
-    (so_far : ChildrenTaken tracks place size passed crc later r0 r w0 w old now x y) (child : Element) (holds : HoldsChild cluster_ids (left_of size passed) child now mid y z) where
+    (so_far : ChildrenTaken tracks place size passed crc later r0 r w0 w old now x y) (child : Element) (holds : HoldsChild cluster_ids (size_left size passed) child now mid y z) where
   bytes : List ℕ
   bytes = take child.length mid.bytes
 
@@ -139,8 +139,8 @@ module _ (tracks : List Track) (place : ℕ) (size : Option ℕ) (passed : ℕ) 
         }
 
 pub children_taken : (tracks : List Track) (place : ℕ) (size : Option ℕ) (passed : ℕ) (crc later : CrcSoFar) (r0 r : Reporter) (w0 w : Waiting) (old now new : Held) (x y z : ReadLog)
-    → ChildrenTaken tracks place size passed crc later r0 r w0 w old now x y → HasNoChild cluster_ids (left_of size passed) now new y z
-    → ChildrenTaken tracks place size passed crc later r0 r w0 w old new x z × IsBounded new × Whatever new (λ left. BeginsNoChild cluster_ids (up_to (left_of size passed) left))
+    → ChildrenTaken tracks place size passed crc later r0 r w0 w old now x y → HasNoChild cluster_ids (size_left size passed) now new y z
+    → ChildrenTaken tracks place size passed crc later r0 r w0 w old new x z × IsBounded new × Whatever new (λ left. BeginsNoChild cluster_ids (up_to (size_left size passed) left))
 children_taken tracks place size passed crc later r0 r w0 w old now new x y z so_far none = (
   record {
     content = so_far.content;
@@ -171,7 +171,7 @@ no_child_of_none ids (suc n) child = none_there child.head child.element.has
 
 -- no child begins what follows the children
 rest_none : (size : Option ℕ) (passed : ℕ) (rest : List ℕ) (mid new : Held) (y z : ReadLog) → PassesAfter size passed rest mid new y z
-    → Whatever mid (λ left. BeginsNoChild cluster_ids (up_to (left_of size passed) left)) → BeginsNoChild cluster_ids rest
+    → Whatever mid (λ left. BeginsNoChild cluster_ids (up_to (size_left size passed) left)) → BeginsNoChild cluster_ids rest
 rest_none None passed rest mid new y z after none = subst (BeginsNoChild cluster_ids) (sym after.0) (no_child_of_none cluster_ids)
 rest_none (Some size) passed rest mid new y z after none =
     subst (BeginsNoChild cluster_ids)
@@ -180,8 +180,8 @@ rest_none (Some size) passed rest mid new y z after none =
 
 -- the content is passed, by the size
 ends_by : (size : Option ℕ) (passed : ℕ) (content rest : List ℕ) (children : List (List ℕ)) (old mid new : Held) (x y z : ReadLog) → Passes content old mid x y → IsBounded mid
-    → passed ≡ length content → IsWithin passed size → content ≡ concat children → AllByRecursion (IsChild cluster_ids) children → PassesAfter size passed rest mid new y z
-    → Whatever mid (λ left. BeginsNoChild cluster_ids (up_to (left_of size passed) left)) → EndsBy size (content ++ rest) old new x z
+    → passed ≡ length content → IsWithinLeft passed size → content ≡ concat children → AllByRecursion (IsChild cluster_ids) children → PassesAfter size passed rest mid new y z
+    → Whatever mid (λ left. BeginsNoChild cluster_ids (up_to (size_left size passed) left)) → EndsBy size (content ++ rest) old new x z
 ends_by None passed content rest children old mid new x y z first few long within joined each after none =
     subst (λ l. PassesChildren l old new x z) (sym (ap (λ l. content ++ l) after.0 ∙ append-nil content))
     (subst (λ h. PassesChildren content old h x z) (sym after.1)
@@ -206,7 +206,7 @@ module _ (known : KnownTracks) (place : ℕ) (head : Head) (start : List ℕ) (i
     (begun : (tracks : ℕ) (before : List Part) → ReporterStands tracks before r0 → ReporterStands tracks (before ++ part.Begin (opening_of place tops.Cluster head) ∷ []) r1)
     (empty : w1.blocks.items ≡ []) (counted : w1.checked ≡ r1.progress.checked)
     (taken : ChildrenTaken known.tracks (place + head.length) head.size passed crc0 crc1 r1 r2 w1 w2 old mid x y) (few : IsBounded mid)
-    (none : Whatever mid (λ left. BeginsNoChild cluster_ids (up_to (left_of head.size passed) left))) (runs : RunsOver [] crc0)
+    (none : Whatever mid (λ left. BeginsNoChild cluster_ids (up_to (size_left head.size passed) left))) (runs : RunsOver [] crc0)
     (rest : List ℕ) (rest_long : n ≡ length rest) (after : PassesAfter head.size passed rest mid new y z) (over : GoesOver rest crc1 crc2) where
   abbrev content : List ℕ
   content = taken.content ++ rest

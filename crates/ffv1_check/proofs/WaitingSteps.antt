@@ -26,7 +26,7 @@ use Rattle.ffv1_check.specs.Reports.{is_checked, is_checked_in, is_checked_of}
 use Rattle.ffv1_check.specs.Inner.Stands.{TopsStand, TrackStands, ReporterStands, no_state}
 use Rattle.matroska_parts.specs.Inner.Vouched.{vouched_standing, vouched, IsUnvouched, IsInner}
 use Rattle.ffv1_check.specs.Inner.Vouched.{waits_by, waits_in, waits, WaitsFor}
-use Rattle.ffv1_check.specs.Inner.Counted.{checked_more, count_of, AreVouched}
+use Rattle.ffv1_check.specs.Inner.Counted.{checked_more, times_in, AreVouched}
 use Rattle.ffv1_check.proofs.TrackSteps.{one_if, count_more}
 use Rattle.ffv1_check.proofs.AlikeSteps.{all_begin, all_ebml, all_segment, all_crc, all_stamp, all_blocks, all_last, all_lines, front_stays}
 
@@ -47,7 +47,7 @@ count_append p xs ys = fold-append (λ n x. n + one_if (p x)) 0 xs ys ∙ count_
 
 pub record VouchedTo (blocks : List ℕ) (k : ℕ) (old now : List TrackState) : Type 0 where
   pub as_many : length now ≡ length old
-  pub each : (index : ℕ) → index < length old → get_or now index no_state ≡ checked_more (get_or old index no_state) (count_of index (take k blocks))
+  pub each : (index : ℕ) → index < length old → get_or now index no_state ≡ checked_more (get_or old index no_state) (times_in index (take k blocks))
 
 more_none : (state : TrackState) → state ≡ checked_more state 0
 more_none state = ap (λ n. let s : TrackState = record { blocks = state.blocks; checked = n; last = state.last } in s) (omega arith)
@@ -64,22 +64,22 @@ block_below (b ∷ bs) bound zero all within = all.0
 block_below (b ∷ bs) bound (suc k) all within = block_below bs bound k all.1 (omega (arith, within))
 
 count_next : (index : ℕ) (blocks : List ℕ) (k : ℕ) → k < length blocks
-    → count_of index (take (k + 1) blocks) ≡ count_of index (take k blocks) + one_if (eqb (get_or blocks k 0) index)
+    → times_in index (take (k + 1) blocks) ≡ times_in index (take k blocks) + one_if (eqb (get_or blocks k 0) index)
 count_next index blocks k within =
-    ap (count_of index) (take_more blocks k 0 within) ∙ count_more (λ block. eqb block index) (take k blocks) (get_or blocks k 0)
+    ap (times_in index) (take_more blocks k 0 within) ∙ count_more (λ block. eqb block index) (take k blocks) (get_or blocks k 0)
 
-count_front : (index : ℕ) (blocks : List ℕ) (k : ℕ) → count_of index (take k blocks) ≤ count_of index blocks
+count_front : (index : ℕ) (blocks : List ℕ) (k : ℕ) → times_in index (take k blocks) ≤ times_in index blocks
 count_front index blocks k =
-    let all = ap (count_of index) (take-append-drop k blocks) in
+    let all = ap (times_in index) (take-append-drop k blocks) in
     omega (arith, all, count_append (λ block. eqb block index) (take k blocks) (drop k blocks))
 
 module _ (blocks : List ℕ) (k : ℕ) (old now : List TrackState) (so_far : VouchedTo blocks k old now) (within : k < length blocks)
     (below : get_or blocks k 0 < length old) where
-  pub block_room : ((index : ℕ) → index < length old → (get_or old index no_state).checked + count_of index blocks < 2 ^ 64)
+  pub block_room : ((index : ℕ) → index < length old → (get_or old index no_state).checked + times_in index blocks < 2 ^ 64)
       → (get_or now (get_or blocks k 0) no_state).checked + 1 < 2 ^ 64
   block_room room =
       let b : ℕ = get_or blocks k 0 in
-      let is : (get_or now (get_or blocks k 0) no_state).checked ≡ (get_or old (get_or blocks k 0) no_state).checked + count_of (get_or blocks k 0) (take k blocks) =
+      let is : (get_or now (get_or blocks k 0) no_state).checked ≡ (get_or old (get_or blocks k 0) no_state).checked + times_in (get_or blocks k 0) (take k blocks) =
       ap (λ (s : TrackState). s.checked) (so_far.each (get_or blocks k 0) below) in
       let one : one_if (eqb (get_or blocks k 0) (get_or blocks k 0)) ≡ 1 = ap one_if (eq-eqb (get_or blocks k 0) (get_or blocks k 0) refl) in
       omega (arith, is, one, count_next b blocks k within, count_front b blocks (k + 1), room b below)
@@ -94,24 +94,24 @@ module _ (blocks : List ℕ) (k : ℕ) (old now : List TrackState) (so_far : Vou
       there = let many = so_far.as_many in omega (arith, below, many)
 
       go : (index : ℕ) → index < length old → (b : Bool) → eqb (get_or blocks k 0) index ≡ b
-          → get_or (set now (get_or blocks k 0) new) index no_state ≡ checked_more (get_or old index no_state) (count_of index (take (k + 1) blocks))
+          → get_or (set now (get_or blocks k 0) new) index no_state ≡ checked_more (get_or old index no_state) (times_in index (take (k + 1) blocks))
       go index inside true e =
           let same : get_or blocks k 0 ≡ index = eqb-true (get_or blocks k 0) index e in
-          let sum : count_of index (take k blocks) + 1 ≡ count_of index (take (k + 1) blocks) = sym (count_next index blocks k within ∙ ap (λ b. count_of index (take k blocks) + one_if b) e) in
+          let sum : times_in index (take k blocks) + 1 ≡ times_in index (take (k + 1) blocks) = sym (count_next index blocks k within ∙ ap (λ b. times_in index (take k blocks) + one_if b) e) in
           ap (λ n. get_or (set now n new) index no_state) same
           ∙ get_or-set_same now index new no_state (subst (λ n. n < length now) same there)
           ∙ new_is ∙ ap (λ n. checked_more (get_or now n no_state) 1) same ∙ ap (λ s. checked_more s 1) (so_far.each index inside)
-          ∙ more_twice (get_or old index no_state) (count_of index (take k blocks)) 1 (count_of index (take (k + 1) blocks)) sum
+          ∙ more_twice (get_or old index no_state) (times_in index (take k blocks)) 1 (times_in index (take (k + 1) blocks)) sum
       go index inside false e =
           let apart : index ≡ get_or blocks k 0 → ⊥ =
           λ same. let is : eqb (get_or blocks k 0) index ≡ true = eq-eqb (get_or blocks k 0) index (sym same) in let both : true ≡ false = sym is ∙ e in cc in
           get_or-set_other now (get_or blocks k 0) index new no_state apart ∙ so_far.each index inside
-          ∙ ap (checked_more (get_or old index no_state)) (sym (count_next index blocks k within ∙ ap (λ b. count_of index (take k blocks) + one_if b) e ∙ omega arith))
+          ∙ ap (checked_more (get_or old index no_state)) (sym (count_next index blocks k within ∙ ap (λ b. times_in index (take k blocks) + one_if b) e ∙ omega arith))
 
 pub all_vouched : (blocks : List ℕ) (k : ℕ) (old now : List TrackState) → VouchedTo blocks k old now → length blocks ≤ k → AreVouched blocks old now
 all_vouched blocks k old now so_far end = record {
   as_many = so_far.as_many;
-  each = λ index inside. so_far.each index inside ∙ ap (λ l. checked_more (get_or old index no_state) (count_of index l)) (take_all k blocks end);
+  each = λ index inside. so_far.each index inside ∙ ap (λ l. checked_more (get_or old index no_state) (times_in index l)) (take_all k blocks end);
 }
 
 -- ---- the counts of vouched parts
@@ -120,11 +120,11 @@ and_false : (b : Bool) → (b && false) ≡ false
 and_false true = refl
 and_false false = refl
 
-one_block : (index at : ℕ) → count_of index (at ∷ []) ≡ one_if (eqb at index)
+one_block : (index at : ℕ) → times_in index (at ∷ []) ≡ one_if (eqb at index)
 one_block index at = count_cons (λ block. eqb block index) at [] ∙ omega arith
 
 payload_counted : (index at : ℕ) (v : Bool) (p : Payload) → v ≡ false
-    → one_if (eqb at index && is_checked true p) ≡ one_if (eqb at index && is_checked v p) + count_of index (waits_by at p)
+    → one_if (eqb at index && is_checked true p) ≡ one_if (eqb at index && is_checked v p) + times_in index (waits_by at p)
 payload_counted index at v payload.Laced is = omega arith
 payload_counted index at v payload.Long is = omega arith
 payload_counted index at v (payload.Frame verdict) is = omega arith
@@ -139,12 +139,12 @@ payload_counted index at v payload.Other is =
     and_true false = refl
 
 standing_counted : (index : ℕ) (s : Standing) → IsUnvouched s
-    → one_if (is_checked_in index (vouched_standing s)) ≡ one_if (is_checked_in index s) + count_of index (waits_in s)
+    → one_if (is_checked_in index (vouched_standing s)) ≡ one_if (is_checked_in index s) + times_in index (waits_in s)
 standing_counted index standing.Short is = omega arith
 standing_counted index (standing.Unnamed track) is = omega arith
 standing_counted index (standing.Named block) is = payload_counted index block.index block.is_vouched block.payload is
 
-part_counted : (index : ℕ) (p : Part) → IsInner p → one_if (is_checked_of index (vouched p)) ≡ one_if (is_checked_of index p) + count_of index (waits p)
+part_counted : (index : ℕ) (p : Part) → IsInner p → one_if (is_checked_of index (vouched p)) ≡ one_if (is_checked_of index p) + times_in index (waits p)
 part_counted index (part.Unknown span) is = omega arith
 part_counted index (part.Begin opening) is = absurd is
 part_counted index (part.Timestamp timestamp) is = omega arith
@@ -154,7 +154,7 @@ part_counted index (part.NoMatroska place) is = absurd is
 part_counted index (part.End closing) is = absurd is
 
 own_counted : (index : ℕ) (own : List Part) → AllByRecursion IsInner own
-    → count_by (is_checked_of index) (map vouched own) ≡ count_by (is_checked_of index) own + count_of index (flat_map waits own)
+    → count_by (is_checked_of index) (map vouched own) ≡ count_by (is_checked_of index) own + times_in index (flat_map waits own)
 own_counted index [] all = omega arith
 own_counted index (p ∷ ps) all =
     omega (
@@ -167,7 +167,7 @@ own_counted index (p ∷ ps) all =
     )
 
 pub all_counted : (index : ℕ) (before own : List Part) → AllByRecursion IsInner own
-    → count_by (is_checked_of index) (before ++ map vouched own) ≡ count_by (is_checked_of index) (before ++ own) + count_of index (flat_map waits own)
+    → count_by (is_checked_of index) (before ++ map vouched own) ≡ count_by (is_checked_of index) (before ++ own) + times_in index (flat_map waits own)
 all_counted index before own all =
     omega (arith, count_append (is_checked_of index) before (map vouched own), count_append (is_checked_of index) before own, own_counted index own all)
 
@@ -234,10 +234,10 @@ module _ (n : ℕ) (before own : List Part) (old : Reporter) (waiting : Waiting)
       (subst (λ m. AllByRecursion (λ index. index < m) (flat_map waits own)) (sym stands.many) (waits_below n own waits_for.below))
 
   pub blocks_room : old.taken < 2 ^ 64 → (index : ℕ) → index < length old.progress.tracks.items
-      → (get_or old.progress.tracks.items index no_state).checked + count_of index waiting.blocks.items < 2 ^ 64
+      → (get_or old.progress.tracks.items index no_state).checked + times_in index waiting.blocks.items < 2 ^ 64
   blocks_room small index within =
       let stand = stands.stands.tracks index within in
-      let same = ap (count_of index) waits_for.blocks in
+      let same = ap (times_in index) waits_for.blocks in
       let long = count_by-le-length (is_checked_of index) (before ++ map vouched own) in
       omega (
         arith,
@@ -278,7 +278,7 @@ module _ (n : ℕ) (before own : List Part) (old : Reporter) (waiting : Waiting)
               let stand = stands.stands.tracks index inside in
               subst (TrackStands (before ++ map vouched own) index) (sym (are.each index inside)) record {
                 blocks = stand.blocks ∙ sym (front_stays (count_by (is_block_of index)) (all_blocks index) before own);
-                checked = omega (arith, stand.checked, ap (count_of index) waits_for.blocks, all_counted index before own waits_for.inner);
+                checked = omega (arith, stand.checked, ap (times_in index) waits_for.blocks, all_counted index before own waits_for.inner);
                 last = stand.last ∙ sym (front_stays (last_time index) (all_last index) before own);
               };
           checked = checked_is ∙ waits_for.checked ∙ sym bytes_same;

@@ -5,7 +5,7 @@ ghost use Rattle.ebml.specs.Head.{HasHead};
 ghost use Rattle.ebml.specs.Children.{IsElement};
 ghost use Rattle.ebml.specs.Masters.{cluster_id};
 ghost use Rattle.ebml_reader.specs.Intake.{IsBounded};
-ghost use Rattle.ebml_reader.specs.Pieces.{IsWithin};
+ghost use Rattle.ebml_reader.specs.Pieces.{IsWithinLeft};
 ghost use Rattle.matroska_parts.specs.declared.parts.Part.{Part};
 ghost use Rattle.matroska_parts.specs.declared.top_elements.TopElement.{TopElement};
 ghost use Rattle.matroska_parts.specs.Named.{IsBelow};
@@ -14,7 +14,7 @@ ghost use Rattle.matroska_parts.specs.StreamedParts.{IsPlacedAt};
 ghost use Rattle.ffv1_check.specs.Inner.Stands.{ReporterStands};
 ghost use Rattle.matroska_parts.specs.Inner.Vouched.{vouched_if};
 ghost use Rattle.ffv1_check.specs.Inner.Vouched.{WaitsFor};
-ghost use Rattle.ffv1_check.specs.Inner.TakenParts.{TakesParts, TakesChild, left_of, TakesChildren, PassesAfterIn, EndsCluster, TakesCluster};
+ghost use Rattle.ffv1_check.specs.Inner.TakenParts.{TakesParts, TakesChild, size_left, TakesChildren, PassesAfterIn, EndsCluster, TakesCluster};
 
 use crate::report::Reporter;
 use crate::waiting::Waiting;
@@ -121,8 +121,8 @@ fn take_children<S: Source>(
 
 /// How many bytes are left of a content of this size.
 fn left_of(size: Option<u64>, passed: u64) -> Option<u64>
-    requires { IsWithin passed size }
-    ensures { result ≡ left_of size passed }
+    requires { IsWithinLeft passed size }
+    ensures { result ≡ size_left size passed }
 {
     match size {
         Some(size) => Some(size - passed),
@@ -161,7 +161,7 @@ fn pass_after<S: Source>(
     intake: &mut Intake,
     source: &mut S,
 ) -> Result<u64, ReaderFault>
-    requires { IsWithin children size }
+    requires { IsWithinLeft children size }
     ensures { PassesAfterIn size children result crc.old crc.new intake.old intake.new (S.log source.old) (S.log source.new) }
 {
     match size {

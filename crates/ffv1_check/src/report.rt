@@ -7,7 +7,7 @@ ghost use Rattle.ffv1_check.specs.Reports.{segment_findings, no_track_findings, 
 ghost use Rattle.ffv1_check.specs.Inner.Stands.{found_list, no_state, counted_in, AreCounted, IsChecked, ReporterStands};
 ghost use Rattle.matroska_parts.specs.Inner.Vouched.{vouched};
 ghost use Rattle.ffv1_check.specs.Inner.Vouched.{WaitsFor};
-ghost use Rattle.ffv1_check.specs.Inner.Counted.{count_of, AreVouched};
+ghost use Rattle.ffv1_check.specs.Inner.Counted.{times_in, AreVouched};
 ghost use Rattle.matroska_parts.specs.declared.parts.Part.{Part};
 ghost use Rattle.matroska_parts.specs.Named.{IsBelow};
 
@@ -146,7 +146,7 @@ impl Reporter {
 /// Counts a block more as checked for each that is of a track.
 fn vouch_blocks(tracks: &mut [TrackState], blocks: &[usize])
     requires below { AllByRecursion (λ index. index < length tracks.old) blocks.now }
-    requires room { (index : ℕ) → index < length tracks.old → (get_or tracks.old index no_state).checked + count_of index blocks.now < 2 ^ 64 }
+    requires room { (index : ℕ) → index < length tracks.old → (get_or tracks.old index no_state).checked + times_in index blocks.now < 2 ^ 64 }
     ensures { AreVouched blocks.now tracks.old tracks.new }
 {
     for block in blocks {

@@ -17,7 +17,7 @@ use Rattle.matroska_parts.specs.declared.parts.Closing.{Closing}
 use Rattle.matroska_parts.specs.declared.parts.Crc32.{Crc32}
 use Rattle.matroska_parts.specs.declared.elements.Inside.{Inside}
 use Rattle.matroska_parts.specs.Inner.Added.{AddsParts}
-use Rattle.matroska_parts.specs.Inner.Inside.{IsInside, doc_parts}
+use Rattle.matroska_parts.specs.Inner.Inside.{IsInsideOf, doc_parts}
 use Rattle.matroska_parts.proofs.ItemSteps.{closing_is}
 
 abbrev pub closing_with : ℕ → TopElement → (size content : ℕ) → Crc32 → Closing
@@ -54,7 +54,7 @@ regroup : (old own doc more : List Part) (first : Part) → (((old ++ first ∷ 
 regroup old own doc more first = simp append_assoc
 
 pub inside_parts : (found : Option PlacedContent) (tracks : List Track) (place : ℕ) (head : Head) (start content : List ℕ) (element : TopElement) (crc32 : Crc32) (inside : Inside)
-    (opening : Opening) (old p q r new : List Part) → top_element_of head.id ≡ Some element → length start ≡ head.length → IsInside head.id element content inside
+    (opening : Opening) (old p q r new : List Part) → top_element_of head.id ≡ Some element → length start ≡ head.length → IsInsideOf head.id element content inside
     → IsCrc32Of head (start ++ content) crc32 → opening ≡ opening_of place element head → p ≡ old ++ part.Begin opening ∷ []
     → q ≡ p ++ unknown_parts (place + head.length + inside.children) (drop inside.children content) → r ≡ q ++ doc_parts inside.is_matroska place
     → AddsEndParts record { first = found; tracks = tracks } (place + head.length) (closing_with place element (head.length + inside.length) inside.length crc32) r new

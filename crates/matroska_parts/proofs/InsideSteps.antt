@@ -13,7 +13,7 @@ use Rattle.matroska_parts.specs.declared.top_elements.TopElement.TheVariants as 
 use Rattle.matroska_parts.specs.declared.masters.ChildKind.TheVariants as child
 use Rattle.matroska_parts.specs.MasterParts.{child_kind, EachHasParts, unknown_parts, IsMasterChildBy, IsMasterChild, AreContentPartsBy, AreContentParts}
 use Rattle.matroska_parts.specs.Openings.{IsMatroska, AreDocParts}
-use Rattle.matroska_parts.specs.Inner.Inside.{doc_parts, IsInside}
+use Rattle.matroska_parts.specs.Inner.Inside.{doc_parts, IsInsideOf}
 
 -- ---- the masters of the top have no blocks, but for a Cluster
 
@@ -167,7 +167,7 @@ no_ebml id element known none same = go (eqb id ebml_id) refl
     go false e = only_ebml id e (known ∙ ap (λ (x : TopElement). Some x) same)
 
 pub leaf_inside : (id : ℕ) (element : TopElement) (content : List ℕ) (n : ℕ) → child_ids id ≡ None → (element ≡ tops.Ebml → ⊥) → n ≡ length content
-    → IsInside id element content record { length = n; children = n; is_matroska = true }
+    → IsInsideOf id element content record { length = n; children = n; is_matroska = true }
 leaf_inside id element content n none other long = record {
   long = long;
   within = omega (arith, long);
@@ -179,7 +179,7 @@ leaf_inside id element content n none other long = record {
 
 pub master_inside : (id : ℕ) (element : TopElement) (ids content : List ℕ) (children : List (List ℕ)) (n at : ℕ) → child_ids id ≡ Some ids → (id ≢ cluster_id) → (id ≢ 0xA0)
     → (element ≡ tops.Ebml → ⊥) → n ≡ length content → at ≤ length content → AreChildren ids content children (drop at content)
-    → IsInside id element content record { length = n; children = at; is_matroska = true }
+    → IsInsideOf id element content record { length = n; children = at; is_matroska = true }
 master_inside id element ids content children n at is no_cluster no_group' other long within are = record {
   long = long;
   within = within;
@@ -193,7 +193,7 @@ doc_by false content is place = inr (λ matroska. let e : ◌≡◌ {A = Bool} f
 
 pub ebml_inside : (id : ℕ) (ids content : List ℕ) (children : List (List ℕ)) (n at : ℕ) (b : Bool) → child_ids id ≡ Some ids → (id ≢ cluster_id) → (id ≢ 0xA0)
     → n ≡ length content → at ≤ length content → AreChildren ids content children (drop at content) → IsTrue b ↔ IsMatroska content
-    → IsInside id tops.Ebml content record { length = n; children = at; is_matroska = b }
+    → IsInsideOf id tops.Ebml content record { length = n; children = at; is_matroska = b }
 ebml_inside id ids content children n at b is no_cluster no_group' long within are doc = record {
   long = long;
   within = within;

@@ -1,32 +1,20 @@
 -- The items that were read of a file, by all that it has: the first Tracks, and the parts so far.
-use Rattle.std.proofs.Common.{◌≡◌, ℕ, ◌+◌, ◌^◌, ◌<◌, Bool, true, false, cond, List, [], ◌∷◌, ◌++◌, length, drop, refl, sym, ap, ◌∙◌, subst, arith, rules, inl, inr, zero-add}
-use Rattle.std.specs.Prelude.{IsTrue, IsSome, Option, Some, None, option_map, Contains}
+use Rattle.std.proofs.Common.{◌≡◌, ℕ, ◌+◌, Bool, true, false, cond, List, [], ◌∷◌, ◌++◌, length, drop, refl, sym, ap, ◌∙◌, subst, arith, inl, inr, zero-add}
+use Rattle.std.specs.Prelude.{IsTrue, Option, Some, None, option_map}
 use Rattle.std.proofs.lemmas.List.{append_assoc, append-nil, append_cancel_left, length-append, drop_at}
 use Rattle.ffv1_bits.specs.Parity.{AreBytes}
 use Rattle.ffv1_devices.specs.Logs.{ReadLog}
-use Rattle.ebml.specs.Items.{ItemValue, IsItem, bytes_of_items, AreItems, EachBefore, top_ids}
-use Rattle.ebml.specs.declared.items.Kind.{Kind}
-use Rattle.ebml.specs.declared.items.Kind.TheVariants as kind
+use Rattle.ebml.specs.Items.{ItemValue, IsItem, bytes_of_items, AreItems, EachBefore}
 use Rattle.ebml.proofs.Numbers.{bytes_drop}
 use Rattle.ebml.proofs.ItemList.{some_bytes, one_item, same_item, items_are_one, bytes_of_snoc}
 use Rattle.ebml_reader.specs.Reader.{ReaderState, StandsAfter, AreAllItems, GivesItem}
 use Rattle.ebml_reader.specs.declared.settled.FoundItem.{FoundItem}
 use Rattle.matroska_parts.specs.declared.tracks_search.FoundTracks.{FoundTracks}
-use Rattle.matroska_parts.specs.TopElements.{top_element_of}
 use Rattle.matroska_parts.specs.ItemParts.{PlacedContent, is_tracks, content_by, first_tracks}
 use Rattle.matroska_parts.specs.Inner.Firsts.{SaysWhere}
-use Rattle.matroska_parts.specs.SourceParts.{found_in, IsFirstTracksOf, FindsTracks, HasItsHead}
+use Rattle.matroska_parts.specs.SourceParts.{found_in, IsFirstTracksOf, FindsTracks}
 
 -- ---- items by what was given of them
-
-known_top : (id : ℕ) → Contains top_ids id → IsSome (top_element_of id)
-known_top id known = search rules
-
-pub its_head : (k : Kind) (item following : List ℕ) → IsItem k item following → HasItsHead k item
-its_head (kind.Segment head) item following is = is.0.has
-its_head (kind.Element head) item following is = (is.0.has, known_top head.id is.0.top.known)
-its_head (kind.Endless head) item following is = (is.0.has, known_top head.id is.0.top.known)
-its_head kind.Unknown item following is = tt
 
 last_item : (items : List ItemValue) (item : ItemValue) (rest : List ℕ) → EachBefore (items ++ item ∷ []) rest → IsItem item.kind item.bytes rest
 last_item [] item rest each = each.0
@@ -39,19 +27,11 @@ module _ (first : ReadLog) (items : List ItemValue) (found : FoundItem) (reading
   pub given_is : IsItem found.kind gives.bytes (reading.held.bytes ++ [])
   given_is = last_item items (item_of found gives.bytes) (reading.held.bytes ++ []) (gives.stands.each [] (λ _. refl))
 
-  pub given_some : 0 < length gives.bytes
-  given_some = some_bytes found.kind gives.bytes (reading.held.bytes ++ []) given_is
-
   long_with : length (bytes_of_items (items ++ item_of found gives.bytes ∷ [])) ≡ length (bytes_of_items items) + length gives.bytes
   long_with = ap length (bytes_of_snoc items (item_of found gives.bytes)) ∙ length-append (bytes_of_items items) gives.bytes
 
   pub place_after : (place : ℕ) → place ≡ length (bytes_of_items items) → place + found.length ≡ length (bytes_of_items (items ++ item_of found gives.bytes ∷ []))
   place_after place at = let long = gives.long in let all = long_with in omega (arith, at, long, all)
-
-  pub given_room : (place : ℕ) → place ≡ length (bytes_of_items items) → place + length gives.bytes < 2 ^ 63
-  given_room place at =
-      let counted = gives.stands.counted in let few = gives.few in let all = long_with in
-      omega (arith, at, counted, few, all, length-append (bytes_of_items (items ++ item_of found gives.bytes ∷ [])) reading.held.bytes)
 
 -- ---- the items of a file begin with those that were given
 

@@ -10,7 +10,7 @@ ghost use Rattle.matroska_parts.specs.SourceParts.{KnownTracks};
 ghost use Rattle.matroska_parts.specs.StreamedParts.{AddsEndParts};
 ghost use Rattle.matroska_parts.specs.Inner.Added.{AddsParts};
 ghost use Rattle.matroska_parts.specs.Inner.Firsts.{SaysWhere};
-ghost use Rattle.matroska_parts.specs.Inner.Inside.{IsInside, PassesInside, doc_parts};
+ghost use Rattle.matroska_parts.specs.Inner.Inside.{IsInsideOf, PassesInside, doc_parts};
 
 use crate::file_tracks::FileTracks;
 use crate::items::{passes, push_records_if, says_records};
@@ -111,7 +111,7 @@ pub(crate) fn push_inside(
     requires room { place + head.now.length + inside.now.length < 2 ^ 63 }
     requires within { inside.now.children ≤ inside.now.length }
     ensures { (found : Option PlacedContent) (start content : List ℕ) → SaysWhere first found → HasHead start head.now → length start ≡ head.now.length
-        → IsInside head.now.id element content inside.now → RunsOver content crc.now
+        → IsInsideOf head.now.id element content inside.now → RunsOver content crc.now
         → OnOk result (AddsParts (AreElementParts found tracks.now.named.tracks.items place head.now (start ++ content)) parts.old.items parts.new.items) }
 {
     let from = place + head.length as u64;

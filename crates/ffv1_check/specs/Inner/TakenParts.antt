@@ -9,7 +9,7 @@ use Rattle.ebml.specs.declared.items.Kind.{Kind}
 use Rattle.ebml_reader.specs.Reader.{Held, IsFault}
 use Rattle.ebml_reader.specs.RunningCrc.{CrcSoFar, RunsOver}
 use Rattle.ebml_reader.specs.Intake.{Passes, IsBounded, Whatever}
-use Rattle.ebml_reader.specs.Pieces.{PassesUpTo, GoesOver, up_to, IsWithin}
+use Rattle.ebml_reader.specs.Pieces.{PassesUpTo, GoesOver, up_to, IsWithinLeft}
 use Rattle.ebml_reader.specs.Starts.{PassesChildren, EndsItem}
 use Rattle.ebml_reader.specs.declared.fault.ReaderFault.{ReaderFault}
 use Rattle.ebml_reader.specs.declared.fault.ReaderFault.TheVariants.{Memory}
@@ -50,9 +50,9 @@ TakesChild tracks place bytes (Ok x) reporter later waiting kept =
 TakesChild tracks place bytes (Err fault) reporter later waiting kept = fault ≡ Memory
 
 -- how many bytes are left of a content
-abbrev pub left_of : Option ℕ → ℕ → Option ℕ
-left_of None passed = None
-left_of (Some size) passed = Some (size - passed)
+abbrev pub size_left : Option ℕ → ℕ → Option ℕ
+size_left None passed = None
+size_left (Some size) passed = Some (size - passed)
 
 -- what children of a Cluster were taken at this place: their parts are reported, as they are if its CRC-32 doesn't pass
 abbrev pub ReportsChildren : List Track → ℕ → List (List ℕ) → Reporter → Reporter → Waiting → Waiting → Type 0
@@ -64,7 +64,7 @@ pub record ChildrenTaken (tracks : List Track) (place : ℕ) (size : Option ℕ)
     (old new : Held) (before after : ReadLog) : Type 0 where
   pub content : List ℕ
   pub long : passed ≡ length content
-  pub within : IsWithin passed size
+  pub within : IsWithinLeft passed size
   pub passes : Passes content old new before after
   pub over : GoesOver content crc last
   pub children : List (List ℕ)
@@ -76,7 +76,7 @@ abbrev pub TakesChildren : List Track → ℕ → Option ℕ → Result ℕ Read
     → ReadLog → Type 0
 TakesChildren tracks place size (Ok passed) crc last reporter later waiting kept old new before after =
     ChildrenTaken tracks place size passed crc last reporter later waiting kept old new before after × IsBounded new
-    × Whatever new (λ left. BeginsNoChild cluster_ids (up_to (left_of size passed) left))
+    × Whatever new (λ left. BeginsNoChild cluster_ids (up_to (size_left size passed) left))
 TakesChildren tracks place size (Err fault) crc last reporter later waiting kept old new before after = IsFault fault old.taken before after
 
 -- what follows the children of a Cluster was passed: nothing where its size is unknown

@@ -18,7 +18,7 @@ abbrev pub doc_parts : Bool → ℕ → List Part
 doc_parts is_matroska place = if is_matroska then [] else part.NoMatroska place ∷ []
 
 -- What is known of the content of such an element: it has no parts but what is unknown, and what is said of its DocType.
-pub record IsInside (id : ℕ) (element : TopElement) (content : List ℕ) (inside : Inside) : Type 0 where
+pub record IsInsideOf (id : ℕ) (element : TopElement) (content : List ℕ) (inside : Inside) : Type 0 where
   pub long : inside.length ≡ length content
   pub within : inside.children ≤ length content
   pub parts : (tracks : List Track) (vouched : Bool) (place : ℕ)
@@ -27,7 +27,7 @@ pub record IsInside (id : ℕ) (element : TopElement) (content : List ℕ) (insi
 
 pub record InsidePassed (id : ℕ) (element : TopElement) (size : ℕ) (inside : Inside) (crc later : CrcSoFar) (old new : Held) (before after : ReadLog) : Type 0 where
   pub content : List ℕ
-  pub is : IsInside id element content inside
+  pub is : IsInsideOf id element content inside
   pub passes : PassesUpTo size content old new before after
   pub over : GoesOver content crc later
 

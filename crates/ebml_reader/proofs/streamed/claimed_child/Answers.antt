@@ -2,7 +2,7 @@ use Rattle.std.proofs.Common.{◌≡◌, ◌+◌, sym, ap, ◌∙◌, subst}
 use Rattle.std.specs.Prelude.{Contains}
 use Rattle.std.proofs.lemmas.Bool.{iff_false}
 use Rattle.ebml.specs.declared.head.Head.{Head}
-use Rattle.ebml_reader.specs.Pieces.{up_to, IsWithin}
+use Rattle.ebml_reader.specs.Pieces.{up_to, IsWithinLeft}
 use Rattle.ebml_reader.proofs.StreamSteps.{same_head, none_claimed, one_claimed}
 use Rattle.ebml_reader.proofs.streamed.claimed_child.Goals as goal
 
@@ -30,7 +30,7 @@ returns-then-not-fits g c =
     (λ head has known size size_is within.
     let same : head ≡ c.in-Some.head = same_head _ _ (sym c.in-Some.is ∙ c.read_head.ensures.only head has) in
     c.fits.ensures.none c.if-not-fits.true size (ap (λ (h : Head). h.size) (sym same) ∙ size_is)
-    (subst (λ (h : Head). IsWithin (h.length + size) c.args.left) same within))
+    (subst (λ (h : Head). IsWithinLeft (h.length + size) c.args.left) same within))
 
 pub returns : goal.returns
 returns g c =

@@ -1,4 +1,4 @@
-use Rattle.std.proofs.Common.{◌+◌, ◌<◌, ◌^◌, w32, Fits, arith}
+use Rattle.std.proofs.Common.{arith}
 use Rattle.matroska_parts.proofs.RecordSteps.{record_ends}
 use Rattle.matroska_parts.proofs.records.record_place.Goals as goal
 
