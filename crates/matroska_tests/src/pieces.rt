@@ -20,10 +20,12 @@ fn text_in_memory(alloc: Global, bytes: &[u8]) -> Result<String, Fail> {
 /// The file, whose Cluster has this size in eight octets.
 fn with_cluster_of(alloc: Global, size: &[u8; 8]) -> Result<Vec<u8>, Fail> {
     let file = file();
+    let (front, after) = file.split_at(720);
+    let (_, rest) = after.split_at(2);
     let mut bytes = Vec::new(alloc);
-    bytes.extend_from_slice(&file[..720])?;
+    bytes.extend_from_slice(front)?;
     bytes.extend_from_slice(size)?;
-    bytes.extend_from_slice(&file[722..])?;
+    bytes.extend_from_slice(rest)?;
     Ok(bytes)
 }
 
