@@ -45,7 +45,7 @@ IsAllPrinted done result = MatchResult done (λ _. result ≡ Ok true) (λ _. re
 -- a text that is printed, or stops
 pub text_as_promised : (text : List ℕ) (before after : Option (List ℕ)) (Kept : Type 0) (done : Result (Unit {0}) WriteFailed) (result : Result Bool CliFault)
     → IsAllPrinted done result → OnOk done (Appends before after text) → OnErr done (WritesFront before after text)
-    → IsAsPromised (prints_text text (record { before = before; after = after; IsKept = Kept; IsMade = Unit {0} })) (λ path. path ≡ paths.StandardOutput) result
+    → IsAsPromised (prints_text text (record { before = before; after = after; IsKept = Kept; IsMade = Unit {0}; CannotBeMade = ⊥ })) (λ path. path ≡ paths.StandardOutput) result
 text_as_promised text before after Kept (Ok value) result is ok err =
     rw is (record { does = (refl, ok); stops = tt; keeps = tt; unread = tt; refuses = tt; names = tt })
 text_as_promised text before after Kept (Err failed) result is ok err =

@@ -105,21 +105,23 @@ files_of recordings files log buffered_log =
       BufferedWent = SomeSource files.is_buffered_at buffered_log;
     }
 
--- What a command writes to: its bytes before and after, if they are known; that it is as it was; and that it is made, even of no bytes.
+-- What a command writes to: its bytes before and after, if they are known; that it is as it was; that it is made, even of no bytes; and that
+-- making it failed.
 pub record Written : Type 1 where
   pub before : Option (List ℕ)
   pub after : Option (List ℕ)
   pub IsKept : Type 0
   pub IsMade : Type 0
+  pub CannotBeMade : Type 0
 
 -- what writer this is, before and after
-abbrev pub made_by : {Writer : Type 0} → (contents : Writer → Option (List ℕ)) → (is_made : Writer → Type 0) → (old new : Writer) → Written
-made_by contents is_made old new =
-    record { before = contents old; after = contents new; IsKept = new ≡ old; IsMade = is_made new }
+abbrev pub made_by : {Writer : Type 0} → (contents : Writer → Option (List ℕ)) → (is_made cannot_make : Writer → Type 0) → (old new : Writer) → Written
+made_by contents is_made cannot_make old new =
+    record { before = contents old; after = contents new; IsKept = new ≡ old; IsMade = is_made new; CannotBeMade = cannot_make new }
 
 -- what is printed, which is always there
 abbrev pub printed_by : {Writer : Type 0} → (contents : Writer → Option (List ℕ)) → (old new : Writer) → Written
-printed_by contents old new = made_by contents (λ _. Unit {0}) old new
+printed_by contents old new = made_by contents (λ _. Unit {0}) (λ _. ⊥) old new
 
 -- What a command promises: what it did and returns; why it stopped; what a fault left as it was; what a fault rests on that says that a file
 -- was not read; what it returns where it refuses its words; and which of the file that is made and of what is printed it has no part in.
@@ -254,7 +256,7 @@ promise_of files made printed (Picture file out) =
 promise_of files made printed (Splice out copies) =
     record {
       Does = λ returned. made.IsMade × SplicesCopies (bytes_of_all files.bytes_at copies.items) made.before made.after printed.before printed.after returned;
-      Stops = StopsSplicing (bytes_of_all files.bytes_at copies.items) made.before made.after printed.before printed.after;
+      Stops = StopsSplicing made.CannotBeMade (bytes_of_all files.bytes_at copies.items) made.before made.after printed.before printed.after;
       Keeps = λ fault. UnlessWriting fault (made.IsKept × printed.IsKept);
       Unread = IfUnread (IsSpliceUnread files.SourceWent (words_of copies.items));
       Refuses = λ _. Unit {0};
@@ -264,7 +266,7 @@ promise_of files made printed (Mend list out copies) =
     record {
       Does = λ returned. made.IsMade × MendsFiles (files.bytes_at list.now) (bytes_of_all files.bytes_at copies.items)
           made.before made.after printed.before printed.after returned;
-      Stops = StopsMendingFiles (IsInput out.now list.now copies.items) (files.bytes_at list.now) (bytes_of_all files.bytes_at copies.items)
+      Stops = StopsMendingFiles (IsInput out.now list.now copies.items) made.CannotBeMade (files.bytes_at list.now) (bytes_of_all files.bytes_at copies.items)
           made.before made.after printed.before printed.after;
       Keeps = λ fault. IfOfList paths.List fault (made.IsKept × printed.IsKept)
           × IsWrittenIfTouched paths.Out made.IsKept made.before made.after fault;
@@ -287,7 +289,7 @@ promise_of files made printed (Samples recording out frames) =
     record {
       Does = λ returned. made.IsMade × PlaysFiles (files.bytes_at recording.record.now) recording.width recording.height
           (bytes_of_all files.bytes_at frames.items) made.before made.after printed.before printed.after returned;
-      Stops = StopsPlayingFiles (IsInput out.now recording.record.now frames.items) (files.bytes_at recording.record.now)
+      Stops = StopsPlayingFiles (IsInput out.now recording.record.now frames.items) made.CannotBeMade (files.bytes_at recording.record.now)
           recording.width recording.height (bytes_of_all files.bytes_at frames.items) made.before made.after printed.before printed.after;
       Keeps = λ fault. IfOfRecord fault (made.IsKept × printed.IsKept)
           × ((fault ≡ faults.Write paths.Out) ⊎ (made.IsKept × printed.IsKept) ⊎ FirstIsFrame (files.bytes_at recording.record.now)

@@ -54,11 +54,11 @@ IsUnjoined recordings BufferedWent first others (paths.Hold zero) = BufferedWent
 IsUnjoined recordings BufferedWent first others (paths.Hold (suc place)) = HoldsAt (BufferedWent (IsUnheld recordings)) others place
 IsUnjoined recordings BufferedWent first others _ = ⊥
 
--- A file was not opened, or one of both was not read once they were.
+-- The first file was not opened; or the second one was not, after the first was; or one of both was not read once they were.
 abbrev pub IsUnmerged : (IsUnopened : List ℕ → Type 0) → (OpenedWent : (ReadLog → ReadLog → Type 0) → List ℕ → Type 0) → (left right : List ℕ)
     → CommandPath → Type 0
 IsUnmerged IsUnopened OpenedWent left right (paths.Hold zero) = IsUnopened left
-IsUnmerged IsUnopened OpenedWent left right (paths.Hold (suc zero)) = IsUnopened right
+IsUnmerged IsUnopened OpenedWent left right (paths.Hold (suc zero)) = OpenedWent (λ _ _. Unit {0}) left × IsUnopened right
 IsUnmerged IsUnopened OpenedWent left right paths.Inputs = OpenedWent IsGivenUp left ⊎ OpenedWent IsGivenUp right
 IsUnmerged IsUnopened OpenedWent left right _ = ⊥
 

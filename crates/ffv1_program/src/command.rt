@@ -78,7 +78,7 @@ pub fn run<'a, F: FileSystem<'a>, O: MakeFile, W: Write>(
     requires { O.is_unmade_at made.old (out_word words.now) }
     ensures { RunsCommand
         (files_of recordings (F.files files.now) F.Device.log F.Buffered.log)
-        (made_by O.contents O.is_made made.old made.new) (printed_by W.contents output.old output.new) words.now result }
+        (made_by O.contents O.is_made O.cannot_make made.old made.new) (printed_by W.contents output.old output.new) words.now result }
 {
     match words {
         Words::Chain { frame } => all_done(chain_file(alloc, files, frame, output)),

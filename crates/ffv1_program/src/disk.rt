@@ -64,12 +64,15 @@ impl<'a, R: Files> FileSystem<'a> for Disk<'a, R> {
     }
 }
 
-impl<R: Files> MakeFile for OutputFile<'_, R> {
+impl<'a, R: Files> MakeFile for OutputFile<'a, R> {
     ghost use Rattle.ffv1_files.specs.Files.{IsUnmadeAt, IsFileMade};
+    ghost use Rattle.ffv1_program.specs.Openings.{FailsToMake};
 
     ghost is_unmade_at = { λ file path. IsUnmadeAt file path };
 
     ghost is_made = { λ file. IsFileMade file };
+
+    ghost cannot_make = { λ file. FailsToMake ⟦<PathToOpen<'a, R> as Opener>⟧.opens file };
 
     fn make(&mut self) -> io::Result<()> {
         OutputFile::make(self)

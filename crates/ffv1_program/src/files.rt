@@ -46,10 +46,14 @@ pub trait MakeFile: Write {
 
     ghost is_made: { Self → Type 0 };
 
+    // making it failed, and left it so
+    ghost cannot_make: { Self → Type 0 };
+
     /// Makes the file, if it is not made yet: so a file of no bytes is made, to which nothing is written.
     fn make(&mut self) -> io::Result<()>
         ensures bytes { Self.contents self.new ≡ Self.contents self.old }
-        ensures made { IfOk result (λ _. is_made self.new) };
+        ensures made { IfOk result (λ _. is_made self.new) }
+        ensures failed { IfErr result (λ _. cannot_make self.new) };
 }
 
 /// What a command returns that makes its file even of no bytes: where all was done, the file is made, if it is not made yet. Where that
@@ -60,7 +64,7 @@ pub(crate) fn make_after<O: MakeFile>(
 ) -> Result<bool, CliFault>
     ensures bytes { O.contents made.new ≡ O.contents made.old }
     ensures ok { IfOk result (λ all. (done ≡ Ok all) × O.is_made made.new) }
-    ensures err { IfErr result (λ fault. ((done ≡ Err fault) × (made.new ≡ made.old)) ⊎ IsUnmade (λ all. done ≡ Ok all) fault) }
+    ensures err { IfErr result (λ fault. ((done ≡ Err fault) × (made.new ≡ made.old)) ⊎ IsUnmade (O.cannot_make made.new) (λ all. done ≡ Ok all) fault) }
 {
     match done {
         Ok(all) => match made.make() {

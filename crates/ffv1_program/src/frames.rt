@@ -124,7 +124,7 @@ pub(crate) fn splice_files<'a, F: FileSystem<'a>, O: MakeFile, W: Write>(
 ) -> Result<bool, CliFault>
     ensures { (recordings : Recordings) (out : Bor (List ℕ)) → KeepsPromise
         (files_of recordings (F.files files.now) F.Device.log F.Buffered.log)
-        (made_by O.contents O.is_made made.old made.new) (printed_by W.contents output.old output.new)
+        (made_by O.contents O.is_made O.cannot_make made.old made.new) (printed_by W.contents output.old output.new)
         (Splice out copies.now) result }
 {
     if copies.is_empty() {

@@ -30,7 +30,7 @@ pub(crate) fn take_files<'a, F: FileSystem<'a>, O: MakeFile, W: Write>(
 ) -> Result<(), CliFault>
     ensures { (out : Bor (List ℕ)) → KeepsPromise
         (files_of recordings (F.files files.now) F.Device.log F.Buffered.log)
-        (made_by O.contents O.is_made made.old made.new) (printed_by W.contents output.old output.new)
+        (made_by O.contents O.is_made O.cannot_make made.old made.new) (printed_by W.contents output.old output.new)
         (Take recording.now out copies.now) (all_done result) }
 {
     let mut copies = sources_of(alloc, files, copies.as_slice())?;
@@ -61,7 +61,7 @@ pub(crate) fn join_files<'a, F: FileSystem<'a>, O: MakeFile, W: Write>(
 ) -> Result<(), CliFault>
     ensures { (out : Bor (List ℕ)) → KeepsPromise
         (files_of recordings (F.files files.now) F.Device.log F.Buffered.log)
-        (made_by O.contents O.is_made made.old made.new) (printed_by W.contents output.old output.new)
+        (made_by O.contents O.is_made O.cannot_make made.old made.new) (printed_by W.contents output.old output.new)
         (Join out first.entry others.now) (all_done result) }
 {
     let mut others = buffered_of(alloc, files, others.as_slice())?;
@@ -92,7 +92,7 @@ pub(crate) fn merge_files<'a, F: FileSystem<'a>, O: MakeFile>(
 ) -> Result<(), CliFault>
     ensures { KeepsPromise
         (files_of recordings (F.files files.now) F.Device.log F.Buffered.log)
-        (made_by O.contents O.is_made made.old made.new) nothing_written
+        (made_by O.contents O.is_made O.cannot_make made.old made.new) nothing_written
         (Merge out.entry left.entry right.entry) (all_done result) }
 {
     if out == left || out == right {
@@ -140,7 +140,7 @@ pub(crate) fn restore_file<'a, F: FileSystem<'a>, O: MakeFile, W: Write>(
 ) -> Result<(), CliFault>
     ensures { (out : Bor (List ℕ)) → KeepsPromise
         (files_of recordings (F.files files.now) F.Device.log F.Buffered.log)
-        (made_by O.contents O.is_made made.old made.new) (printed_by W.contents output.old output.new)
+        (made_by O.contents O.is_made O.cannot_make made.old made.new) (printed_by W.contents output.old output.new)
         (Restore file.entry out) (all_done result) }
 {
     let mut file = files.buffered(alloc, file)?;

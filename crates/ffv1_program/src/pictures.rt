@@ -27,7 +27,7 @@ pub(crate) fn picture_file<'a, F: FileSystem<'a>, O: MakeFile, W: Write>(
 ) -> Result<bool, CliFault>
     ensures { (out : Bor (List ℕ)) → KeepsPromise
         (files_of recordings (F.files files.now) F.Device.log F.Buffered.log)
-        (made_by O.contents O.is_made made.old made.new) (printed_by W.contents output.old output.new)
+        (made_by O.contents O.is_made O.cannot_make made.old made.new) (printed_by W.contents output.old output.new)
         (Picture file.entry out) result }
 {
     let mut file = files.buffered(alloc, file)?;
@@ -51,7 +51,7 @@ pub(crate) fn decode_files<'a, F: FileSystem<'a>, O: MakeFile, W: Write>(
 ) -> Result<(), CliFault>
     ensures { (recordings : Recordings) (out : Bor (List ℕ)) → KeepsPromise
         (files_of recordings (F.files files.now) F.Device.log F.Buffered.log)
-        (made_by O.contents O.is_made made.old made.new) (printed_by W.contents output.old output.new)
+        (made_by O.contents O.is_made O.cannot_make made.old made.new) (printed_by W.contents output.old output.new)
         (Decode recording.now frame.entry out) (all_done result) }
 {
     decode_of(
@@ -82,7 +82,7 @@ pub(crate) fn samples_files<'a, F: FileSystem<'a>, O: MakeFile, W: Write>(
 ) -> Result<bool, CliFault>
     ensures { (recordings : Recordings) → KeepsPromise
         (files_of recordings (F.files files.now) F.Device.log F.Buffered.log)
-        (made_by O.contents O.is_made made.old made.new) (printed_by W.contents output.old output.new)
+        (made_by O.contents O.is_made O.cannot_make made.old made.new) (printed_by W.contents output.old output.new)
         (Samples recording.now out.entry frames.now) result }
 {
     if out == recording.record || is_among(out, frames.as_slice()) {

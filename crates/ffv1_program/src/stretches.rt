@@ -51,7 +51,7 @@ pub(crate) fn mend_files<'a, F: FileSystem<'a>, O: MakeFile, W: Write>(
 ) -> Result<bool, CliFault>
     ensures { (recordings : Recordings) → KeepsPromise
         (files_of recordings (F.files files.now) F.Device.log F.Buffered.log)
-        (made_by O.contents O.is_made made.old made.new) (printed_by W.contents output.old output.new)
+        (made_by O.contents O.is_made O.cannot_make made.old made.new) (printed_by W.contents output.old output.new)
         (Mend list.entry out.entry copies.now) result }
 {
     if out == list || is_among(out, copies.as_slice()) {

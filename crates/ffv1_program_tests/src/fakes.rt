@@ -184,6 +184,8 @@ impl MakeFile for FakeOutput<'_> {
 
     ghost is_made = { λ file. file.is_made ≡ true };
 
+    ghost cannot_make = { λ file. file.is_made ≡ false };
+
     fn make(&mut self) -> io::Result<()> {
         if !self.is_made {
             self.order.add(self.path)?;

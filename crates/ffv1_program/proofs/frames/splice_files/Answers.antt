@@ -27,16 +27,16 @@ returns g c recordings out =
     record {
       does = made_ok all c.make_after.result _ _ c.make_after.ensures.ok
           (rw c.make_after.ensures.bytes (search (rules, rw (copies, c.as_slice.ensures.value) at bytes.ok)));
-      stops = made_err all c.make_after.result _ _ _ _ c.make_after.ensures.err
+      stops = made_err all c.make_after.result _ _ _ _ _ c.make_after.ensures.err
           (rw c.make_after.ensures.bytes (search (rules, rw (copies, c.as_slice.ensures.value) at bytes.ok)))
           (rw c.make_after.ensures.bytes (of_left (λ o w. IfErr all (SpliceStops (bytes_of_all (g.F.FileSystem.files c.args.files.now).bytes_at c.args.copies.now.items)
           (g.O.Write.contents c.args.made.now) (g.O.Write.contents o) (g.W.Write.contents c.args.output.now) (g.W.Write.contents w)))
           _ c.splice_of-all.new.out.writer.now _ c.splice_of-all.new.output.writer.now (search rules) (search rules)
           (rw (copies, c.as_slice.ensures.value, c.new.ensures.writer, c.new-2.ensures.writer) at bytes.err)));
-      keeps = made_kept all c.make_after.result c.args.made.now _ c.make_after.new.made _ UnlessWriting c.make_after.ensures.err (λ _. tt) (search (rules, kept));
-      unread = made_says all c.make_after.result _ _ c.make_after.ensures.err tt
+      keeps = made_kept _ all c.make_after.result c.args.made.now _ c.make_after.new.made _ UnlessWriting c.make_after.ensures.err (λ _. tt) (search (rules, kept));
+      unread = made_says _ all c.make_after.result _ _ c.make_after.ensures.err tt
           (splice_unread (g.F.FileSystem.files c.args.files.now).is_device_at g.F.Device.Source.log c.args.copies.now.items _ _ at _ _ _ _ _ all
           c.splice_of-all.ensures.reported c.splice_of-all.ensures.unread);
       refuses = tt;
-      names = made_says all c.make_after.result _ _ c.make_after.ensures.err tt (search (rules, bytes.names));
+      names = made_says _ all c.make_after.result _ _ c.make_after.ensures.err tt (search (rules, bytes.names));
     }

@@ -68,28 +68,28 @@ returns g c recordings =
     (samples_of_bytes _ _ _ _ _ _ _ _ _ _ clean c.samples_of-clean.ensures.reported) in
     record {
       does = made_ok clean c.make_after.result _ _ c.make_after.ensures.ok bytes.ok;
-      stops = later_err c.make_after.result _ _ _ _ (made_err clean c.make_after.result _ _ _ _ c.make_after.ensures.err bytes.ok bytes.err);
+      stops = later_err c.make_after.result _ _ _ _ (made_err clean c.make_after.result _ _ _ _ _ c.make_after.ensures.err bytes.ok bytes.err);
       keeps = err_both c.make_after.result _ _
-          (made_kept clean c.make_after.result c.args.made.now _ c.make_after.new.made _ IfOfRecord c.make_after.ensures.err (λ _. tt)
+          (made_kept _ clean c.make_after.result c.args.made.now _ c.make_after.new.made _ IfOfRecord c.make_after.ensures.err (λ _. tt)
           (if_of_record _ _ clean (λ same. (
             left_kept g.O.Write.contents c.new.result c.samples_of-clean.new.out c.args.made.now _ _ c.new.ensures.log c.new.ensures.writer (search rules) same.1,
             left_kept g.W.Write.contents c.new-2.result c.samples_of-clean.new.output c.args.output.now _ _ c.new-2.ensures.log c.new-2.ensures.writer
                 (search rules) same.2,
           )) c.samples_of-clean.ensures.untouched))
-          (made_begun clean c.make_after.result c.args.made.now _ c.make_after.new.made _ _ c.make_after.ensures.err
+          (made_begun _ clean c.make_after.result c.args.made.now _ c.make_after.new.made _ _ c.make_after.ensures.err
           (begun_so clean _ _ _ _ c.samples_of-clean.ensures.begun (λ same. (
             left_kept g.O.Write.contents c.new.result c.samples_of-clean.new.out c.args.made.now _ _ c.new.ensures.log c.new.ensures.writer (search rules) same.0,
             left_kept g.W.Write.contents c.new-2.result c.samples_of-clean.new.output c.args.output.now _ _ c.new-2.ensures.log c.new-2.ensures.writer
                 (search rules) same.1,
           )) (begins_of_inputs _ _ _ _ _ _ _ _ c.device.ensures.bytes inputs)));
-      unread = made_says clean c.make_after.result _ _ c.make_after.ensures.err tt
+      unread = made_says _ clean c.make_after.result _ _ c.make_after.ensures.err tt
           (samples_unread (g.F.FileSystem.files c.args.files.now).is_device_at g.F.Device.Source.log c.args.frames.now.items _ _ at _ c.device.result
           c.samples_of-clean.new.configuration c.device.ensures.at _ _ _ _ _ _ clean c.samples_of-clean.ensures.reported);
       refuses = λ is. absurd (elim is [
         | inl same ↦ search (rules, same)
         | inr there ↦ (let among = c.is_among.ensures.1 (rw c.as_slice.ensures.value there) in let not = c.if-is_among.false in cc)
       ]);
-      names = names_so (IsTakePath c.args.frames.now.len) _ c.make_after.result (λ path named. named) (made_says clean c.make_after.result _ _ c.make_after.ensures.err tt
+      names = names_so (IsTakePath c.args.frames.now.len) _ c.make_after.result (λ path named. named) (made_says _ clean c.make_after.result _ _ c.make_after.ensures.err tt
           (subst (λ n. IfErr clean (NamesPath (IsTakePath n)))
           (length-map c.args.frames.now.items _ ∙ sym c.args.frames.now.ok.0) bytes.names));
     }

@@ -44,7 +44,7 @@ returns g c recordings =
           (g.O.Write.contents o) (g.W.Write.contents c.args.output.now) (g.W.Write.contents w)))
           _ c.mend_of-good.new.out.writer.now _ c.mend_of-good.new.output.writer.now (search rules) (search rules)
           (rw (c.device.ensures.bytes, inputs, c.as_slice-2.ensures.value, c.new.ensures.writer, c.new-2.ensures.writer) at bytes.ok)));
-      stops = made_err good c.make_after.result _ _ _ _ c.make_after.ensures.err
+      stops = made_err good c.make_after.result _ _ _ _ _ c.make_after.ensures.err
           (rw c.make_after.ensures.bytes (of_left (λ o w. IfOk good (MendsFiles ((g.F.FileSystem.files c.args.files.now).bytes_at c.args.list.now)
           (bytes_of_all (g.F.FileSystem.files c.args.files.now).bytes_at c.args.copies.now.items) (g.O.Write.contents c.args.made.now)
           (g.O.Write.contents o) (g.W.Write.contents c.args.output.now) (g.W.Write.contents w)))
@@ -56,16 +56,16 @@ returns g c recordings =
           _ c.mend_of-good.new.out.writer.now _ c.mend_of-good.new.output.writer.now (search rules) (search rules)
           (rw (c.device.ensures.bytes, inputs, c.as_slice-2.ensures.value, c.new.ensures.writer, c.new-2.ensures.writer) at bytes.err)));
       keeps = err_both c.make_after.result _ _
-          (made_kept good c.make_after.result c.args.made.now _ c.make_after.new.made _ (IfOfList paths.List) c.make_after.ensures.err (λ _. tt)
+          (made_kept _ good c.make_after.result c.args.made.now _ c.make_after.new.made _ (IfOfList paths.List) c.make_after.ensures.err (λ _. tt)
           (of_list_so paths.List good (λ same. (
             left_kept g.O.Write.contents c.new.result c.mend_of-good.new.out c.args.made.now _ _ c.new.ensures.log c.new.ensures.writer (search rules) same.1,
             left_kept g.W.Write.contents c.new-2.result c.mend_of-good.new.output c.args.output.now _ _ c.new-2.ensures.log c.new-2.ensures.writer
                 (search rules) same.2,
           )) c.mend_of-good.ensures.untouched))
-          (made_touched g.O.Write.contents good c.make_after.result c.args.made.now _ c.make_after.new.made c.make_after.ensures.err
+          (made_touched _ g.O.Write.contents good c.make_after.result c.args.made.now _ c.make_after.new.made c.make_after.ensures.err
           (left_touched g.O.Write.contents c.new.result c.mend_of-good.new.out c.args.made.now _ _ c.new.ensures.log c.new.ensures.writer (search rules)
           paths.Out good c.mend_of-good.ensures.out_untouched));
-      unread = made_says good c.make_after.result _ _ c.make_after.ensures.err tt
+      unread = made_says _ good c.make_after.result _ _ c.make_after.ensures.err tt
           (mend_unread (g.F.FileSystem.files c.args.files.now).is_device_at g.F.Device.Source.log (λ reader. reader.source) _ c.args.copies.now.items c.device.result
           c.mend_of-good.new.list c.in_ok-copies.copies.items c.as_mut_slice.result.now c.mend_of-good.new.copies c.device.ensures.at at c.as_mut_slice.ensures.value
           _ _ _ _ good c.mend_of-good.ensures.reported);
@@ -73,7 +73,7 @@ returns g c recordings =
         | inl same ↦ search (rules, same)
         | inr there ↦ (let among = c.is_among.ensures.1 (rw c.as_slice.ensures.value there) in let not = c.if-is_among.false in cc)
       ]);
-      names = names_so (IsMendPath c.args.copies.now.len) _ c.make_after.result (λ path named. named) (made_says good c.make_after.result _ _ c.make_after.ensures.err tt
+      names = names_so (IsMendPath c.args.copies.now.len) _ c.make_after.result (λ path named. named) (made_says _ good c.make_after.result _ _ c.make_after.ensures.err tt
           (subst (λ n. IfErr good (NamesPath (IsMendPath n)))
           (ap length inputs ∙ length-map c.as_slice-2.result.now _ ∙ ap length c.as_slice-2.ensures.value ∙ sym c.args.copies.now.ok.0) bytes.names));
     }
