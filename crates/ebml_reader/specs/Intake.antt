@@ -1,6 +1,7 @@
 -- What was read of a source and not passed yet, and how it goes on.
 use Rattle.std.specs.Prelude.{ℕ, ◌+◌, ◌≡◌, ◌<◌, ◌≤◌, ◌^◌, ◌⊎◌, IsTrue, List, [], ◌++◌, length, Result, Ok, Err}
 use Rattle.std.specs.Io.KnownBytes.{IsAtEnd}
+use Rattle.ffv1_bits.specs.Parity.{AreBytes}
 use Rattle.ffv1_devices.specs.Logs.{ReadLog, Reads}
 use Rattle.ebml_reader.specs.declared.fault.ReaderFault.{ReaderFault}
 use Rattle.ebml_reader.specs.Reader.{Held, IsFault}
@@ -9,6 +10,7 @@ use Rattle.ebml_reader.specs.Reader.{Held, IsFault}
 pub record Passes (passed : List ℕ) (old new : Held) (before after : ReadLog) : Type 0 where
   pub read : List ℕ
   pub reads : Reads before after read
+  pub are : AreBytes read
   pub joined : old.bytes ++ read ≡ passed ++ new.bytes
   pub counted : new.taken ≡ old.taken + length read
   pub stays : IsTrue old.ended → (read ≡ []) × IsTrue new.ended

@@ -1,6 +1,7 @@
 -- The items that a reader gives of a source, one after the other, and when it gives none (own).
 use Rattle.std.specs.Prelude.{ℕ, ◌+◌, ◌≡◌, ◌≢◌, ◌<◌, ◌≤◌, ◌^◌, ◌⊎◌, Bool, false, IsTrue, List, [], ◌∷◌, ◌++◌, length, Option, Some, None, Result, Ok, Err}
 use Rattle.std.specs.Io.KnownBytes.{IsAtEnd}
+use Rattle.ffv1_bits.specs.Parity.{AreBytes}
 use Rattle.ffv1_devices.specs.Logs.{ReadLog, Reads, BreaksOff}
 use Rattle.ebml.specs.Items.{ItemValue, bytes_of_items, EachBefore, AreItems}
 use Rattle.ebml.specs.declared.items.Kind.TheVariants.{Unknown}
@@ -35,6 +36,7 @@ pub record ReaderState : Type 0 where
 -- follows that, nothing if the source has ended, each is an item.
 pub record StandsAfter (first : ReadLog) (items : List ItemValue) (held : Held) (now : ReadLog) : Type 0 where
   pub reads : Reads first now (bytes_of_items items ++ held.bytes)
+  pub are : AreBytes (bytes_of_items items ++ held.bytes)
   pub counted : held.taken ≡ length (bytes_of_items items ++ held.bytes)
   pub end : IsTrue held.ended → IsAtEnd now.remaining
   pub each : (more : List ℕ) → (IsTrue held.ended → more ≡ []) → EachBefore items (held.bytes ++ more)
@@ -42,6 +44,7 @@ pub record StandsAfter (first : ReadLog) (items : List ItemValue) (held : Held) 
 -- The source has ended, and these are the items of all that was read.
 pub record AreAllItems (first : ReadLog) (items : List ItemValue) (now : ReadLog) : Type 0 where
   pub reads : Reads first now (bytes_of_items items)
+  pub are_bytes : AreBytes (bytes_of_items items)
   pub end : IsAtEnd now.remaining
   pub are : AreItems (bytes_of_items items) items
 

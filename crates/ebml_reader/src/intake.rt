@@ -1,12 +1,13 @@
 //! What was read of a source and not passed yet.
-ghost use Rattle.std.specs.Prelude.{◌≡◌, ◌↔◌, ◌<◌, ◌≤◌, false, IsTrue, length, drop};
+ghost use Rattle.std.specs.Prelude.{◌≡◌, ◌↔◌, ◌+◌, ◌^◌, ◌<◌, ◌≤◌, false, IsTrue, OnOk, nat_eq, ◌++◌, length, drop};
+ghost use Rattle.ffv1_bits.specs.Parity.{AreBytes};
 ghost use Rattle.ebml_reader.specs.Reader.{nothing_held};
 ghost use Rattle.ebml_reader.specs.Intake.{IsBounded, FillsUp};
 ghost use Rattle.ebml_reader.specs.Inner.Piece.{ReadsPiece};
 
 use crate::fault::ReaderFault;
 use ffv1_devices::{Source, read_some};
-use std::alloc::Global;
+use std::alloc::{AllocError, Global};
 use std::marker::Model;
 
 /// So many bytes are read at once, at most.
@@ -96,9 +97,23 @@ impl Intake {
         self.clear_passed();
         let mut piece = [0u8; PIECE];
         let count = read_some(source, &mut piece)?;
-        self.room.extend_from_slice(&piece[..count])?;
-        self.taken += count as u64;
-        self.is_ended = count == 0;
+        self.hold(&piece[..count])?;
+        Ok(())
+    }
+
+    /// Holds the bytes that were read next. If there are none, the source has ended.
+    fn hold(&mut self, piece: &[u8]) -> Result<(), AllocError>
+        requires { self.old.taken + length piece.now < 2 ^ 63 }
+        ensures are { AreBytes piece.now }
+        ensures held { OnOk result (self.new ≡ record {
+            bytes = self.old.bytes ++ piece.now;
+            taken = self.old.taken + length piece.now;
+            ended = nat_eq (length piece.now) 0;
+        }) }
+    {
+        self.room.extend_from_slice(piece)?;
+        self.taken += piece.len() as u64;
+        self.is_ended = piece.is_empty();
         Ok(())
     }
 

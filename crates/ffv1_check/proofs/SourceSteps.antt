@@ -8,6 +8,7 @@ use Rattle.ffv1_devices.proofs.Steps.{Reads-nil}
 use Rattle.ebml_reader.specs.Reader.{Held, nothing_held, StandsAfter}
 use Rattle.ebml_reader.specs.declared.starts.ItemStart.{ItemStart}
 use Rattle.ebml_reader.specs.Starts.{StartsItem, EndsItem, PassesItemOf}
+use Rattle.ebml_reader.proofs.Steps.{no_bytes}
 use Rattle.ebml_reader.proofs.StartSteps.{stands_passed}
 use Rattle.ebml.proofs.ItemList.{some_bytes, bytes_of_snoc}
 use Rattle.matroska_parts.specs.SourceParts.{KnownTracks}
@@ -35,7 +36,7 @@ check_none first found tracks held reporter none stands =
     subst (λ h. CheckSoFar first found tracks h reporter first 0) (sym none)
     record {
       items = [];
-      stands = record { reads = Reads-nil first; counted = refl; end = λ ended. absurd cc; each = λ more ends. tt };
+      stands = record { reads = Reads-nil first; are = no_bytes; counted = refl; end = λ ended. absurd cc; each = λ more ends. tt };
       at = refl;
       parts = [];
       have = refl;

@@ -1,7 +1,6 @@
 -- What a check of a file reports that is read from a source (own): the report of the bytes that the source gave.
 use Rattle.std.specs.Prelude.{ℕ, List, Result, Ok, Err}
 use Rattle.std.specs.Io.KnownBytes.{IsAtEnd}
-use Rattle.ffv1_bits.specs.Parity.{AreBytes}
 use Rattle.ffv1_devices.specs.Logs.{ReadLog, Reads}
 use Rattle.ebml_reader.specs.Reader.{IsFault}
 use Rattle.ebml_reader.specs.declared.fault.ReaderFault.{ReaderFault}
@@ -15,7 +14,7 @@ pub record IsReadAndChecked (found : FoundTracks) (report : Report) (old new : R
   pub file : List ℕ
   pub reads : Reads old new file
   pub end : IsAtEnd new.remaining
-  pub is : AreBytes file → IsFirstTracksOf (found_in found) file → IsCheckOf file report
+  pub is : IsFirstTracksOf (found_in found) file → IsCheckOf file report
 
 abbrev pub ChecksSource : FoundTracks → Result Report ReaderFault → ReadLog → ReadLog → Type 0
 ChecksSource found (Ok report) old new = IsReadAndChecked found report old new

@@ -2,7 +2,6 @@
 use Rattle.std.proofs.Common.{◌≡◌, ◌⊎◌, ℕ, List, [], ◌++◌, Option, None, Some, Bool, IfSome, Result, Ok, Err, IfOk, IfErr, refl, sym, ap, ◌∙◌, subst, inl, inr, append-nil}
 use Rattle.std.specs.Io.KnownBytes.{Keeps, Consumes, IsAtEnd}
 use Rattle.std.proofs.KnownBytes.{Consumes-whole, Keeps-refl}
-use Rattle.ffv1_bits.specs.Parity.{AreBytes}
 use Rattle.ffv1_devices.specs.Logs.{ReadLog, WriteLog, StopsWriting}
 use Rattle.ffv1_devices.proofs.Steps.{Reads-nil}
 use Rattle.ebml_reader.specs.Reader.{IsFault}
@@ -59,9 +58,9 @@ first_of found (Some file) (Some rest) read consumed (inr (end, is)) =
 
 -- so the report is that of the file
 of_first : (found : Option PlacedContent) (known : Option (List ℕ)) (report : Report) → IfSome known (IsFirstTracksOf found)
-    → IfSome known (λ bytes. AreBytes bytes → IsFirstTracksOf found bytes → IsCheckOf bytes report) → IsCheckOfFile known report
+    → IfSome known (λ bytes. IsFirstTracksOf found bytes → IsCheckOf bytes report) → IsCheckOfFile known report
 of_first found None report first is = tt
-of_first found (Some bytes) report first is = λ are. is are first
+of_first found (Some bytes) report first is = is first
 
 -- If both sources would give the same file, this was done with its bytes, or a fault stopped it; and a fault names a path of the command.
 pub record CheckOfBytes (r : Result Bool CliFault) (first second before after : Option (List ℕ)) : Type 0 where
@@ -79,7 +78,7 @@ module _ (a b c d : ReadLog) (x y : WriteLog) where
       let first = first_of found a.remaining b.remaining takes.finds.read takes.finds.reads.bytes' takes.finds.is in
       let checked = takes.checks in
       of_first found c.remaining report (subst (λ known. IfSome known (IsFirstTracksOf found)) same first)
-      (Consumes-whole _ _ checked.file (λ bytes. AreBytes bytes → IsFirstTracksOf found bytes → IsCheckOf bytes report) checked.reads.bytes' checked.end checked.is)
+      (Consumes-whole _ _ checked.file (λ bytes. IsFirstTracksOf found bytes → IsCheckOf bytes report) checked.reads.bytes' checked.end checked.is)
 
   pub check_of_bytes : (r : Result Bool CliFault) → ChecksDevices r a b c d x y → CheckOfBytes r a.remaining c.remaining x.contents y.contents
   check_of_bytes (Ok whole) (report, takes, returned, wrote) = record {

@@ -1,7 +1,6 @@
 -- What the command `check` reads and prints: a file, which is opened twice, and the report of it.
 use Rattle.std.specs.Prelude.{ℕ, ◌≡◌, ◌⊎◌, Bool, List, Option, IfSome, Result, Ok, Err}
 use Rattle.std.specs.Io.KnownBytes.{Appends, Keeps}
-use Rattle.ffv1_bits.specs.Parity.{AreBytes}
 use Rattle.ffv1_devices.specs.Logs.{ReadLog, WriteLog, Writes, StopsWriting}
 use Rattle.ebml_reader.specs.Reader.{IsFault}
 use Rattle.ebml_reader.specs.declared.fault.ReaderFault.TheVariants as stops
@@ -59,7 +58,7 @@ ChecksDevices (Err fault) first_old first_new second_old second_new out_old out_
 
 -- The report is that of a check of the file, if its bytes are known.
 abbrev pub IsCheckOfFile : Option (List ℕ) → Report → Type 0
-IsCheckOfFile file report = IfSome file (λ bytes. AreBytes bytes → IsCheckOf bytes report)
+IsCheckOfFile file report = IfSome file (λ bytes. IsCheckOf bytes report)
 
 -- The report of a check of the file was printed, and the command returned whether the file is whole.
 pub record ChecksFile (file before after : Option (List ℕ)) (whole : Bool) : Type 0 where

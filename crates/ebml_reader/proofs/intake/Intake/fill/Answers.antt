@@ -1,6 +1,6 @@
 use Rattle.std.proofs.Common.{[]}
 use Rattle.std.proofs.lemmas.Result.{err_from_is_err_and}
-use Rattle.ebml_reader.proofs.Steps.{less_left, has_by, fault-after, more_taken}
+use Rattle.ebml_reader.proofs.Steps.{less_left, has_by, fault-after, more_taken, passes-trans}
 use Rattle.ebml_reader.proofs.intake.Intake.fill.Goals as goal
 
 pub loop-self-smaller : goal.loop-self-smaller
@@ -16,3 +16,6 @@ returns-in_err-read_piece g c =
 pub returns : goal.returns
 returns g c =
     (c.loop-self.invariant, has_by c.loop-self.self.ended c.lacks.result _ c.args.size c.loop-self-test.false c.lacks.ensures.lacks, c.lacks.ensures.bounded)
+
+pub loop-self-preserved : goal.loop-self-preserved
+loop-self-preserved g c = passes-trans [] [] c.args.self.now c.loop-self.self c.read_piece.new.self _ _ _ c.loop-self.invariant c.in_ok-read_piece.ensures.0
