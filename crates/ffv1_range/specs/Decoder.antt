@@ -2,7 +2,7 @@
 use Rattle.std.specs.Prelude.{◌≡◌, ℕ, ◌+◌, ◌≤◌, ◌<◌, Bool, List, length, Result, Ok, Err, Option, Some, None, slice_index, ◌==◌, ◌&&◌, not, nat_lt}
 use Rattle.ffv1_range.specs.Results.{◌>>>◌}
 use Rattle.ffv1_range.specs.Coding.{Coder, Mode, bit_at, start_of}
-use Rattle.ffv1_range.specs.Transitions.{state_following, IsBitState}
+use Rattle.ffv1_range.specs.Transitions.{standard_transitions, state_following, IsBitState}
 use Rattle.ffv1_range.specs.declared.coding.RangeEnd.{RangeEnd}
 use Rattle.ffv1_range.specs.declared.coding.RangeFault.{RangeFault}
 
@@ -37,6 +37,10 @@ KeepsFault r (Err e) s = s ≡ reader_at r (Err e)
 
 abbrev pub AreStates : List ℕ → Type 0
 AreStates states = (i : ℕ) → i < length states → IsBitState (slice_index states i)
+
+-- By the default table a row's states stay from 8 to 248, where a fault is met too.
+abbrev pub KeepsStates : Reader → (old new : List ℕ) → Type 0
+KeepsStates r old new = r.mode.transitions ≡ standard_transitions → AreStates old → AreStates new
 
 -- A call made a decoder of this content.
 abbrev pub Starts : Mode → List ℕ → Result Reader RangeFault → Type 0

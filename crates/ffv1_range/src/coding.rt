@@ -5,7 +5,7 @@ ghost use Rattle.std.specs.Prelude.{◌≡◌, ◌++◌, ◌∷◌, [], replicat
 ghost use Rattle.ffv1_range.specs.Coding.{start_of, started, bit_at, refilled, slot_at, record_mode, header_mode, sentinel_mode};
 ghost use Rattle.ffv1_range.specs.Forms.{ReadsForm, same_fault, slot_form};
 ghost use Rattle.ffv1_range.specs.Inner.Forms.{Gives};
-ghost use Rattle.ffv1_range.specs.Decoder.{reader_at, ReadsBit, KeepsFault, IsCoder, Starts, EndsAt, EndsSo, is_clean};
+ghost use Rattle.ffv1_range.specs.Decoder.{reader_at, ReadsBit, KeepsFault, KeepsStates, IsCoder, Starts, EndsAt, EndsSo, is_clean};
 ghost use Rattle.ffv1_range.specs.Views.{coder_of};
 ghost use Rattle.ffv1_range.specs.Transitions.{state_following};
 
@@ -279,6 +279,7 @@ impl<'a> RangeDecoder<'a> {
         requires { slot < 32 }
         ensures read { ReadsForm same_fault (slot_form slot) self.old states.old result self.new states.new }
         ensures kept { KeepsFault self.old result self.new }
+        ensures states { KeepsStates self.old states.old states.new }
     {
         self.bit(&mut states[slot])
     }
@@ -293,6 +294,7 @@ impl<'a> RangeDecoder<'a> {
         requires { slot < 32 }
         ensures read { ReadsForm same_fault (slot_form slot) self.old states.old result self.new states.new }
         ensures kept { KeepsFault self.old result self.new }
+        ensures states { KeepsStates self.old states.old states.new }
     {
         self.even_bit(&mut states[slot])
     }

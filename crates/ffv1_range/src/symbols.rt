@@ -2,13 +2,13 @@
 ghost use Rattle.std.specs.Prelude.{◌≡◌, ◌<◌, ◌≤◌, IsOk, IfOk, pos, neg_ℤ, if◌then◌else◌};
 ghost use Rattle.ffv1_range.specs.Reading.{symbol_form, signed_symbol_form, signed_form_within, exponent_form, low_form, SymbolIsSpelled, SignedSymbolIsSpelled};
 ghost use Rattle.ffv1_range.specs.Forms.{ReadsForm, same_fault};
-ghost use Rattle.ffv1_range.specs.Decoder.{KeepsFault};
+ghost use Rattle.ffv1_range.specs.Decoder.{KeepsFault, KeepsStates};
 
 use crate::coding::{RangeDecoder, RangeFault};
 
 impl RangeDecoder<'_> {
     /// Reads an unsigned symbol at a row of 32 states (RFC 9043, section 3.8.1.2). The states of the
-    /// slots that it meets become those that follow its bits.
+    /// slots that it meets become those that follow its bits: by the default table states from 8 to 248 stay there, whatever is returned.
     ///
     /// Refused with `Short` where a byte past the content is wanted in sentinel mode, and with `SymbolTooLong` where
     /// the exponent would pass 31. A fault is returned by each later call too.
@@ -16,6 +16,7 @@ impl RangeDecoder<'_> {
     pub fn unsigned(&mut self, states: &mut [u8; 32]) -> Result<u32, RangeFault>
         ensures read { ReadsForm same_fault symbol_form self.old states.old result self.new states.new }
         ensures kept { KeepsFault self.old result self.new }
+        ensures states { KeepsStates self.old states.old states.new }
     {
         if self.slot(states, 0)? {
             return Ok(0);
@@ -29,6 +30,7 @@ impl RangeDecoder<'_> {
     pub fn signed(&mut self, states: &mut [u8; 32]) -> Result<i64, RangeFault>
         ensures read { ReadsForm same_fault signed_symbol_form self.old states.old result self.new states.new }
         ensures kept { KeepsFault self.old result self.new }
+        ensures states { KeepsStates self.old states.old states.new }
     {
         self.signed_within(states, 32)
     }
@@ -44,6 +46,7 @@ impl RangeDecoder<'_> {
         requires few { bits ≤ 32 }
         ensures read { ReadsForm same_fault (signed_form_within bits) self.old states.old result self.new states.new }
         ensures kept { KeepsFault self.old result self.new }
+        ensures states { KeepsStates self.old states.old states.new }
     {
         if self.slot(states, 0)? {
             return Ok(0);
@@ -62,6 +65,7 @@ impl RangeDecoder<'_> {
         requires few { limit ≤ 32 }
         ensures read { ReadsForm same_fault (exponent_form limit 0) self.old states.old result self.new states.new }
         ensures kept { KeepsFault self.old result self.new }
+        ensures states { KeepsStates self.old states.old states.new }
         ensures small { IfOk result (λ exponent. exponent < limit) }
     {
         for exponent in 0..limit {
@@ -81,6 +85,7 @@ impl RangeDecoder<'_> {
         requires alive { IsOk self.old.at }
         ensures read { ReadsForm same_fault (low_form exponent 1) self.old states.old result self.new states.new }
         ensures kept { KeepsFault self.old result self.new }
+        ensures states { KeepsStates self.old states.old states.new }
     {
         let mut magnitude = 1;
         for place in (0..exponent).rev() {

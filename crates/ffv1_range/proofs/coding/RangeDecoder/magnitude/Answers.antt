@@ -1,6 +1,7 @@
 use Rattle.std.proofs.Common.{◌+◌, ◌-◌, ◌*◌, ◌^◌, ◌≤◌, false, arith, ap, refl}
 use Rattle.std.proofs.lemmas.Result.{err_from_is_err_and}
 use Rattle.ffv1_range.proofs.SymbolForms.{low_turn, low_fails, low_end, fits_more, fits_now}
+use Rattle.ffv1_range.proofs.Slots.{keeps-trans}
 use Rattle.ffv1_range.proofs.Forms.{at_ok}
 use Rattle.ffv1_range.proofs.coding.RangeDecoder.magnitude.Goals as goal
 use Rattle.ffv1_range.proofs.coding.RangeDecoder.magnitude.Goals.{After-from}
@@ -36,6 +37,7 @@ loop-place-preserved c =
           c.args.self.now c.loop-place.self c.even_slot.new.self c.args.states.now c.loop-place.states c.even_slot.new.states
           (omega arith) (ap (λ x. 22 + x) c.min.ensures) c.from.ensures c.loop-place.invariant.going c.in_ok-bit.ensures.read;
       alive = (c.in_ok-bit.ensures.read.0, at_ok c.loop-place.self c.even_slot.new.self c.in_ok-bit.ensures.read.0 c.in_ok-bit.ensures.read.2);
+      states = keeps-trans c.args.self.now c.loop-place.self c.args.states.now c.loop-place.states c.even_slot.new.states c.loop-place.invariant.going.reader c.loop-place.invariant.states c.in_ok-bit.ensures.states;
       fits = fits c;
     }
 
@@ -43,3 +45,11 @@ pub returns-clause-read : goal.returns-clause-read
 returns-clause-read c =
     low_end c.args.exponent c.loop-place.place c.loop-place.magnitude c.args.self.now c.loop-place.self c.args.states.now c.loop-place.states
     c.loop-place.invariant.alive.0 (omega arith) c.loop-place.invariant.alive.1 c.loop-place.invariant.going
+
+pub returns-in_err-bit-clause-states : goal.returns-in_err-bit-clause-states
+returns-in_err-bit-clause-states c =
+    keeps-trans c.args.self.now c.loop-place.self c.args.states.now c.loop-place.states c.even_slot.new.states c.loop-place.invariant.going.reader
+    c.loop-place.invariant.states c.in_err-bit.ensures.states
+
+pub returns-clause-states : goal.returns-clause-states
+returns-clause-states c = c.loop-place.invariant.states
