@@ -33,7 +33,7 @@ footer_long ec = by_test (ec == 0)
     by_test true = omega arith
     by_test false = omega arith
 
-one_slices : (r : RecordingValue) (payload : List ℕ) (xs ys : List (List ℕ)) → AreSlicesOf r payload xs → AreSlicesOf r payload ys → xs ≡ ys
+pub one_slices : (r : RecordingValue) (payload : List ℕ) (xs ys : List (List ℕ)) → AreSlicesOf r payload xs → AreSlicesOf r payload ys → xs ≡ ys
 one_slices r payload xs ys a b = one_cut _ _ _ xs ys (footer_long r.setup.ec) a.cut b.cut
 
 -- ---- one header
@@ -50,14 +50,14 @@ one_header r slice first header other a b =
     let q = slice_header_run r (slice_content r slice) first other b.start b.is_header in
     ap (λ x. x.0) (same_read _ (header, a.start) (other, b.start) p q)
 
-has_no_fault : (r : RecordingValue) (slice : List ℕ) (first : Bool) (header : SliceHeader) (cause : LinkFault) → HasSliceHeader r slice first header
+pub has_no_fault : (r : RecordingValue) (slice : List ℕ) (first : Bool) (header : SliceHeader) (cause : LinkFault) → HasSliceHeader r slice first header
     → HasNoSliceHeader r slice first cause → ⊥
 has_no_fault r slice first header Parity has none = none has.parity
 has_no_fault r slice first header (Head fault) has none =
     read_or_not _ (header, has.start) fault (slice_header_run r (slice_content r slice) first header has.start has.is_header) none.1
 
 -- headers of the same slices are alike up to a place
-one_headers : (r : RecordingValue) (slices : List (List ℕ)) (headers more : List SliceHeader) (count : ℕ) → HaveHeaders r slices headers count
+pub one_headers : (r : RecordingValue) (slices : List (List ℕ)) (headers more : List SliceHeader) (count : ℕ) → HaveHeaders r slices headers count
     → HaveHeaders r slices more count → (place : ℕ) → place < count → header_at headers place ≡ header_at more place
 one_headers r slices headers more count a b place lt = one_header r _ _ _ _ (a place lt) (b place lt)
 

@@ -109,9 +109,11 @@ IsFirstLayoutFault r payload Memory = Unit {0}
 
 -- ---- a law
 
--- No payload is laid out in two ways; and one that is has no fault.
+-- No payload is laid out in two ways; one that is has no fault, and any other one fault.
 pub record OneLayout : Type 0 where
   pub one : (r : RecordingValue) (payload : List ℕ) (slices others : List (List ℕ)) (headers more : List SliceHeader)
       → IsLaidOut r payload slices headers → IsLaidOut r payload others more → (slices ≡ others) × (headers ≡ more)
   pub no_fault : (r : RecordingValue) (payload : List ℕ) (slices : List (List ℕ)) (headers : List SliceHeader) (fault : LayoutFault)
       → IsLaidOut r payload slices headers → IsFirstLayoutFault r payload fault → fault ≡ Memory
+  pub one_fault : (r : RecordingValue) (payload : List ℕ) (fault other : LayoutFault) → fault ≢ Memory → other ≢ Memory → IsFirstLayoutFault r payload fault
+      → IsFirstLayoutFault r payload other → fault ≡ other

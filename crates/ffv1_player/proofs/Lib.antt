@@ -5,6 +5,7 @@ pub mod Equals
 pub mod Decoding
 pub mod Beginnings
 pub mod OneFrame
+pub mod OneFault
 pub mod ChainCuts
 pub mod TilePlanes
 pub mod TileLayouts

@@ -61,7 +61,7 @@ planes_same r pictures others long each =
 
 -- ---- one beginning
 
-before_by : (r : RecordingValue) (headers : List SliceHeader) (last : Option (List LeftValue)) (before other : List LeftValue) (key : Bool)
+pub before_by : (r : RecordingValue) (headers : List SliceHeader) (last : Option (List LeftValue)) (before other : List LeftValue) (key : Bool)
     → MatchBool key (before ≡ []) ((last ≡ Some before) × FrameGoesOn r headers before)
     → MatchBool key (other ≡ []) ((last ≡ Some other) × FrameGoesOn r headers other) → before ≡ other
 before_by r headers last before other true h k = h ∙ sym k
@@ -70,7 +70,7 @@ before_by r headers last before other false h k = same_Some before other (sym h.
 module _ (r : RecordingValue) (version : IsInVersion3 r) (last : Option (List LeftValue)) (fit : FitLast r last) (payload : List ℕ)
     (slices : List (List ℕ)) (headers : List SliceHeader) (laid_out : IsLaidOut r payload slices headers) (before : List LeftValue)
     (begins : BeginsWith r headers last before) where
-  content_fits : (place : ℕ) → place < length slices → FitContent r (slice_content r (listed_slice slices place)) (place == 0) (states_left_at before place)
+  pub content_fits : (place : ℕ) → place < length slices → FitContent r (slice_content r (listed_slice slices place)) (place == 0) (states_left_at before place)
   content_fits place less header start is =
       let has = laid_out.each place less in
       subst (λ z. FitSliceBefore r z.0.tables (states_left_at before place))
@@ -83,7 +83,7 @@ module _ (r : RecordingValue) (version : IsInVersion3 r) (last : Option (List Le
       one_slice_picture r (slice_content r (listed_slice slices place)) (place == 0) (states_left_at before place) _ _ version (content_fits place less)
       (h.1 place d less) (k.1 place d less)
 
-  not_stopped : (place : ℕ) → is_key headers ≡ false → IsFirstStop r headers last place → ⊥
+  pub not_stopped : (place : ℕ) → is_key headers ≡ false → IsFirstStop r headers last place → ⊥
   not_stopped place no_key stop = by_begin (subst (λ key. MatchBool key (before ≡ []) ((last ≡ Some before) × FrameGoesOn r headers before)) no_key begins)
     where
       by_begin : (last ≡ Some before) × FrameGoesOn r headers before → ⊥

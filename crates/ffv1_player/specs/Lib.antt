@@ -6,4 +6,5 @@ pub mod Players
 pub mod Written
 pub mod Shown
 pub mod Profile
+pub mod Laws
 pub mod Inner
