@@ -6,6 +6,7 @@ pub mod SettledSlices
 pub mod TileFaults
 pub mod FrameFaults
 pub mod OneFrame
+pub mod OneFault
 pub mod Reports
 pub mod OnePicture
 pub mod Restorations

@@ -2,6 +2,7 @@ pub mod WholePicture
 pub mod TilePictures
 pub mod Frames
 pub mod FrameFaults
+pub mod Laws
 pub mod PartialPictures
 pub mod ReportText
 pub mod Headline

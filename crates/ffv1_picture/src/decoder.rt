@@ -6,6 +6,7 @@ ghost use Rattle.ffv1_range.specs.SetupForms.{setup_read};
 ghost use Rattle.ffv1_range.specs.Tiles.{grid_of, tile_count};
 ghost use Rattle.ffv1_picture.specs.Frames.{links_from_front, HasWholeChain, IsDrawnOf};
 ghost use Rattle.ffv1_picture.specs.FrameFaults.{AreInOrderBefore, IsFirstDisorder, IsFirstUnreadable};
+ghost use Rattle.ffv1_picture.specs.Laws.{FaultsOfFramesAreOne};
 ghost use Rattle.ffv1_picture.specs.Inner.FrameFaults.{fault_of_tile};
 
 use crate::drawing::draw_slice;
@@ -138,3 +139,8 @@ fn fault_of_tile(tile: usize, cause: TileFault) -> FrameFault
         cause => FrameFault::Tile { tile, cause },
     }
 }
+
+/// Of a record of the profile, a payload that spells pictures has no fault, and any other has one beside `Memory`.
+pub fn faults_of_frames_are_one()
+    ensures { FaultsOfFramesAreOne }
+{}

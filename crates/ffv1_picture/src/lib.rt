@@ -11,7 +11,7 @@ mod raw;
 mod reporting;
 mod restoring;
 
-pub use decoder::Decoder;
+pub use decoder::{Decoder, faults_of_frames_are_one};
 pub use fault::FrameFault;
 pub use frame::Frame;
 pub use partial::{Partial, TileOutcome, picture, tile_alone};
