@@ -106,9 +106,9 @@ impl Intake {
         requires { self.old.taken + length piece.now < 2 ^ 63 }
         ensures are { AreBytes piece.now }
         ensures held { OnOk result (self.new ≡ record {
-            bytes = self.old.bytes ++ piece.now;
-            taken = self.old.taken + length piece.now;
-            ended = nat_eq (length piece.now) 0;
+          bytes = self.old.bytes ++ piece.now;
+          taken = self.old.taken + length piece.now;
+          ended = nat_eq (length piece.now) 0;
         }) }
     {
         self.room.extend_from_slice(piece)?;

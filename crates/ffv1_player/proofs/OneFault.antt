@@ -30,7 +30,7 @@ one_stop_after : (r : RecordingValue) (headers : List SliceHeader) (before : Lis
     → IsFirstStop r headers (Some before) other → place < other → ⊥
 one_stop_after r headers before place other a b less = elim a.1 [
   | inl unequal ↦ unequal.1 (b.0 place less)
-  | inr more ↦ elim b.1 [ | inl unequal ↦ absurd (omega (arith, more.0, unequal.0, less)) | inr longer ↦ absurd (omega (arith, more.0, longer.0, less)) ]
+  | inr more ↦ elim b.1 [ inl unequal ↦ absurd (omega (arith, more.0, unequal.0, less)) | inr longer ↦ absurd (omega (arith, more.0, longer.0, less)) ]
 ]
 
 one_stop : (r : RecordingValue) (headers : List SliceHeader) (last : Option (List LeftValue)) (place other : ℕ) → IsFirstStop r headers last place
@@ -130,11 +130,11 @@ module _ (r : RecordingValue) (version : IsInVersion3 r) (last : Option (List Le
       → fault ≡ other
   one_fault fault other some more a b = elim (each_fault fault some a) [
     | inl early ↦ elim (each_fault other more b) [
-        | inl also ↦ both_of_layout fault other early also
-        | inr late ↦ absurd (not_both fault other early late)
-      ]
+      | inl also ↦ both_of_layout fault other early also
+      | inr late ↦ absurd (not_both fault other early late)
+    ]
     | inr late ↦ elim (each_fault other more b) [
-        | inl early ↦ absurd (not_both other fault early late)
-        | inr also ↦ both_after_layout fault other late also
-      ]
+      | inl early ↦ absurd (not_both other fault early late)
+      | inr also ↦ both_after_layout fault other late also
+    ]
   ]

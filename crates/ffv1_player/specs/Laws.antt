@@ -9,7 +9,7 @@ use Rattle.ffv1_player.specs.declared.fault.SamplesFault.{SamplesFault}
 use Rattle.ffv1_player.specs.declared.fault.SamplesFault.TheVariants.{Memory}
 
 -- Of a recording of version 3, after what a player's frame before has left: a payload has one frame; one that has it has no fault; and any other has one fault.
-pub record FrameIsOne (r : RecordingValue) (last : Option (List LeftValue)) (payload : List ℕ) : Type 0 where
+pub record PlayedFrameIsOne (r : RecordingValue) (last : Option (List LeftValue)) (payload : List ℕ) : Type 0 where
   pub one_frame : (frame other : Samples) (left more : List LeftValue) → IsPlayedFrame r last payload frame left → IsPlayedFrame r last payload other more
       → IsSameFrame other frame
   pub refused_has_no_frame : (frame : Samples) (left : List LeftValue) (fault : SamplesFault) → IsPlayedFrame r last payload frame left
@@ -17,5 +17,5 @@ pub record FrameIsOne (r : RecordingValue) (last : Option (List LeftValue)) (pay
   pub one_fault : (fault other : SamplesFault) → fault ≢ Memory → other ≢ Memory → IsFirstSamplesFault r last payload fault
       → IsFirstSamplesFault r last payload other → fault ≡ other
 
-abbrev pub FramesAreOne : Type 0
-FramesAreOne = (r : RecordingValue) (last : Option (List LeftValue)) (payload : List ℕ) → IsInVersion3 r → FitLast r last → FrameIsOne r last payload
+abbrev pub PlayedFramesAreOne : Type 0
+PlayedFramesAreOne = (r : RecordingValue) (last : Option (List LeftValue)) (payload : List ℕ) → IsInVersion3 r → FitLast r last → PlayedFrameIsOne r last payload

@@ -11,7 +11,7 @@ mod shown;
 mod write;
 
 pub use fault::{ContentFault, SamplesFault};
-pub use player::{Player, frame_is_played, frames_are_one};
+pub use player::{Player, frame_is_played, played_frames_are_one};
 pub use samples::{Samples, SliceEnd};
 pub use shown::{Shown, ShownTile, show_holding};
 pub use write::write_samples;

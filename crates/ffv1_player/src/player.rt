@@ -6,7 +6,7 @@ ghost use Rattle.ffv1_player.specs.Faults.{IsFirstSamplesFault};
 ghost use Rattle.ffv1_player.specs.Players.{left_values, last_value};
 ghost use Rattle.ffv1_player.specs.Fitting.{FitLeft, FitLast};
 ghost use Rattle.ffv1_player.specs.Profile.{FrameIsPlayed};
-ghost use Rattle.ffv1_player.specs.Laws.{FramesAreOne};
+ghost use Rattle.ffv1_player.specs.Laws.{PlayedFramesAreOne};
 ghost use Rattle.ffv1_player.specs.Inner.Playing.{IsPreviousStop};
 
 use crate::before::{LeftSlice, first_stop};
@@ -179,6 +179,6 @@ pub fn frame_is_played()
 {}
 
 /// Of a recording of version 3, after what a frame before has left, a payload has one frame or one fault beside `Memory`, and never both.
-pub fn frames_are_one()
-    ensures { FramesAreOne }
+pub fn played_frames_are_one()
+    ensures { PlayedFramesAreOne }
 {}

@@ -1,6 +1,6 @@
 use Rattle.ffv1_player.proofs.OneFrame.{one_frame, refused_has_no_frame}
 use Rattle.ffv1_player.proofs.OneFault.{one_fault}
-use Rattle.ffv1_player.proofs.player.frames_are_one.Goals as goal
+use Rattle.ffv1_player.proofs.player.played_frames_are_one.Goals as goal
 
 pub returns : goal.returns
 returns c = λ r last payload version fit. record {
