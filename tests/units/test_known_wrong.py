@@ -54,9 +54,10 @@ class UnreadTest(unittest.TestCase):
             (100, 110, (None, 100), True, False), (110, 120, (110, None), False, True), (120, 160, (120, None), True, False)])
         self.assertEqual(cut(Kind.PLAIN, (100,), copy((90, 300))), [(100, 160, (100,), False, True)])
 
-    def test_long_filling_counts_as_unread(self):
+    def test_long_filling_counts_as_unread_and_what_one_other_has_stays_in_doubt(self):
         one = Copy("", 0, 1000, filling=((90, 160),))
-        self.assertEqual(cut(Kind.PLAIN, (100, 100), one, copy()), [(100, 160, (None, 100), True, False)])
+        self.assertEqual(cut(Kind.PLAIN, (100, 100), one, copy()), [(100, 160, (None, 100), False, False)])
+        self.assertEqual(cut(Kind.PLAIN, (100, 100, 100), one, copy(), copy((0, 999))), [(100, 160, (None, 100, None), False, False)])
         self.assertEqual(cut(Kind.PLAIN, (100, 100), one, one), [(100, 160, (100, 100), False, False)])
         self.assertEqual(cut(Kind.PLAIN, (100, 100), one, copy((0, 999))), [(100, 160, (100, None), True, False)])
 

@@ -35,13 +35,13 @@ def spans_in(spans: Sequence[tuple[int, int]], start: int, end: int) -> list[tup
 
 
 def read_part(stretch: Stretch, copies: Sequence[Copy], own: int) -> Stretch:
-    """A plain stretch as the copies have it that could be read there. If one copy alone could be, and each other one of OUT's file not, what it
-    has stands without doubt. What none could be read is that of the first copy, and open."""
+    """A plain stretch as the copies have it that could be read there. If one copy alone could be, and each other one of OUT's file not by its map,
+    what it has stands without doubt: that long filling is no content is a guess. What none could be read is that of the first copy, and open."""
     having, span = stretch.having(), {number: (place, place + stretch.size) for number, place in enumerate(stretch.places) if place is not None}
     unread = {number for number in having if spans_in(copies[number].unread, *span[number]) == [span[number]]}
     filled = {number for number in having if spans_in(copies[number].filling, *span[number]) == [span[number]]}
     read = [number for number in having if number not in unread | filled] or [number for number in having if number not in unread]
     if read or not having:
-        is_read = len(read) == 1 < len(having) and having[:own] == list(range(own)) and len(unread | filled) >= len(having) - 1
+        is_read = len(read) == 1 < len(having) and having[:own] == list(range(own)) and len(unread) >= len(having) - 1
         return dataclasses.replace(only(stretch, read), is_read=is_read)
     return dataclasses.replace(only(stretch, having[:1]), is_unread=True)
