@@ -336,6 +336,15 @@ def joined_files_give_the_first(kit: Kit) -> Checks:
                                      partial(gives, recording=recording, statuses=(0, 3)))
             copies = [small.garbled(recording.content, recording.frames[2][0] + 100, 20), joined]
             yield from in_each_order(recording, f"damaged beside it joined with {what}", copies, partial(ends_by_its_header, recording=recording))
+            padded, both = (small.garbled(content, recording.frames[2][0] + start, 20) for content, start in (
+                (recording.content + bytes(5000), 100), (joined, 110)))
+            yield from in_each_order(recording, f"padded beside it joined with {what}, both damaged", [padded, both], partial(ends_there, recording=recording))
+
+
+def ends_there(desk: Desk, recording: Recording, contents: typing.Sequence[bytes]) -> Problems:
+    found = desk.mend(contents, recording.ending)
+    if found.out is None or len(found.out) != len(recording.content):
+        yield f"OUT has {len(found.out or b'')} bytes, and not {len(recording.content)}, with status {found.status}"
 
 
 def ends_by_its_header(desk: Desk, recording: Recording, contents: typing.Sequence[bytes], checks: bool = False) -> Problems:

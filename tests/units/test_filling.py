@@ -3,6 +3,7 @@ import contextlib
 import unittest
 
 from mend_reel.copies.filling import complement, filling, find_filling, hidden, pieces, placed, runs
+from mend_reel.judging.unread import spans_in
 from mend_reel.model import Content, Kind, Layout, Stretch, What
 from . import made
 
@@ -52,14 +53,19 @@ class FillingTest(unittest.TestCase):
                              sum(2048 for start in range(0, SIZE, 2048) if start // 2048 % 3 != at))
             self.assertTrue(all(complement(copy, other) for other in copies if other is not copy))
         spans = [hidden(copy, copies) for copy in copies]
-        self.assertEqual(b"".join(pieces(copies, spans)), CONTENT)
+        self.assertEqual(b"".join(pieces(copies, spans, SIZE)), CONTENT)
 
     def test_what_lies_between_runs_that_all_have_is_put_together(self):
         """Padding that all copies have lies at both ends of what they lack in turn."""
         padded = zeroed(CONTENT, (4096, 5120), (7168, 9216))
         copies = self.opened(zeroed(padded, (4096, 8192)), zeroed(padded, (8192, 12288)))
         self.assertEqual([filling(copy, copies) for copy in copies], [[], []])
-        self.assertEqual(b"".join(pieces(copies, [hidden(copy, copies) for copy in copies])), padded)
+        self.assertEqual(b"".join(pieces(copies, [hidden(copy, copies) for copy in copies], SIZE)), padded)
+
+    def test_what_lies_after_the_end_is_not_put_together(self):
+        copies = self.opened(CONTENT + bytes(4096), zeroed(CONTENT, (4096, 8192)) + CONTENT)
+        spans = [spans_in(hidden(copy, copies), 0, SIZE) for copy in copies]
+        self.assertEqual((spans, b"".join(pieces(copies, spans, SIZE))), ([[], [(4096, 8192)]], CONTENT))
 
     def test_a_short_last_sector(self):
         content, end = CONTENT[:16160], 15872
@@ -79,15 +85,18 @@ class FillingTest(unittest.TestCase):
 class PlacedTest(unittest.TestCase):
     """What lies where in one copy alone, with the places of the others."""
 
-    def placed(self, sizes, own, vouched=()):
-        with made.opened(*(CONTENT[:size] for size in sizes)) as copies:
+    def placed(self, contents, own, vouched=()):
+        with made.opened(*contents) as copies:
             stretches = [Stretch(Kind.PLAIN, 0, 100, What(Content.FRAMING), (0,), vouched=frozenset(vouched)),
                          Stretch(Kind.PLAIN, 100, 200, What(Content.PADDING), (100,))]
-            return [(each.start, each.end, each.places, set(each.vouched)) for each in placed(Layout(300, [], [], stretches), copies, own).stretches]
+            source = None if own is None else copies[own]
+            return [(each.start, each.end, each.places, set(each.vouched)) for each in placed(Layout(300, [], [], stretches), copies, source).stretches]
 
     def test_a_copy_that_ends_early_has_what_comes_before(self):
-        self.assertEqual(self.placed([300, 250], 0), [(0, 100, (0, 0), set()), (100, 250, (100, 100), set()), (250, 300, (250, None), set())])
+        self.assertEqual(self.placed([CONTENT[:300], CONTENT[:250]], 0),
+                         [(0, 100, (0, 0), set()), (100, 250, (100, 100), set()), (250, 300, (250, None), set())])
 
-    def test_what_a_copy_confirms_no_other_does(self):
-        for own, vouched in ((0, {0}), (1, {1}), (None, set())):
-            self.assertEqual(self.placed([300, 300], own, {0})[0], (0, 100, (0, 0), vouched))
+    def test_what_a_copy_confirms_those_do_that_have_the_same(self):
+        for contents, own, vouched in (([CONTENT, made.noise(8, 300)], 0, {0}), ([CONTENT, made.noise(8, 300)], 1, {1}),
+                                       ([CONTENT, CONTENT], 0, {0, 1}), ([CONTENT, CONTENT], None, set())):
+            self.assertEqual(self.placed([each[:300] for each in contents], own, {0})[0], (0, 100, (0, 0), vouched))

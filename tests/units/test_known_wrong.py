@@ -54,12 +54,30 @@ class UnreadTest(unittest.TestCase):
             (100, 110, (None, 100), True, False), (110, 120, (110, None), False, True), (120, 160, (120, None), True, False)])
         self.assertEqual(cut(Kind.PLAIN, (100,), copy((90, 300))), [(100, 160, (100,), False, True)])
 
+    def filled(self, *contents, vouched=()):
+        """What the copies of a stretch have of it, of which those with zeros have long filling, and whether one was read alone."""
+        with made.opened(*contents) as copies:
+            for each in copies:
+                each.filling = [(0, 60)] if not any(each.read(0, 60)) else []
+            stretch = Stretch(Kind.PLAIN, 0, 60, What(Content.FRAMING), (0,) * len(copies), vouched=frozenset(vouched))
+            return [(part.having(), part.is_read) for part in without_unread(stretch, copies, len(copies))]
+
     def test_long_filling_counts_as_unread_and_what_one_other_has_stays_in_doubt(self):
-        one = Copy("", 0, 1000, filling=((90, 160),))
-        self.assertEqual(cut(Kind.PLAIN, (100, 100), one, copy()), [(100, 160, (None, 100), False, False)])
-        self.assertEqual(cut(Kind.PLAIN, (100, 100, 100), one, copy(), copy((0, 999))), [(100, 160, (None, 100, None), False, False)])
-        self.assertEqual(cut(Kind.PLAIN, (100, 100), one, one), [(100, 160, (100, 100), False, False)])
-        self.assertEqual(cut(Kind.PLAIN, (100, 100), one, copy((0, 999))), [(100, 160, (100, None), True, False)])
+        self.assertEqual(self.filled(bytes(60), made.noise(1, 60)), [([1], False)])
+        self.assertEqual(self.filled(bytes(60), made.noise(1, 60), made.noise(2, 60)), [([1, 2], False)])
+        self.assertEqual(self.filled(bytes(60), bytes(60)), [([0, 1], False)])
+
+    def test_what_the_container_confirms_is_read_where_the_others_have_long_filling(self):
+        self.assertEqual(self.filled(bytes(60), made.noise(1, 60), vouched={1}), [([1], True)])
+        self.assertEqual(self.filled(bytes(60), made.noise(1, 60), vouched={0}), [([1], False)])
+
+    def test_what_has_the_value_of_the_filling_is_alike(self):
+        with made.opened(bytes(60), bytes(60)) as copies:
+            copies[0].filling = [(0, 60)]
+            self.assertEqual(cut(Kind.PLAIN, (0, 0), *copies, start=0), [(0, 60, (0, 0), False, False)])
+
+    def test_long_filling_where_the_other_copy_could_not_be_read(self):
+        self.assertEqual(cut(Kind.PLAIN, (100, 100), Copy("", 0, 1000, filling=((90, 160),)), copy((0, 999))), [(100, 160, (100, None), True, False)])
 
     def test_a_frame_is_not_cut(self):
         self.assertEqual(cut(Kind.FRAME, (100, 100), copy((110, 120)), copy()), [(100, 160, (100, 100), False, False)])

@@ -8,7 +8,7 @@ from collections.abc import Iterator, Sequence
 from ..containers.files import describe, form_of
 from ..engine.frame_checks import Judge
 from ..judging.unread import spans_in
-from ..model import Copy, Layout, open_copy, or_fault
+from ..model import Copy, Layout, Stretch, open_copy, or_fault
 from .differences import cut
 
 # Fewer sectors than this are no long filling, and not more of a file than its quarter stands against what copies have alike.
@@ -107,35 +107,39 @@ class Filled:
 
 
 def filled(copies: Sequence[Copy], layout: Layout, judge: Judge, path: pathlib.Path) -> Filled | None:
-    """A file as its copies have it together, which is written to a path: where a copy has a long run another one counts that has content. None if
-    no copy has any. What lies where in it is as it was known, if no more is found."""
-    spans = [hidden(copy, copies) for copy in copies]
+    """A file as its copies have it together up to its end, which is written to a path: where a copy has a long run another one counts that has
+    content. None if no copy has any. What lies where in it is as it was known, if no more is found."""
+    spans = [spans_in(hidden(copy, copies), 0, layout.size) for copy in copies]
     if not any(spans):
         return None
     with or_fault(f"cannot write {path}"), open(path, "wb") as file:
-        file.writelines(pieces(copies, spans))
+        file.writelines(pieces(copies, spans, layout.size))
     made = open_copy(str(path))
     made.form = form_of(made)
     found = describe([made], judge)
     is_more = (len(found.frames), -len(found.gaps)) > (len(layout.frames), -len(layout.gaps))
-    return Filled(made, placed(found, copies) if is_more else layout)
+    return Filled(made, placed(found, copies, made) if is_more else layout)
 
 
-def placed(layout: Layout, copies: Sequence[Copy], own: int | None = None) -> Layout:
-    """A layout with the places of its stretches in copies of the file, if it was made of one file alone: of the copy with the number `own`, or of
-    none of them. What that file confirms no other copy does."""
+def placed(layout: Layout, copies: Sequence[Copy], source: Copy | None = None) -> Layout:
+    """A layout with the places of its stretches in copies of the file, if it was made of one file alone. What the container confirms in that file,
+    the source, it confirms in the copies that have the same there."""
     if all(len(stretch.places) == len(copies) for stretch in layout.stretches):
         return layout
     return dataclasses.replace(layout, stretches=[dataclasses.replace(
-        stretch, places=tuple(stretch.start if stretch.end <= copy.size else None for copy in copies),
-        vouched=frozenset() if own is None or not stretch.vouched else frozenset({own}))
+        stretch, places=tuple(stretch.start if stretch.end <= copy.size else None for copy in copies), vouched=having_alike(stretch, copies, source))
         for stretch in cut(layout.stretches, {copy.size for copy in copies})])
 
 
-def pieces(copies: Sequence[Copy], spans: Sequence[Sequence[tuple[int, int]]]) -> Iterator[bytes]:
-    """The bytes of a file from its first one on, each as a copy has it that has no filling there, if one has not."""
-    size = max(copy.size for copy in copies)
-    cuts = sorted({*range(0, size, PIECE), size, *(at for own in spans for span in own for at in span), *(copy.size for copy in copies)})
+def having_alike(stretch: Stretch, copies: Sequence[Copy], source: Copy | None) -> frozenset[int]:
+    """The copies that have what the container confirms in the source."""
+    content = source.read(stretch.start, stretch.size) if source and stretch.vouched else b""
+    return frozenset(number for number, copy in enumerate(copies) if content and copy.read(stretch.start, stretch.size) == content)
+
+
+def pieces(copies: Sequence[Copy], spans: Sequence[Sequence[tuple[int, int]]], size: int) -> Iterator[bytes]:
+    """The bytes of a file of a size from its first one on, each as a copy has it that has no filling there, if one has not."""
+    cuts = sorted({*range(0, size, PIECE), size, *(at for own in spans for span in own for at in span), *(min(copy.size, size) for copy in copies)})
     for start, end in zip(cuts, cuts[1:]):
         having = [(bool(spans_in(own, start, end)), number) for number, (copy, own) in enumerate(zip(copies, spans)) if end <= copy.size]
         yield copies[min(having)[1]].read(start, end - start)

@@ -36,12 +36,18 @@ def spans_in(spans: Sequence[tuple[int, int]], start: int, end: int) -> list[tup
 
 def read_part(stretch: Stretch, copies: Sequence[Copy], own: int) -> Stretch:
     """A plain stretch as the copies have it that could be read there. If one copy alone could be, and each other one of OUT's file not by its map,
-    what it has stands without doubt: that long filling is no content is a guess. What none could be read is that of the first copy, and open."""
+    what it has stands without doubt. That long filling is no content is a guess: then it does where the container confirms it. What none could be
+    read is that of the first copy, and open."""
     having, span = stretch.having(), {number: (place, place + stretch.size) for number, place in enumerate(stretch.places) if place is not None}
     unread = {number for number in having if spans_in(copies[number].unread, *span[number]) == [span[number]]}
-    filled = {number for number in having if spans_in(copies[number].filling, *span[number]) == [span[number]]}
-    read = [number for number in having if number not in unread | filled] or [number for number in having if number not in unread]
+    filled = {number for number in having if spans_in(copies[number].filling, *span[number]) == [span[number]]} - unread
+    read = [number for number in having if number not in unread | filled] or sorted(filled)
     if read or not having:
-        is_read = len(read) == 1 < len(having) and having[:own] == list(range(own)) and len(unread) >= len(having) - 1
+        # What has the value of the filling is alike in both.
+        contents = {copies[number].read(span[number][0], stretch.size) for number in read} if filled else set()
+        filled = {number for number in filled if copies[number].read(span[number][0], stretch.size) not in contents}
+        read = [number for number in having if number not in unread | filled]
+        explained = unread | filled if stretch.vouched.issuperset(read) else unread
+        is_read = len(read) == 1 < len(having) and having[:own] == list(range(own)) and len(explained) >= len(having) - 1
         return dataclasses.replace(only(stretch, read), is_read=is_read)
     return dataclasses.replace(only(stretch, having[:1]), is_unread=True)

@@ -11,6 +11,7 @@ import stat
 import sys
 from collections.abc import Iterable, Iterator, Mapping, Sequence, Set
 
+from ..containers import ffprobe
 from ..containers.files import describe, flaws_of, form_of
 from ..containers.known import ENDINGS, by_start
 from ..containers.structure import Flaw, Found
@@ -81,12 +82,17 @@ class Attempt:
         return has_all and not self.layout.gaps and self.layout.size == file.size and all(each.marks[at] == "1" for each in self.made.outcomes)
 
     def damaged(self) -> set[int]:
-        """The copies of OUT's file in which a check fails, as OUT passes it and the bytes before it, which lead there, are OUT's."""
+        """The copies of OUT's file in which a check fails, as OUT passes it, where they have a check there by their own containers."""
+        own = self.inputs.files[: self.inputs.own]
+        shown = [{(packet.place, packet.size) for packet in ffprobe.probe(copy).packets} if copy.form != MATROSKA else set() for copy in own]
         differs = {each.number: each.marks for each in self.made.outcomes}
         disputed = {each.number for each in self.made.outcomes if each.state is State.DISPUTED}
 
         def is_led_to(number: int, at: int) -> bool:
-            before = self.made.stretches[number - 1].places[at] if number else 0
+            """Whether a copy's container leads there: one that is not Matroska by its packets, else as the bytes before, which do, are OUT's."""
+            before, stretch = self.made.stretches[number - 1].places[at] if number else 0, self.made.stretches[number]
+            if own[at].form != MATROSKA:
+                return (stretch.places[at], stretch.size) in shown[at]
             return before is not None and (number - 1 not in differs or differs[number - 1][at] == "1")
 
         return {self.inputs.numbers[at] for number, marks in differs.items() for at, mark in enumerate(marks[: self.inputs.own])
@@ -309,7 +315,7 @@ class Session:
     def attempt(self, arrangement: Arrangement) -> Attempt:
         """Has OUT made of copies that are arranged so."""
         own = [self.copies[number] for number in arrangement.basis]
-        layout = placed(arrangement.layout, own, None if arrangement.good is None else arrangement.basis.index(arrangement.good))
+        layout = placed(arrangement.layout, own, None if arrangement.good is None else self.copies[arrangement.good])
         layout = without_parts(layout) if lack_parities(layout, own) else layout
         if arrangement.good is not None:
             # What an undamaged copy has one value at may be what was recorded.
