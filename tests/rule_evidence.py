@@ -256,10 +256,12 @@ def two_editions_give_one(kit: Kit) -> Checks:
         files = editions(kit, name)
         for one, other in itertools.permutations(range(3), 2):
             yield Check(name, f"editions {one} and {other}", partial(is_one_edition, files=[files[one], files[other]]))
-        damaged = damaged_in_frame(files[1], 4)
-        for copies in ([files[0], damaged], [damaged, files[0]]):
-            yield Check(name, f"an edition beside a damaged one of another, copies {'0 1' if copies[1] is damaged else '1 0'}",
-                        partial(is_one_edition, files=copies, wanted=[files[0].content]))
+        place, size = files[1].sound[1]
+        shifted = files[1].changed(small.lost(files[1].content, place + size // 2, 2))
+        for what, damaged in (("a damaged one of another", damaged_in_frame(files[1], 4)), ("one of another that lost sound", shifted)):
+            for copies in ([files[0], damaged], [damaged, files[0]]):
+                yield Check(name, f"an edition beside {what}, copies {'0 1' if copies[1] is damaged else '1 0'}",
+                            partial(is_one_edition, files=copies, wanted=[files[0].content]))
 
 
 @of_rule(10)

@@ -4,8 +4,16 @@ from __future__ import annotations
 import os
 import random
 import typing
+import unittest
 
+from mend_reel.containers.ffprobe import Packet as ProbedPacket
+from mend_reel.containers.ffprobe import Probed
 from mend_reel.containers.own_checks import passes, slices
+from mend_reel.copies.arrangement import Arrangement
+from mend_reel.copies.comparison import Comparison
+from mend_reel.copies.inputs import Inputs
+from mend_reel.model import MATROSKA, Content, Copy, Kind, Layout, Outcome, State, Stretch, What
+from mend_reel.program.session import Attempt, Made
 from . import made, toy_ffprobe
 from .framed import frame, matroska
 from .test_command import GOOD, InFolder
@@ -54,6 +62,30 @@ class InToyFolder(InFolder):
         done = self.call("--force", "-o", "out.bin", *(f"{number}.bin" for number in range(len(contents))))
         self.assertEqual(done.stderr.decode(), "")
         return done.returncode, done.stdout.decode(), self.read("out.bin")
+
+
+class DamagedTest(unittest.TestCase):
+    """In which copies a check fails that their own containers lead to."""
+
+    def damaged(self, form: str, places: typing.Sequence[int], marks: str = "10", before: str = "") -> set[int]:
+        """Of two copies, the second of which shows packets of 60 bytes at some places: those with a damaged frame from 100 to 160."""
+        copies = [Copy("", 0, 200, form, probed=Probed(form, packets=[ProbedPacket(0, 0.0, place, 60, True, place=place) for place in shown]))
+                  for shown in ([100], places)]
+        stretches = [Stretch(kind, start, size, What(Content.FRAME), (start, start)) for kind, start, size in (
+            (Kind.PLAIN, 0, 100), (Kind.FRAME, 100, 60))]
+        outcomes = [Outcome(number, State.WHOLE, 0, each) for number, each in ((0, before), (1, marks)) if each]
+        layout = Layout(160, [], [], stretches)
+        made_ = Made(stretches, outcomes, layout, [], "", {}, frozenset(), None)
+        return Attempt(Arrangement([0, 1], layout), layout, Comparison(layout, Inputs(copies, [0, 1], 2), [], [], {}), made_).damaged()
+
+    def test_a_frame_that_a_container_shows(self) -> None:
+        self.assertEqual((self.damaged("mov", [100]), self.damaged("mov", [100], before="10")), ({1}, {1}))
+
+    def test_what_another_container_shows_there_is_no_check_of_this_copy(self) -> None:
+        self.assertEqual((self.damaged("mov", [104]), self.damaged("mov", [])), (set(), set()))
+
+    def test_in_matroska_the_bytes_before_lead_there(self) -> None:
+        self.assertEqual((self.damaged(MATROSKA, []), self.damaged(MATROSKA, [], before="10")), ({1}, set()))
 
 
 class ShownTest(InToyFolder):

@@ -84,7 +84,7 @@ class Attempt:
     def damaged(self) -> set[int]:
         """The copies of OUT's file in which a check fails, as OUT passes it, where they have a check there by their own containers."""
         own = self.inputs.files[: self.inputs.own]
-        shown = [{(packet.place, packet.size) for packet in ffprobe.probe(copy).packets} if copy.form != MATROSKA else set() for copy in own]
+        shown = [{(packet.place, packet.size) for packet in ffprobe.probe(copy).packets} if copy.form not in ("", MATROSKA) else set() for copy in own]
         differs = {each.number: each.marks for each in self.made.outcomes}
         disputed = {each.number for each in self.made.outcomes if each.state is State.DISPUTED}
 
