@@ -78,8 +78,17 @@ class FillingTest(unittest.TestCase):
 
     def test_it_is_noted(self):
         one, other = self.opened(zeroed(CONTENT, (4096, 8192)), CONTENT)
-        find_filling([one, other])
-        self.assertEqual((one.filling, other.filling), ([(4096, 8192)], []))
+        for start, end in ((0, SIZE), (5000, 5017), (4096, 4097), (8191, 8192)):
+            one.filling = ()
+            self.assertTrue(find_filling([one, other], [Stretch(Kind.PLAIN, start, end - start, What(Content.SOUND))]))
+            self.assertEqual((one.filling, one.runs, other.filling), ([(4096, 8192)], None, []))
+
+    def test_no_filling_is_noted_where_checks_are(self):
+        one, other = self.opened(zeroed(CONTENT, (4096, 8192)), CONTENT)
+        framing = Stretch(Kind.PLAIN, 5000, 17, What(Content.FRAMING), vouched=frozenset({0, 1}))
+        for stretch in (Stretch(Kind.FRAME, 0, SIZE, What(Content.FRAME)), Stretch(Kind.PLAIN, 0, 3500, What(Content.SOUND)), framing):
+            self.assertFalse(find_filling([one, other], [stretch]))
+            self.assertEqual((one.filling, other.filling), ((), ()))
 
 
 class PlacedTest(unittest.TestCase):

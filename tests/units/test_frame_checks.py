@@ -7,7 +7,7 @@ import unittest
 
 from mend_reel.containers.own_checks import has_only_sizes, is_astray, passes, share_slice, slices
 from mend_reel.engine.frame_checks import Judged, Scan, part_overlaps, read_line
-from mend_reel.model import Fault
+from mend_reel.model import Content, Fault, Kind, Outcome, State, Stretch, What
 from . import made
 from .framed import frame, judge, parity, slice_of
 
@@ -114,6 +114,16 @@ class ScanTest(unittest.TestCase):
                              [Judged(5, 20, True), Judged(10, 0, True), Judged(), Judged(10, 5, True)])
             self.assertEqual(scan(copy, [(20, 5)]), [Judged(5, 20, True)])
             self.assertEqual(pathlib.Path(asked).read_text(), "0 10\n20 5\n5 10\n")
+
+    def test_frames_that_are_whole_in_out_are_not_asked_for_again(self):
+        """Those that pass in each copy, that pass in the first one alone, that no copy has whole, and an element, whose CRC-32 is no parity."""
+        kinds, outcomes = [Kind.FRAME, Kind.FRAME, Kind.FRAME, Kind.ELEMENT], [Outcome(1, State.WHOLE, 0, "10"), Outcome(2, State.MISSING, 0, "10")]
+        stretches = [Stretch(kind, 10 * number, 10, What(Content.FRAME), (10 * number, 10 * number + 1)) for number, kind in enumerate(kinds)]
+        with tempfile.TemporaryDirectory() as folder, made.opened(bytes(100), bytes(100)) as copies:
+            scan = self.scan(folder, "")
+            scan.learn(stretches, outcomes, copies)
+            self.assertEqual([sorted(place for path, place, _ in scan.known if path == copy.path) for copy in copies], [[0, 10], [1]])
+            self.assertTrue(all(each.is_intact() for each in scan(copies[0], [(0, 10), (10, 10)])))
 
     def test_a_fault_names_the_copy(self):
         with tempfile.TemporaryDirectory() as folder, made.opened(bytes(100)) as (copy,):

@@ -75,7 +75,7 @@ class DamagedTest(unittest.TestCase):
             (Kind.PLAIN, 0, 100), (Kind.FRAME, 100, 60))]
         outcomes = [Outcome(number, State.WHOLE, 0, each) for number, each in ((0, before), (1, marks)) if each]
         layout = Layout(160, [], [], stretches)
-        made_ = Made(stretches, outcomes, layout, [], "", {}, frozenset(), None)
+        made_ = Made(stretches, outcomes, layout, [], "", {})
         return Attempt(Arrangement([0, 1], layout), layout, Comparison(layout, Inputs(copies, [0, 1], 2), [], [], {}), made_).damaged()
 
     def test_a_frame_that_a_container_shows(self) -> None:

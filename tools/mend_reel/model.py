@@ -266,6 +266,15 @@ class Copy:
             raise Fault(f"cannot read {self.path}: {error.strerror}") from None
 
 
+    def read_into(self, buffer: memoryview, place: int) -> int:
+        """Fills a buffer with bytes of the file, fewer where it ends. Returns how many. That costs half of what new memory for them does."""
+        self.watch(place)
+        try:
+            return os.preadv(self.file, [buffer], place)
+        except OSError as error:
+            raise Fault(f"cannot read {self.path}: {error.strerror}") from None
+
+
 def open_copy(path: str) -> Copy:
     """Opens a regular file."""
     with or_fault(f"cannot read {path}"):

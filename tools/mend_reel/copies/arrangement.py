@@ -263,10 +263,10 @@ def arrange(copies: Sequence[Copy], judge: Judge, judgment: JudgeCopy, work: pat
 
 def read_file(numbers: Sequence[int], copies: Sequence[Copy], judge: Judge, path: pathlib.Path) -> File:
     """A file over all its copies. Where no copy's parts lead through it, it is read again without their long filling."""
-    find_filling(copies)
     layout = describe(copies, judge)
-    leads = not layout.gaps and layout.frames and any(not files.flaws_of(copy, copy.form, layout) for copy in copies)
-    together = None if leads or len(copies) < 2 else filled(copies, layout, judge, path)
+    has_runs = len(copies) > 1 and find_filling(copies, layout.stretches)
+    leads = has_runs and not layout.gaps and layout.frames and any(not files.flaws_of(copy, copy.form, layout) for copy in copies)
+    together = filled(copies, layout, judge, path) if has_runs and not leads else None
     return File(list(numbers), Recording(copies, together.layout if together else layout), together.made if together else None)
 
 

@@ -3,12 +3,12 @@ from __future__ import annotations
 
 import dataclasses
 import pathlib
-from collections.abc import Iterator, Sequence
+from collections.abc import Iterable, Iterator, Sequence
 
 from ..containers.files import describe, form_of
 from ..engine.frame_checks import Judge
 from ..judging.unread import spans_in
-from ..model import Copy, Layout, Stretch, open_copy, or_fault
+from ..model import Copy, Kind, Layout, Stretch, open_copy, or_fault
 from .differences import cut
 
 # Fewer sectors than this are no long filling, and not more of a file than its quarter stands against what copies have alike.
@@ -18,14 +18,35 @@ SECTOR, FEWEST, PIECE, QUARTER = 512, 2, 1 << 20, 4
 def runs(copy: Copy) -> list[tuple[int, int]]:
     """From where to where a copy has one value over several sectors. It is looked for once."""
     if copy.runs is None:
-        found: list[tuple[int, int, bytes]] = []
-        for place in range(0, copy.size, PIECE):
-            piece = copy.read(place, PIECE)
-            # Most sectors are told by their first byte and that of a neighbour.
-            for number in sorted({0, (len(piece) - 1) // SECTOR, *(number for first in alike(piece[::SECTOR]) for number in (first, first + 1))}):
-                add(found, place + SECTOR * number, piece[SECTOR * number : SECTOR * (number + 1)])
-        copy.runs = [grown(copy, *run) for run in found if run[1] - run[0] >= FEWEST * SECTOR or run[1] == copy.size]
+        copy.runs = runs_at(copy, [(0, copy.size)])
     return copy.runs
+
+
+def runs_at(copy: Copy, spans: Iterable[tuple[int, int]]) -> list[tuple[int, int]]:
+    """The runs of one value over several sectors that have bytes of some spans, which rise."""
+    found: list[tuple[int, int, bytes]] = []
+    buffer = memoryview(bytearray(PIECE))
+    for start, end in spans:
+        for place in range(start // SECTOR * SECTOR, min(end, copy.size), PIECE):
+            size = copy.read_into(buffer[: min(PIECE, -(-(end - place) // SECTOR) * SECTOR)], place)
+            # Most sectors are told by their first byte and that of a neighbour.
+            firsts = bytes(buffer[:size:SECTOR])
+            for number in sorted({0, len(firsts) - 1, *(number for first in alike(firsts) for number in (first, first + 1))}):
+                add(found, place + SECTOR * number, bytes(buffer[SECTOR * number : min(SECTOR * (number + 1), size)]))
+    made: list[tuple[int, int]] = []
+    for start, end, value in found:
+        start, end = outward(copy, start, end, value) if not made or start >= made[-1][1] else (end, end)
+        made += [grown(copy, start, end, value)] if start < end and (end - start >= FEWEST * SECTOR or end == copy.size) else []
+    return made
+
+
+def outward(copy: Copy, start: int, end: int, value: bytes) -> tuple[int, int]:
+    """A run of one value with the sectors around it that have that all over."""
+    while start and not copy.read(start - SECTOR, SECTOR).strip(value):
+        start -= SECTOR
+    while end < copy.size and not copy.read(end, SECTOR).strip(value):
+        end = min(end + SECTOR, copy.size)
+    return start, end
 
 
 def alike(values: bytes) -> Iterator[int]:
@@ -92,10 +113,19 @@ def complement(one: Copy, other: Copy) -> bool:
     return bool(ours and theirs) and one.size == other.size and QUARTER * (ours + theirs) >= one.size
 
 
-def find_filling(copies: Sequence[Copy]) -> None:
-    """Notes the long filling of copies of one file."""
-    for copy in copies:
+def find_filling(copies: Sequence[Copy], stretches: Sequence[Stretch]) -> bool:
+    """Notes the long filling of copies of one file in what nothing checks and no container confirms in all of them. Returns whether there is any
+    run of one value."""
+    known = [copy.runs for copy in copies]
+    spans = [(each.start, each.end) for each in stretches if each.kind is Kind.PLAIN and len(each.vouched) < len(copies)]
+    for copy in copies if len(copies) > 1 else ():
+        copy.runs = runs_at(copy, spans) if copy.runs is None else copy.runs
+    has_runs = any(copy.runs for copy in copies)
+    for copy in copies if has_runs else ():
         copy.filling = filling(copy, copies)
+    for copy, each in zip(copies, known):
+        copy.runs = each
+    return has_runs
 
 
 @dataclasses.dataclass

@@ -7,7 +7,7 @@ import pathlib
 import tempfile
 from collections.abc import Callable, Sequence
 
-from ..model import Content, Copy, Fault, Kind, Stretch, What
+from ..model import Content, Copy, Fault, Kind, Outcome, State, Stretch, What
 from . import file_checks
 from .external_programs import last_line, started
 from .mend_run import mend, write_list
@@ -29,6 +29,8 @@ class Judged:
 
 
 Judge = Callable[[Copy, Sequence[Range]], list[Judged]]
+# What passes, however many slices it has.
+INTACT = Judged(1, 1, True)
 
 
 class Scan:
@@ -55,6 +57,15 @@ class Scan:
         if copy.path not in self.checks:
             self.checks[copy.path] = file_checks.check(self.program, copy, self.work)
         return self.checks[copy.path]
+
+    def learn(self, stretches: Sequence[Stretch], outcomes: Sequence[Outcome], copies: Sequence[Copy]) -> None:
+        """Notes the frames that pass in copies by what became of them: those that are whole pass in each copy that has what OUT has."""
+        found = {outcome.number: outcome for outcome in outcomes}
+        for number, stretch in ((number, each) for number, each in enumerate(stretches) if each.kind is Kind.FRAME):
+            outcome = found.get(number)
+            marks = "1" * len(copies) if outcome is None else outcome.marks if outcome.state is State.WHOLE else ""
+            self.known.update({(copy.path, place, stretch.size): INTACT for copy, place, mark in zip(copies, stretch.places, marks)
+                               if mark == "1" and place is not None})
 
     def forget(self, copy: Copy) -> None:
         """Forgets what is known of a file that was made anew."""

@@ -58,8 +58,6 @@ class Made:
     flaws: list[Found]  # where its parts do not hang together
     part: str  # its path while it is made
     decoded: Mapping[int, NearEnd]  # frames with guessed slices that decode, by their places
-    failing: frozenset[int]  # the numbers of the frames that fail their parities in it, though the elements around them pass
-    checked: FileCheck | None  # what a check of the whole file says, if it is Matroska
 
 
 @dataclasses.dataclass
@@ -278,6 +276,7 @@ class Session:
             attempt = self.attempt(better)
             better = self.better(attempt)
         arrangement, layout, inputs, made = attempt.arrangement, attempt.layout, attempt.inputs, attempt.made
+        failing, checked = self.judged_again(attempt)
         self.note_parities(bool(layout.frames) == any(stretch.parts for stretch in layout.stretches), layout)
         others = {matched.number: describe([self.copies[matched.number]], self.scan, False) for matched in arrangement.matched}
         claims = [*attempt.comparison.claims, *(others[matched.number].claims.of_tracks(matched.tracks) for matched in arrangement.matched)]
@@ -285,8 +284,8 @@ class Session:
         alike = evidence.alike_beside(made.stretches, made.outcomes, inputs.files[: inputs.own])
         verdict = judge(Evidence(
             layout, made.stretches, made.outcomes, made.out, claims, arrangement.matched, arrangement.left, inputs.numbers, others,
-            bool(attempt.comparison.broken), made.decoded, self.compared(made.part, made.out), made.flaws, made.failing, alike, [*self.told, *self.shorter(arrangement)],
-            len(self.copies) == 1, arrangement.good is not None, made.checked,
+            bool(attempt.comparison.broken), made.decoded, self.compared(made.part, made.out), made.flaws, failing, alike, [*self.told, *self.shorter(arrangement)],
+            len(self.copies) == 1, arrangement.good is not None, checked,
             {matched.number for matched in arrangement.matched if matched.alignment and self.lost_or_gained(self.copies[matched.number])}))
         self.keep_frames(layout, inputs, made.stretches, verdict)
         summary = self.summary(arrangement, layout, verdict, made.part)
@@ -374,6 +373,9 @@ class Session:
         if arrangement.good is not None or arrangement.is_read_again:
             return None
         damaged = attempt.damaged()
+        # Copies that are OUT byte for byte are judged once.
+        same = [number for number in arrangement.basis if not self.copies[number].unread and attempt.is_copy(number)]
+        self.judgments.update({number: self.judgment(same[0]) for number in same})
         undamaged = [number for number in arrangement.basis if number not in damaged and is_good(self.judgment(number))]
         if undamaged:
             own = attempt.inputs.files[: attempt.inputs.own]
@@ -448,16 +450,30 @@ class Session:
             self.scan.forget(out)
             out.form = form_of(out)
             read = describe([out], self.scan)
-            checked = self.scan.check(out) if out.form == MATROSKA else None
-            failing = frozenset[int]() if all_passes(checked, read) else self.failing(out, layout, stretches, outcomes)
-            return Made(stretches, outcomes, read, flaws_of(out, out.form, read), part, decoded, failing, checked)
+            return Made(stretches, outcomes, read, flaws_of(out, out.form, read), part, decoded)
         finally:
             os.close(out.file)
 
-    def failing(self, out: Copy, layout: Layout, stretches: Sequence[Stretch], outcomes: Sequence[Outcome]) -> frozenset[int]:
+    def judged_again(self, attempt: Attempt) -> tuple[frozenset[int], FileCheck | None]:
+        """The numbers of the frames of OUT that fail their parities in elements that pass, and what a check of all of it says, if that can count: an
+        undamaged copy was judged, and what several copies have was recorded so."""
+        made, layout, good = attempt.made, attempt.layout, attempt.arrangement.good
+        if good is not None and attempt.is_copy(good):
+            return frozenset(), None
+        out = open_copy(made.part)
+        try:
+            self.progress.watch([out])
+            out.form = form_of(out)
+            is_of_one = any(len(stretch.having()) < 2 for stretch in made.stretches)
+            checked = self.scan.check(out) if is_of_one and out.form == MATROSKA else None
+            return frozenset() if all_passes(checked, made.out) else self.failing(out, layout, made), checked
+        finally:
+            os.close(out.file)
+
+    def failing(self, out: Copy, layout: Layout, made: Made) -> frozenset[int]:
         """The numbers of the frames of OUT that fail their parities in elements that pass."""
-        lost = {outcome.number for outcome in outcomes if outcome.state not in VERIFIED}
-        inside = {frame.place for number, stretch in enumerate(stretches) if stretch.kind is Kind.ELEMENT and number not in lost
+        lost = {outcome.number for outcome in made.outcomes if outcome.state not in VERIFIED}
+        inside = {frame.place for number, stretch in enumerate(made.stretches) if stretch.kind is Kind.ELEMENT and number not in lost
                   for frame in stretch.parts}
         numbers = [number for number, frame in enumerate(layout.frames) if frame.place in inside]
         judged = self.scan(out, [(layout.frames[number].place, layout.frames[number].size) for number in numbers])
@@ -467,6 +483,7 @@ class Session:
         """Has the program make OUT. Returns the stretches in the order of OUT, and what became of those that are not undamaged."""
         files, size = comparison.inputs.files, comparison.layout.size
         listed, outcomes = self.mend_listed("list", comparison.layout.stretches, out, files, size)
+        self.scan.learn(listed, outcomes, files)
         chosen, settled = {} if is_good else comparison.sources(listed, outcomes, self.scan), set[int]()
         # Of several versions of an element that pass that is right of which all frames pass, if it is one.
         for outcome in (each for each in outcomes if each.state is State.DISPUTED and listed[each.number].parts):
