@@ -5,7 +5,7 @@ import typing
 
 from mend_reel.containers import own_checks
 import check_reading
-from mend_reel.engine import file_checks, frame_checks
+from mend_reel.engine import frame_checks
 from mend_reel.model import Claims, Content, Frame, Kind, Layout, Stretch, Track, What
 from . import made
 
@@ -49,9 +49,9 @@ class Judge:
                                                bool(links) and links[-1][0] == 0))
         return answers
 
-    def check(self, copy: typing.Any) -> file_checks.FileCheck:
+    def check(self, copy: typing.Any) -> frame_checks.FileCheck:
         """What the program prints of a whole file, by its second reading."""
-        found = file_checks.read_report(check_reading.checked(copy.read(0, copy.size))[0].decode())
+        found = frame_checks.read_report(check_reading.checked(copy.read(0, copy.size))[0].decode())
         assert found is not None
         return found
 

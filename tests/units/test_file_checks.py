@@ -4,7 +4,7 @@ import stat
 import tempfile
 import unittest
 
-from mend_reel.engine.file_checks import Line, TrackCount, check, read_report
+from mend_reel.engine.frame_checks import Line, TrackCount, check, read_report
 from mend_reel.model import Fault
 from . import made
 

@@ -266,8 +266,8 @@ def read_file(numbers: Sequence[int], copies: Sequence[Copy], judge: Judge, path
     layout = describe(copies, judge)
     has_runs = len(copies) > 1 and find_filling(copies, layout.stretches)
     leads = has_runs and not layout.gaps and layout.frames and any(not files.flaws_of(copy, copy.form, layout) for copy in copies)
-    together = filled(copies, layout, judge, path) if has_runs and not leads else None
-    return File(list(numbers), Recording(copies, together.layout if together else layout), together.made if together else None)
+    together, layout = filled(copies, layout, judge, path) if has_runs and not leads else (None, layout)
+    return File(list(numbers), Recording(copies, layout), together)
 
 
 def is_good(judged: Judgment) -> bool:

@@ -128,27 +128,19 @@ def find_filling(copies: Sequence[Copy], stretches: Sequence[Stretch]) -> bool:
     return has_runs
 
 
-@dataclasses.dataclass
-class Filled:
-    """A file as its copies have it together, and what lies where in it."""
-
-    made: Copy
-    layout: Layout
-
-
-def filled(copies: Sequence[Copy], layout: Layout, judge: Judge, path: pathlib.Path) -> Filled | None:
-    """A file as its copies have it together up to its end, which is written to a path: where a copy has a long run another one counts that has
-    content. None if no copy has any. What lies where in it is as it was known, if no more is found."""
+def filled(copies: Sequence[Copy], layout: Layout, judge: Judge, path: pathlib.Path) -> tuple[Copy | None, Layout]:
+    """A file as its copies have it together up to its end, which is written to a path, and what lies where in it: where a copy has a long run
+    another one counts that has content. None if no copy has any; as it was known, if no more is found."""
     spans = [spans_in(hidden(copy, copies), 0, layout.size) for copy in copies]
     if not any(spans):
-        return None
+        return None, layout
     with or_fault(f"cannot write {path}"), open(path, "wb") as file:
         file.writelines(pieces(copies, spans, layout.size))
     made = open_copy(str(path))
     made.form = form_of(made)
     found = describe([made], judge)
     is_more = (len(found.frames), -len(found.gaps)) > (len(layout.frames), -len(layout.gaps))
-    return Filled(made, placed(found, copies, made) if is_more else layout)
+    return made, placed(found, copies, made) if is_more else layout
 
 
 def placed(layout: Layout, copies: Sequence[Copy], source: Copy | None = None) -> Layout:

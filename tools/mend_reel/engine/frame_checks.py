@@ -1,19 +1,23 @@
-"""Which frames of a copy pass, as the program reports it."""
+"""Which frames of a copy pass, and what a check says of a whole Matroska file, as the program reports it."""
 from __future__ import annotations
 
 import dataclasses
 import os
 import pathlib
+import re
 import tempfile
 from collections.abc import Callable, Sequence
+from typing import NamedTuple
 
 from ..model import Content, Copy, Fault, Kind, Outcome, State, Stretch, What
-from . import file_checks
-from .external_programs import last_line, started
+from .external_programs import last_line, run, started
 from .mend_run import mend, write_list
 
 Range = tuple[int, int]
 MOST_BYTES = 1 << 30
+LINE, COUNT = re.compile(r"at (\d+) (.+)"), re.compile(r"track (\d+) (\S+) blocks (\d+) checked (\d+)")
+# After these comes a line that counts bytes, and then the verdict.
+WHOLE, LAST_LINES = {"whole": True, "not whole": False}, 1
 
 
 @dataclasses.dataclass(frozen=True)
@@ -40,7 +44,7 @@ class Scan:
         self.program, self.work = program, work
         self.known: dict[tuple[str, int, int], Judged] = {}
         self.names: dict[str, int] = {}
-        self.checks: dict[str, file_checks.FileCheck] = {}
+        self.checks: dict[str, FileCheck] = {}
 
     def __call__(self, copy: Copy, ranges: Sequence[Range]) -> list[Judged]:
         """The judgement of each range. A range that the copy does not have has no slices."""
@@ -52,10 +56,10 @@ class Scan:
                 self.known[(copy.path, *each)] = judged
         return [self.known.get((copy.path, *each), Judged()) for each in ranges]
 
-    def check(self, copy: Copy) -> file_checks.FileCheck:
+    def check(self, copy: Copy) -> FileCheck:
         """What a check of a whole Matroska file says, which is made once."""
         if copy.path not in self.checks:
-            self.checks[copy.path] = file_checks.check(self.program, copy, self.work)
+            self.checks[copy.path] = check(self.program, copy, self.work)
         return self.checks[copy.path]
 
     def learn(self, stretches: Sequence[Stretch], outcomes: Sequence[Outcome], copies: Sequence[Copy]) -> None:
@@ -118,3 +122,53 @@ def read_line(line: str) -> Judged:
     """A line of `scan`: `range 3 links 24 pass 23 whole`."""
     words = line.split()
     return Judged(int(words[3]), int(words[5]), words[6] == "whole")
+
+
+# ---- a whole file
+
+
+class Line(NamedTuple):
+    """A line: the place that it names, and what it says of it."""
+
+    place: int
+    words: list[str]
+
+
+class TrackCount(NamedTuple):
+    """How many blocks of a track there are, and how many of them some check covers."""
+
+    codec: str
+    blocks: int
+    checked: int
+
+
+class FileCheck(NamedTuple):
+    """What is wrong in a file, its tracks by their numbers, and whether it is whole."""
+
+    lines: list[Line]
+    tracks: dict[int, TrackCount]
+    is_whole: bool
+
+
+def check(program: str, copy: Copy, work: pathlib.Path) -> FileCheck:
+    """Has the program check a file. It is read by a link, as the program takes only names that are text."""
+    link = work / "checked"
+    link.unlink(missing_ok=True)
+    link.symlink_to(os.path.abspath(copy.path))
+    done = run(program, "check", link)
+    if done.returncode not in (0, 3):
+        raise Fault(f"cannot check {copy.path}: {last_line(done.stderr, done.returncode)}")
+    found = read_report(done.stdout.decode("ascii", "replace"))
+    if found is None or found.is_whole != (done.returncode == 0):
+        raise Fault(f"{program} did not report what it found in {copy.path}")
+    return found
+
+
+def read_report(text: str) -> FileCheck | None:
+    """What the lines say that the program printed, or None where they are not its lines."""
+    *told, verdict = text.splitlines() or [""]
+    found, counted = list(filter(None, map(LINE.fullmatch, told))), list(filter(None, map(COUNT.fullmatch, told)))
+    if verdict not in WHOLE or len(found) + len(counted) + LAST_LINES != len(told):
+        return None
+    tracks = {int(number): TrackCount(codec, int(blocks), int(checked)) for number, codec, blocks, checked in (each.groups() for each in counted)}
+    return FileCheck([Line(int(each[1]), each[2].split()) for each in found], tracks, WHOLE[verdict])

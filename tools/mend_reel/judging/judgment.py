@@ -7,8 +7,7 @@ from collections.abc import Iterator, Sequence, Set
 
 from ..containers import ebml, files, own_checks
 from ..containers.structure import Flaw, Found
-from ..engine.file_checks import FileCheck
-from ..engine.frame_checks import Scan
+from ..engine.frame_checks import FileCheck, Scan
 from ..model import MATROSKA, Content, Copy, Kind, Layout, Outcome, SliceReport, State, Stretch
 from .completeness import lacks
 from .parities import lack_parities, without_parts

@@ -10,7 +10,7 @@ from ..containers.frame_times import end_of
 from ..containers.own_checks import passes_as_record
 from ..containers.structure import Flaw, Found
 from ..copies.arrangement import Left, Matched
-from ..engine.file_checks import FileCheck
+from ..engine.frame_checks import FileCheck
 from ..judging.completeness import lacks
 from ..judging.judgment import OF_CLUSTERS, Judgment, frame_reason, not_whole, of_bytes, of_flaws, of_lines, unchecked, without_track
 from ..judging.kept_digests import Compared

@@ -22,8 +22,7 @@ from ..copies.filling import filled, placed
 from ..copies.inputs import Inputs, gather
 from ..copies.preferred_copy import follow, without_broken
 from ..engine.external_programs import find_ffv1restore, of_each, version_of
-from ..engine.file_checks import FileCheck
-from ..engine.frame_checks import Scan
+from ..engine.frame_checks import FileCheck, Scan
 from ..engine.mend_run import list_of, mend, write_list
 from ..judging import decoding, frame_digests, kept_digests
 from ..judging.judgment import Judgment, all_passes, judge_file
@@ -388,9 +387,10 @@ class Session:
                 return None
             return with_editions(made, self.copies, self.scan, self.judgment)
         own, is_lost = attempt.inputs.files[: attempt.inputs.own], any(each.state is State.MISSING for each in attempt.made.outcomes)
-        together = filled(own, arrangement.layout, self.scan, self.work / "filled") if is_lost and len(own) > 1 and not arrangement.filled else None
-        if together:
-            return dataclasses.replace(arrangement, layout=together.layout, filled=together.made, is_read_again=True)
+        if is_lost and len(own) > 1 and not arrangement.filled:
+            together, layout = filled(own, arrangement.layout, self.scan, self.work / "filled")
+            if together:
+                return dataclasses.replace(arrangement, layout=layout, filled=together, is_read_again=True)
         out = attempt.made.out
         is_more = len(out.frames) > len(attempt.layout.frames) or bool(attempt.layout.gaps) and not out.gaps
         return dataclasses.replace(arrangement, layout=out, is_read_again=True) if is_more and len(self.copies) > 1 else None
