@@ -286,6 +286,16 @@ def open_copy(path: str) -> Copy:
     return Copy(path, file, state.st_size)
 
 
+@contextlib.contextmanager
+def opened(path: str) -> Iterator[Copy]:
+    """A regular file that is open while it is used."""
+    copy = open_copy(path)
+    try:
+        yield copy
+    finally:
+        os.close(copy.file)
+
+
 @dataclasses.dataclass(frozen=True)
 class SliceReport:
     """A slice of a frame as the program reports it, or what its footers do not divide."""

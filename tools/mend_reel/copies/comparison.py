@@ -3,13 +3,12 @@ has where nothing vouches for any."""
 from __future__ import annotations
 
 import dataclasses
-import os
 from collections.abc import Callable, Mapping, Sequence
 
 from ..containers import ffmpeg_files, ffprobe, matroska
 from ..engine.frame_checks import Judge
 from ..judging.unread import without_unread
-from ..model import MATROSKA, Claims, Copy, Layout, Outcome, Stretch, open_copy
+from ..model import MATROSKA, Claims, Copy, Layout, Outcome, Stretch, opened
 from . import differences, known_wrong, preferred_copy
 from .inputs import Inputs
 
@@ -70,11 +69,8 @@ def best_shown(out: str, copies: Sequence[Copy], judge: Judge) -> int | None:
     """The copy whose container shows more right frames than that of OUT, if one does: frames that both show are right in OUT."""
     if not ffprobe.can_ask():
         return None
-    made = open_copy(out)
-    try:
+    with opened(out) as made:
         shown, *others = ({(frame.place, frame.size) for frame in ffmpeg_files.frames(copy)} for copy in (made, *copies))
-    finally:
-        os.close(made.file)
     margins = [sum(each.is_intact() for each in judge(copy, sorted(own - shown))) - len(shown - own) for copy, own in zip(copies, others)]
     best = max(range(len(copies)), key=margins.__getitem__)
     return best if margins[best] > 0 else None

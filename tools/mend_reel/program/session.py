@@ -30,7 +30,7 @@ from ..judging.parities import NO_PARITIES, lack_parities, without_parts
 from ..judging.reasons import Reason, Why
 from ..judging.results import NO_COPY, VERIFIED, FrameResult, FrameState, NearEnd, Results
 from ..mending.verdict import Evidence, Verdict, judge, verdict_of_file
-from ..model import MATROSKA, Because, Copy, Fault, Frame, Interrupted, Kind, Layout, Outcome, SliceReport, State, Stretch, Track, open_copy, or_fault
+from ..model import MATROSKA, Because, Copy, Fault, Frame, Interrupted, Kind, Layout, Outcome, SliceReport, State, Stretch, Track, open_copy, opened, or_fault
 from ..reports import json_document, page
 from ..reports.summary import CopySummary, Entry, Role, Summary, Unreadable, of_files
 from . import ddrescue_maps, output_files
@@ -248,13 +248,10 @@ class Session:
         if not judged.results.failing or not failing:
             return set()
         listed, outcomes = self.mend_listed("few", failing, str(self.work / "again"), [copy], layout.size)
-        made = open_copy(str(self.work / "again"))
-        try:
+        with opened(str(self.work / "again")) as made:
             overlay = evidence.Overlay(copy, made, listed)
             decoder = decoding.SamplesDecoder(overlay, layout.frames, self.program, self.work)
             decoded = decoding.decoded(layout, listed, outcomes, decoder, decoding.GuessFinder(overlay, [copy]))
-        finally:
-            os.close(made.file)
         results = Results(layout, listed, outcomes, [0], decoded)
         return {at for at in judged.results.failing if at in results.frames and results.frames[at].state is not FrameState.LOST}
 
@@ -402,27 +399,22 @@ class Session:
         if digest is None:
             return None
         self.progress.begin("comparing with the digest")
-        file = open_copy(path)
-        try:
+        with opened(path) as file:
             own = None if shutil.which("ffmpeg") else frame_digests.OwnDigests(file, layout, self.program, self.work)
             return kept_digests.compare(digest, path, self.options.out or path, self.options.copies, self.progress.at, own)
-        finally:
-            os.close(file.file)
 
     def refuse_recording(self, copies: Sequence[Copy]) -> None:
         """Refuses to overwrite a recording of the same video where OUT is named by its place alone: OUT may have been forgotten."""
         path = self.options.out
         if path is None or self.options.is_named or not os.path.isfile(path) or is_written_to(path):
             return
-        there = open_copy(path)
-        try:
-            there.form = form_of(there)
-            both = [there, *copies]
-            left = {left.number for left in arrange(both, self.scan, lambda number: judge_file(both[number], self.scan), self.work).left}
-        except Fault:
-            return
-        finally:
-            os.close(there.file)
+        with opened(path) as there:
+            try:
+                there.form = form_of(there)
+                both = [there, *copies]
+                left = {left.number for left in arrange(both, self.scan, lambda number: judge_file(both[number], self.scan), self.work).left}
+            except Fault:
+                return
         if 0 not in left and len(left) < len(copies):
             raise Fault(f"{path} is a recording of the same video as the copies (-o {path} overwrites it)")
 
@@ -441,8 +433,7 @@ class Session:
         with open(part, "rb") as made:
             os.fchmod(made.fileno(), stat.S_IMODE(os.fstat(inputs.files[0].file).st_mode))
             os.fsync(made.fileno())
-        out = open_copy(part)
-        try:
+        with opened(part) as out:
             self.progress.begin("reading OUT again")
             decoder = decoding.SamplesDecoder(out, layout.frames, self.program, self.work)
             decoded = decoding.decoded(layout, stretches, outcomes, decoder, decoding.GuessFinder(out, inputs.files))
@@ -451,24 +442,18 @@ class Session:
             out.form = form_of(out)
             read = describe([out], self.scan)
             return Made(stretches, outcomes, read, flaws_of(out, out.form, read), part, decoded)
-        finally:
-            os.close(out.file)
 
     def judged_again(self, attempt: Attempt) -> tuple[frozenset[int], FileCheck | None]:
-        """The numbers of the frames of OUT that fail their parities in elements that pass, and what a check of all of it says, if that can count: an
-        undamaged copy was judged, and what several copies have was recorded so."""
-        made, layout, good = attempt.made, attempt.layout, attempt.arrangement.good
-        if good is not None and attempt.is_copy(good):
-            return frozenset(), None
-        out = open_copy(made.part)
-        try:
+        """The numbers of the frames of OUT that fail their parities in elements that pass, and what a check of all of it says, if that can count:
+        what several copies have was recorded so. Of a judged copy that is OUT byte for byte both are known."""
+        made = attempt.made
+        same = next((number for number in attempt.arrangement.basis if number in self.judgments and attempt.is_copy(number)), None)
+        with opened(made.part if same is None else self.copies[same].path) as out:
             self.progress.watch([out])
             out.form = form_of(out)
-            is_of_one = any(len(stretch.having()) < 2 for stretch in made.stretches)
-            checked = self.scan.check(out) if is_of_one and out.form == MATROSKA else None
-            return frozenset() if all_passes(checked, made.out) else self.failing(out, layout, made), checked
-        finally:
-            os.close(out.file)
+            can_count = same is not None or any(len(stretch.having()) < 2 for stretch in made.stretches)
+            checked = self.scan.check(out) if can_count and out.form == MATROSKA else None
+            return frozenset() if all_passes(checked, made.out) else self.failing(out, attempt.layout, made), checked
 
     def failing(self, out: Copy, layout: Layout, made: Made) -> frozenset[int]:
         """The numbers of the frames of OUT that fail their parities in elements that pass."""
