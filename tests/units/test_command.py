@@ -77,6 +77,25 @@ class OutTest(InFolder):
         self.assertTrue(done.stdout.decode().startswith(GOOD))
         self.assertEqual((self.names(), list(self.work.iterdir())), (["a.mkv", "b.mkv", "out.mkv"], []))
 
+    def calls(self, *words: str) -> dict[str, int]:
+        """How often the program is called to judge whole files and frames, and what it is called for."""
+        slow, log = self.folder.parent / "counting", self.folder.parent / "calls"
+        slow.write_text(f'#!/bin/sh\necho "$1" >> {log}\nexec {self.program} "$@"\n')
+        slow.chmod(0o755)
+        log.unlink(missing_ok=True)
+        subprocess.run([sys.executable, str(TOOL), "--force", "-o", "out.mkv", *words], cwd=self.folder, stdin=subprocess.DEVNULL,
+                       stdout=subprocess.PIPE, env=dict(self.environment(), FFV1RESTORE=str(slow)), check=False)
+        names = log.read_text().split()
+        return {name: names.count(name) for name in ("check", "scan") if name in names}
+
+    def test_what_is_out_byte_for_byte_is_judged_once(self) -> None:
+        """Frames that all copies have in elements that pass are judged in OUT; a copy that is OUT is judged, and OUT is not."""
+        self.write("c.mkv", damaged(9000))
+        self.write("d.mkv", REEL)
+        self.assertEqual(self.calls("a.mkv", "c.mkv"), {"scan": 1})
+        self.assertEqual((self.calls("b.mkv"), self.calls("b.mkv", "d.mkv"), self.calls("a.mkv", "b.mkv")), ({"check": 1},) * 3)
+        self.assertEqual(self.calls("a.mkv"), {"check": 1, "scan": 1})
+
     def test_a_forgotten_out_costs_no_copy(self) -> None:
         self.write("c.mkv", damaged(9000))
         self.assert_refused("a.mkv is a recording of the same video as the copies (-o a.mkv overwrites it)", "--force", "a.mkv", "b.mkv", "c.mkv")
