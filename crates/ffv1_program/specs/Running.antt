@@ -133,89 +133,61 @@ pub record Promise : Type 1 where
   pub Refuses : Result Bool CliFault → Type 0
   pub Leaves : (Made Printed : Type 0) → Type 0
 
+-- a command that makes no file, and one that makes one: neither refuses its words
+abbrev pub prints : (printed : Written) → (Does : Bool → Type 0) → (Stops Keeps Unread : CliFault → Type 0) → Promise
+prints printed Does Stops Keeps Unread =
+    record { Does = Does; Stops = Stops; Keeps = Keeps; Unread = Unread; Refuses = λ _. Unit {0}; Leaves = λ Made Printed. Made }
+
+abbrev pub makes : (made printed : Written) → (Does : Bool → Type 0) → (Stops Unread : CliFault → Type 0) → Promise
+makes made printed Does Stops Unread = record {
+  Does = Does;
+  Stops = Stops;
+  Keeps = λ fault. UnlessWriting fault (made.IsKept × printed.IsKept);
+  Unread = Unread;
+  Refuses = λ _. Unit {0};
+  Leaves = λ _ _. Unit {0};
+}
+
 -- a command that prints a text
 abbrev pub prints_text : (text : List ℕ) → (printed : Written) → Promise
 prints_text text printed =
-    record {
-      Does = λ returned. (returned ≡ true) × Appends printed.before printed.after text;
-      Stops = StopsPrinting text printed.before printed.after;
-      Keeps = λ fault. UnlessWriting fault printed.IsKept;
-      Unread = λ _. Unit {0};
-      Refuses = λ _. Unit {0};
-      Leaves = λ Made Printed. Made;
-    }
+    prints printed (λ returned. (returned ≡ true) × Appends printed.before printed.after text) (StopsPrinting text printed.before printed.after)
+    (λ fault. UnlessWriting fault printed.IsKept) (λ _. Unit {0})
+
+-- what holds of what was done by a command that returns nothing more
+abbrev pub if_done : Type 0 → Bool → Type 0
+if_done P returned = (returned ≡ true) × P
 
 -- The promise of the command of these words.
 abbrev pub promise_of : FilesRead → (made printed : Written) → Words → Promise
 promise_of files made printed (Chain frame) =
-    record {
-      Does = λ returned. (returned ≡ true) × IfSome (files.bytes_at frame.now) (λ payload. PrintsChain payload printed.before printed.after);
-      Stops = ChainStops (files.bytes_at frame.now) printed.before printed.after;
-      Keeps = λ fault. UnlessWriting fault printed.IsKept;
-      Unread = IfUnread (λ _. files.SourceWent IsUnread frame.now);
-      Refuses = λ _. Unit {0};
-      Leaves = λ Made Printed. Made;
-    }
+    prints printed (if_done (IfSome (files.bytes_at frame.now) (λ payload. PrintsChain payload printed.before printed.after)))
+    (ChainStops (files.bytes_at frame.now) printed.before printed.after)
+    (λ fault. UnlessWriting fault printed.IsKept) (IfUnread (λ _. files.SourceWent IsUnread frame.now))
 promise_of files made printed (Scan ranges file) =
-    record {
-      Does = ScansFile (files.bytes_at ranges.now) (files.bytes_at file.now) printed.before printed.after;
-      Stops = ScanStops (files.bytes_at ranges.now) (files.bytes_at file.now) printed.before printed.after;
-      Keeps = λ fault. IfOfList paths.Ranges fault printed.IsKept;
-      Unread = IfUnread (IsUnscanned files.SourceWent ranges.now file.now);
-      Refuses = λ _. Unit {0};
-      Leaves = λ Made Printed. Made;
-    }
+    prints printed (ScansFile (files.bytes_at ranges.now) (files.bytes_at file.now) printed.before printed.after)
+    (ScanStops (files.bytes_at ranges.now) (files.bytes_at file.now) printed.before printed.after)
+    (λ fault. IfOfList paths.Ranges fault printed.IsKept) (IfUnread (IsUnscanned files.SourceWent ranges.now file.now))
 promise_of files made printed (Check file) =
-    record {
-      Does = ChecksFile (files.bytes_at file.now) printed.before printed.after;
-      Stops = CheckStops (files.bytes_at file.now) printed.before printed.after;
-      Keeps = λ fault. UnlessWriting fault printed.IsKept;
-      Unread = IfUnread (λ _. files.SourceWent IsUnchecked file.now);
-      Refuses = λ _. Unit {0};
-      Leaves = λ Made Printed. Made;
-    }
+    prints printed (ChecksFile (files.bytes_at file.now) printed.before printed.after)
+    (CheckStops (files.bytes_at file.now) printed.before printed.after)
+    (λ fault. UnlessWriting fault printed.IsKept) (IfUnread (λ _. files.SourceWent IsUnchecked file.now))
 promise_of files made printed (Show recording) =
-    record {
-      Does = λ returned. (returned ≡ true) × IfSome (files.bytes_at recording.record.now)
-          (λ config. PrintsSetup config recording.width recording.height printed.before printed.after);
-      Stops = ShowStops recording.width recording.height (files.bytes_at recording.record.now) printed.before printed.after;
-      Keeps = λ fault. UnlessWriting fault printed.IsKept;
-      Unread = IfUnread (λ _. files.SourceWent IsUnread recording.record.now);
-      Refuses = λ _. Unit {0};
-      Leaves = λ Made Printed. Made;
-    }
+    prints printed (if_done (IfSome (files.bytes_at recording.record.now) (λ config. PrintsSetup config recording.width recording.height printed.before printed.after)))
+    (ShowStops recording.width recording.height (files.bytes_at recording.record.now) printed.before printed.after)
+    (λ fault. UnlessWriting fault printed.IsKept) (IfUnread (λ _. files.SourceWent IsUnread recording.record.now))
 promise_of files made printed (Setup recording) =
-    record {
-      Does = λ returned. (returned ≡ true) × IfSome (files.bytes_at recording.record.now)
-          (λ config. PrintsRecording config recording.width recording.height printed.before printed.after);
-      Stops = SetupStops recording.width recording.height (files.bytes_at recording.record.now) printed.before printed.after;
-      Keeps = λ fault. UnlessWriting fault printed.IsKept;
-      Unread = IfUnread (λ _. files.SourceWent IsUnread recording.record.now);
-      Refuses = λ _. Unit {0};
-      Leaves = λ Made Printed. Made;
-    }
+    prints printed (if_done (IfSome (files.bytes_at recording.record.now) (λ config. PrintsRecording config recording.width recording.height printed.before printed.after)))
+    (SetupStops recording.width recording.height (files.bytes_at recording.record.now) printed.before printed.after)
+    (λ fault. UnlessWriting fault printed.IsKept) (IfUnread (λ _. files.SourceWent IsUnread recording.record.now))
 promise_of files made printed (Take recording out copies) =
-    record {
-      Does = λ returned. (returned ≡ true) × TakesCopies files.recordings (files.bytes_at recording.record.now) recording.width recording.height
-          (bytes_of_all files.bytes_at copies.items) made.before made.after printed.before printed.after;
-      Stops = TakeStops files.recordings (files.bytes_at recording.record.now) recording.width recording.height (bytes_of_all files.bytes_at copies.items)
-          made.before made.after printed.before printed.after;
-      Keeps = λ fault. UnlessWriting fault (made.IsKept × printed.IsKept);
-      Unread = IfUnread (IsUntaken files.SourceWent recording.record.now (words_of copies.items));
-      Refuses = λ _. Unit {0};
-      Leaves = λ _ _. Unit {0};
-    }
+    makes made printed (if_done (TakesCopies files.recordings (files.bytes_at recording.record.now) recording.width recording.height (bytes_of_all files.bytes_at copies.items) made.before made.after printed.before printed.after))
+    (TakeStops files.recordings (files.bytes_at recording.record.now) recording.width recording.height (bytes_of_all files.bytes_at copies.items) made.before made.after printed.before printed.after)
+    (IfUnread (IsUntaken files.SourceWent recording.record.now (words_of copies.items)))
 promise_of files made printed (Join out first others) =
-    record {
-      Does = λ returned. (returned ≡ true) × JoinsFiles files.recordings (files.bytes_at first.now ∷ bytes_of_all files.bytes_at others.items)
-          made.before made.after printed.before printed.after;
-      Stops = JoinStops files.recordings (files.bytes_at first.now ∷ bytes_of_all files.bytes_at others.items)
-          made.before made.after printed.before printed.after;
-      Keeps = λ fault. UnlessWriting fault (made.IsKept × printed.IsKept);
-      Unread = IfUnread (IsUnjoined files.recordings files.BufferedWent first.now (words_of others.items));
-      Refuses = λ _. Unit {0};
-      Leaves = λ _ _. Unit {0};
-    }
+    makes made printed (if_done (JoinsFiles files.recordings (files.bytes_at first.now ∷ bytes_of_all files.bytes_at others.items) made.before made.after printed.before printed.after))
+    (JoinStops files.recordings (files.bytes_at first.now ∷ bytes_of_all files.bytes_at others.items) made.before made.after printed.before printed.after)
+    (IfUnread (IsUnjoined files.recordings files.BufferedWent first.now (words_of others.items)))
 promise_of files made printed (Merge out left right) =
     record {
       Does = λ returned. (returned ≡ true) × MergesFiles files.recordings (files.bytes_at left.now) (files.bytes_at right.now) made.before made.after;
@@ -227,41 +199,21 @@ promise_of files made printed (Merge out left right) =
       Leaves = λ Made Printed. Printed;
     }
 promise_of files made printed (Report file) =
-    record {
-      Does = λ returned. (returned ≡ true) × ReportsFile files.recordings (files.bytes_at file.now) printed.before printed.after;
-      Stops = ReportStops files.recordings (files.bytes_at file.now) printed.before printed.after;
-      Keeps = λ fault. UnlessWriting fault printed.IsKept;
-      Unread = IfUnread (λ _. files.BufferedWent (IsUnheld files.recordings) file.now);
-      Refuses = λ _. Unit {0};
-      Leaves = λ Made Printed. Made;
-    }
+    prints printed (if_done (ReportsFile files.recordings (files.bytes_at file.now) printed.before printed.after))
+    (ReportStops files.recordings (files.bytes_at file.now) printed.before printed.after)
+    (λ fault. UnlessWriting fault printed.IsKept) (IfUnread (λ _. files.BufferedWent (IsUnheld files.recordings) file.now))
 promise_of files made printed (Restore file out) =
-    record {
-      Does = λ returned. (returned ≡ true) × RestoresFile files.recordings (files.bytes_at file.now) made.before made.after printed.before printed.after;
-      Stops = RestoreStops files.recordings (files.bytes_at file.now) made.before made.after printed.before printed.after;
-      Keeps = λ fault. UnlessWriting fault (made.IsKept × printed.IsKept);
-      Unread = IfUnread (λ _. files.BufferedWent (IsUnheld files.recordings) file.now);
-      Refuses = λ _. Unit {0};
-      Leaves = λ _ _. Unit {0};
-    }
+    makes made printed (if_done (RestoresFile files.recordings (files.bytes_at file.now) made.before made.after printed.before printed.after))
+    (RestoreStops files.recordings (files.bytes_at file.now) made.before made.after printed.before printed.after)
+    (IfUnread (λ _. files.BufferedWent (IsUnheld files.recordings) file.now))
 promise_of files made printed (Picture file out) =
-    record {
-      Does = ShowsFileOf files.recordings (files.bytes_at file.now) made.before made.after printed.before printed.after;
-      Stops = PictureStopsOf files.recordings (files.bytes_at file.now) made.before made.after printed.before printed.after;
-      Keeps = λ fault. UnlessWriting fault (made.IsKept × printed.IsKept);
-      Unread = IfUnread (λ _. files.BufferedWent (IsUnheld files.recordings) file.now);
-      Refuses = λ _. Unit {0};
-      Leaves = λ _ _. Unit {0};
-    }
+    makes made printed (ShowsFileOf files.recordings (files.bytes_at file.now) made.before made.after printed.before printed.after)
+    (PictureStopsOf files.recordings (files.bytes_at file.now) made.before made.after printed.before printed.after)
+    (IfUnread (λ _. files.BufferedWent (IsUnheld files.recordings) file.now))
 promise_of files made printed (Splice out copies) =
-    record {
-      Does = λ returned. made.IsMade × SplicesCopies (bytes_of_all files.bytes_at copies.items) made.before made.after printed.before printed.after returned;
-      Stops = StopsSplicing made.CannotBeMade (bytes_of_all files.bytes_at copies.items) made.before made.after printed.before printed.after;
-      Keeps = λ fault. UnlessWriting fault (made.IsKept × printed.IsKept);
-      Unread = IfUnread (IsSpliceUnread files.SourceWent (words_of copies.items));
-      Refuses = λ _. Unit {0};
-      Leaves = λ _ _. Unit {0};
-    }
+    makes made printed (λ returned. made.IsMade × SplicesCopies (bytes_of_all files.bytes_at copies.items) made.before made.after printed.before printed.after returned)
+    (StopsSplicing made.CannotBeMade (bytes_of_all files.bytes_at copies.items) made.before made.after printed.before printed.after)
+    (IfUnread (IsSpliceUnread files.SourceWent (words_of copies.items)))
 promise_of files made printed (Mend list out copies) =
     record {
       Does = λ returned. made.IsMade × MendsFiles (files.bytes_at list.now) (bytes_of_all files.bytes_at copies.items)
@@ -275,16 +227,9 @@ promise_of files made printed (Mend list out copies) =
       Leaves = λ _ _. Unit {0};
     }
 promise_of files made printed (Decode recording frame out) =
-    record {
-      Does = λ returned. (returned ≡ true) × DecodesFile (files.bytes_at recording.record.now) recording.width recording.height
-          (files.bytes_at frame.now) made.before made.after printed.before printed.after;
-      Stops = DecodeStops (files.bytes_at recording.record.now) recording.width recording.height (files.bytes_at frame.now)
-          made.before made.after printed.before printed.after;
-      Keeps = λ fault. UnlessWriting fault (made.IsKept × printed.IsKept);
-      Unread = IfUnread (IsUndecoded files.SourceWent recording.record.now frame.now);
-      Refuses = λ _. Unit {0};
-      Leaves = λ _ _. Unit {0};
-    }
+    makes made printed (if_done (DecodesFile (files.bytes_at recording.record.now) recording.width recording.height (files.bytes_at frame.now) made.before made.after printed.before printed.after))
+    (DecodeStops (files.bytes_at recording.record.now) recording.width recording.height (files.bytes_at frame.now) made.before made.after printed.before printed.after)
+    (IfUnread (IsUndecoded files.SourceWent recording.record.now frame.now))
 promise_of files made printed (Samples recording out frames) =
     record {
       Does = λ returned. made.IsMade × PlaysFiles (files.bytes_at recording.record.now) recording.width recording.height
