@@ -7,9 +7,10 @@ import unittest
 from mend_reel.containers.ffprobe import Probed
 from mend_reel.containers.known import OTHER as NO_CONTAINER
 from mend_reel.containers.known import by_start
-from mend_reel.copies.arrangement import Leaving, arrange, claimed_size, group
+from mend_reel.copies.arrangement import Leaving, arrange, claimed_size, group, renumbered
+from mend_reel.copies.frame_pairing import Matched
 from mend_reel.judging.judgment import judge_file
-from mend_reel.model import Fault, open_copy
+from mend_reel.model import Fault, Frame, Layout, open_copy
 from . import made
 from .framed import frame, judge, matroska
 from .test_structure import MOV
@@ -32,6 +33,13 @@ def place_of(number, reel=REEL):
 def spoilt(reel, *numbers):
     """A reel with damage in some of its frames."""
     return made.damaged(reel, *(place_of(number, reel) + 30 for number in numbers))
+
+
+class RenumberedTest(unittest.TestCase):
+    def test_frames_that_one_copy_alone_shows_have_no_number_in_another(self):
+        frames = [Frame(1, 0.0, 100, 10), Frame(1, 0.04, 120, 10), Frame(1, 0.08, 140, 10)]
+        found = renumbered(Matched(2, {0: 7, 2: 9}), Layout(200, [], frames, []), Layout(200, [], frames[1:], []))
+        self.assertEqual((found.number, found.places), (2, {1: 9}))
 
 
 class GroupTest(unittest.TestCase):

@@ -247,7 +247,6 @@ def arrange(copies: Sequence[Copy], judge: Judge, judgment: JudgeCopy, work: pat
         return Arrangement(found[0].numbers, found[0].layout, left=left, filled=found[0].filled)
     basis = choose(found, copies, judge, judgment)
     made = Arrangement(basis.numbers, basis.layout, left=left, filled=basis.filled)
-    made = with_good(made, basis.undamaged, {number: judgment(number) for number in basis.undamaged}) if basis.undamaged else made
     pairings = {id(file): each for file, each in basis.pairings}
     for file in (file for file in found if file is not basis):
         pairing = pairings.get(id(file))
@@ -258,6 +257,7 @@ def arrange(copies: Sequence[Copy], judge: Judge, judgment: JudgeCopy, work: pat
                              for number, copy in zip(file.numbers, file.recording.copies)]
     made.left.sort(key=lambda each: each.number)
     made.matched.sort(key=lambda each: each.number)
+    made = with_good(made, basis.undamaged, {number: judgment(number) for number in basis.undamaged}) if basis.undamaged else made
     return with_editions(made, copies, judge, judgment)
 
 
@@ -283,8 +283,16 @@ def with_good(arrangement: Arrangement, undamaged: Sequence[int], judgments: Map
     good = max(undamaged, key=lambda number: (sum(judgments[number].layout.contents().values()), known.get(number, 0), -number))
     parts = parts_of(judgments[good].layout)
     editions = [number for number in undamaged if parts_of(judgments[number].layout) != parts]
-    basis = [number for number in arrangement.basis if number not in editions]
-    return dataclasses.replace(arrangement, basis=basis, layout=judgments[good].layout, good=good, editions=editions, filled=None)
+    basis, layout = [number for number in arrangement.basis if number not in editions], judgments[good].layout
+    matched_now = [renumbered(each, arrangement.layout, layout) for each in arrangement.matched]
+    return dataclasses.replace(arrangement, basis=basis, layout=layout, matched=matched_now, good=good, editions=editions, filled=None)
+
+
+def renumbered(other: Matched, old: Layout, new: Layout) -> Matched:
+    """How a copy of another file serves by a new layout of OUT's file, in which frames have other numbers."""
+    numbers = {(frame.place, frame.size): number for number, frame in enumerate(new.frames)}
+    known = ((numbers.get((old.frames[number].place, old.frames[number].size)), place) for number, place in other.places.items())
+    return dataclasses.replace(other, places={number: place for number, place in known if number is not None})
 
 
 def with_editions(arrangement: Arrangement, copies: Sequence[Copy], judge: Judge, judgment: JudgeCopy) -> Arrangement:
