@@ -109,7 +109,7 @@ IsFirstLayoutFault r payload Memory = Unit {0}
 
 -- ---- a law
 
--- No payload is laid out in two ways; one that is has no fault, and any other one fault.
+-- No payload is laid out in two ways; one that is has no fault, and none has two.
 pub record OneLayout : Type 0 where
   pub one : (r : RecordingValue) (payload : List ℕ) (slices others : List (List ℕ)) (headers more : List SliceHeader)
       → IsLaidOut r payload slices headers → IsLaidOut r payload others more → (slices ≡ others) × (headers ≡ more)

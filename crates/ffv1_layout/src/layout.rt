@@ -116,7 +116,7 @@ pub fn read_layout<'a>(
     Ok(placed)
 }
 
-/// A payload is laid out in one way: no two lists of slices and headers are its own. One that is not has one fault beside `Memory`.
+/// A payload is laid out in one way: no two lists of slices and headers are its own. A payload has at most one fault beside `Memory`, and none if it is laid out.
 pub fn one_layout()
     ensures { OneLayout }
 {}

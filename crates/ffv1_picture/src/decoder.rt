@@ -140,7 +140,7 @@ fn fault_of_tile(tile: usize, cause: TileFault) -> FrameFault
     }
 }
 
-/// Of a record of the profile, a payload that spells pictures has no fault, and any other has one beside `Memory`.
+/// Of a record of the profile, a payload that spells pictures has no fault, and none has two beside `Memory`.
 pub fn faults_of_frames_are_one()
     ensures { FaultsOfFramesAreOne }
 {}

@@ -1,4 +1,4 @@
--- What a payload gives after the frame before is one frame or one fault.
+-- A payload has at most one frame after the frame before, at most one fault, and never both.
 use Rattle.std.specs.Prelude.{◌≡◌, ◌≢◌, ℕ, List, Option}
 use Rattle.ffv1_range.specs.Setup.{RecordingValue, IsInVersion3}
 use Rattle.ffv1_player.specs.Frames.{LeftValue, IsPlayedFrame, IsSameFrame}
@@ -8,7 +8,7 @@ use Rattle.ffv1_player.specs.declared.samples.Samples.{Samples}
 use Rattle.ffv1_player.specs.declared.fault.SamplesFault.{SamplesFault}
 use Rattle.ffv1_player.specs.declared.fault.SamplesFault.TheVariants.{Memory}
 
--- Of a recording of version 3, after what a player's frame before has left: a payload has one frame; one that has it has no fault; and any other has one fault.
+-- Of a recording of version 3, after what a player's frame before has left: no payload has two frames; one that has it has no fault; and none has two.
 pub record PlayedFrameIsOne (r : RecordingValue) (last : Option (List LeftValue)) (payload : List ℕ) : Type 0 where
   pub one_frame : (frame other : Samples) (left more : List LeftValue) → IsPlayedFrame r last payload frame left → IsPlayedFrame r last payload other more
       → IsSameFrame other frame

@@ -178,7 +178,7 @@ pub fn frame_is_played()
     ensures { FrameIsPlayed }
 {}
 
-/// Of a recording of version 3, after what a frame before has left, a payload has one frame or one fault beside `Memory`, and never both.
+/// Of a recording of version 3, after what a frame before has left, a payload has at most one frame, at most one fault beside `Memory`, and never both.
 pub fn played_frames_are_one()
     ensures { PlayedFramesAreOne }
 {}
