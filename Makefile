@@ -33,6 +33,7 @@ test:
 	tests/guide $(PROGRAM)
 	tests/rules $(PROGRAM) --short
 	tests/collection $(PROGRAM)
+	tests/kinds $(PROGRAM)
 	$(MAKE) rot
 
 # The unit tests in Python: of mend-reel, and of the scripts of tests/.

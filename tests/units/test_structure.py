@@ -245,7 +245,13 @@ class MatroskaTest(unittest.TestCase):
         self.assertEqual(self.flaws(made.damaged(REEL, (crc, b"\xaf"))), [(Flaw.BARE, place)])
         tracks = REEL.index(made.TRACKS.to_bytes(4, "big"))
         self.assertEqual(self.flaws(made.damaged(REEL, (REEL.index(b"\xbf\x84", tracks), b"\xec"))), [(Flaw.BARE, tracks)])
+        self.assertIn((Flaw.BARE, tracks), self.flaws(made.damaged(REEL, (REEL.index(b"\xbf\x84", tracks) + 1, b"\x85"))))
 
+    def test_what_an_editor_added_without_a_checksum(self):
+        attachments = made.element(0x1941A469, made.element(0x61A7, made.element(0x466E, b"notes.txt"), made.element(0x465C, b"notes")))
+        clusters = [made.cluster(40 * at, made.block(1, 0, frame(at))) for at in range(3)]
+        added = made.ebml_header() + made.element(made.SEGMENT, made.information(120), made.tracks(), *clusters, attachments)
+        self.assertEqual(self.flaws(added), [])
 
     def test_where_tables_lead(self):
         """The table of contents leads to elements of its IDs, and the index to blocks of its tracks and times."""

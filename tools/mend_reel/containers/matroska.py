@@ -126,12 +126,13 @@ class MatroskaReader:
         return after is not None and (after.place < end or after.identity != EBML)
 
     def _bare(self) -> Iterator[tuple[int, int]]:
-        """Yields where elements lie that have no CRC-32, though others of the same ID have one, or most others."""
+        """Yields where elements lie that have no CRC-32, though others of the same ID have one, or most others and it may have lost its own."""
         kinds = [(child, self._has_crc(child)) for child in self.top
                  if child.identity in STRONG - {EBML, SEGMENT} and child.content < child.end and not child.is_cut]
         mostly, checked = 2 * sum(has_crc for _, has_crc in kinds) > len(kinds), {child.identity for child, has_crc in kinds if has_crc}
         for child, has_crc in kinds:
-            if not has_crc and (child.identity in checked or mostly) and child.end - child.content <= MOST_STRETCH:
+            is_odd = child.identity in checked or mostly and self._may_lack_crc(child)
+            if not has_crc and is_odd and child.end - child.content <= MOST_STRETCH:
                 yield child.place, child.end
 
     def _read_end(self, segment: elements.Child) -> tuple[int | None, Numbers]:
@@ -223,6 +224,12 @@ class MatroskaReader:
         """Reports whether an element's content begins with a CRC-32 in some copy."""
         return not child.is_cut and ebml.CRC_SIZE < child.end - child.content <= MOST_STRETCH and any(
             self.aligned.peek(number, child.content, 2) == ebml.CRC_HEAD for number in self.aligned.numbers)
+
+    def _may_lack_crc(self, child: elements.Child) -> bool:
+        """Whether an element begins with what may be left of a CRC-32 in some copy: its ID, or four bytes by another ID of one byte. One that an
+        editor added without a CRC-32 begins with a part of its own."""
+        heads = [self.aligned.peek(number, child.content, 2) for number in self.aligned.numbers]
+        return any(head[:1] == ebml.CRC_HEAD[:1] or head[:1] >= b"\x80" and head[1:] == ebml.CRC_HEAD[1:] for head in heads)
 
     def _sound_headers(self, child: elements.Child) -> Numbers:
         """Returns the copies whose EBML header has known children alone, and a document type that is known."""
