@@ -16,7 +16,7 @@ from small_recordings import SECTOR, Recording
 
 # How the packets of a NUT file begin that have a checksum of their own, by what they are.
 NUT_PACKETS = {"main header": "4e4d7a561f5f04ad", "stream header": "4e5311405bf2f9db", "syncpoint": "4e4be4adeeca4569", "index": "4e58dd672f23e64e"}
-SEEK_HEAD, CUES = 0x114D9B74, 0x1C53BB6B
+SEEK_HEAD, CUES, CLUSTER, TIMESTAMP, SIMPLE_BLOCK = 0x114D9B74, 0x1C53BB6B, 0x1F43B675, 0xE7, 0xA3
 TITLES = ("the first", "the other", "a title that is longer than the others")
 
 
@@ -62,6 +62,8 @@ def of_matroska(recording: Recording) -> typing.Iterator[tuple[str, int]]:
     _, begin, end = small.top(content, CUES)[0]
     yield "the time of an entry of the index", list(within(content, begin, end, (0xBB, 0xB3)))[1][2] - 1
     yield "the place of an entry of the index", list(within(content, begin, end, (0xBB, 0xB7, 0xF1)))[2][2] - 1
+    _, begin, end = small.top(content, CLUSTER)[-2]
+    yield "the time of a cluster", list(within(content, begin, end, (TIMESTAMP,)))[0][2] - 1
 
 
 def within(content: bytes, begin: int, end: int, path: typing.Sequence[int]) -> typing.Iterator[tuple[int, int, int]]:
@@ -87,6 +89,27 @@ def is_found(desk: Desk, recording: Recording, content: bytes) -> Problems:
     if found.status == 0:
         yield f"the status is {found.status}: {found.text.splitlines()[:1]} {found.fault.strip()[-200:]}"
     yield from said_of_check(found)
+
+
+def of_no_track(recording: Recording) -> typing.Iterator[tuple[str, bytes]]:
+    """A Matroska file in which a block says that it is of a track that is not there."""
+    for _, begin, end in small.top(recording.content, CLUSTER)[-2:-1] if recording.ending == "mkv" else ():
+        _, place, _ = next(within(recording.content, begin, end, (SIMPLE_BLOCK,)))
+        yield "the track of a block", small.inverted(recording.content, place)
+
+
+@of_rule(5)
+def copies_that_are_alike_vouch_for_no_claim(kit: Kit) -> Checks:
+    for recording in kit.some(*WITHOUT_CHECKSUMS):
+        for what, content in (*wrong_claims(recording), *of_no_track(recording)):
+            yield Check(recording.name, f"two copies with {what} wrong alike", partial(is_no_better, recording=recording, content=content))
+
+
+def is_no_better(desk: Desk, recording: Recording, content: bytes) -> Problems:
+    """That OUT of copies that are alike has no better status than a check of it."""
+    found = desk.mend([content, content], recording.ending)
+    if found.status == 0 and found.out is not None and desk.check(found.out, recording.ending).status != 0:
+        yield f"status 0, and a check of OUT has another: {found.text.splitlines()[:3]}"
 
 
 # ---- 6: each change of shift is in doubt, unless a checksum covers it

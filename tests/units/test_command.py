@@ -89,10 +89,10 @@ class OutTest(InFolder):
         return {name: names.count(name) for name in ("check", "scan") if name in names}
 
     def test_what_is_out_byte_for_byte_is_judged_once(self) -> None:
-        """Frames that all copies have in elements that pass are judged in OUT; a copy that is OUT is judged, and OUT is not."""
+        """OUT is checked whole, also where its copies are alike; a copy that is OUT is judged, and OUT is not."""
         self.write("c.mkv", damaged(9000))
         self.write("d.mkv", REEL)
-        self.assertEqual(self.calls("a.mkv", "c.mkv"), {"scan": 1})
+        self.assertEqual(self.calls("a.mkv", "c.mkv"), {"check": 1})
         self.assertEqual((self.calls("b.mkv"), self.calls("b.mkv", "d.mkv"), self.calls("a.mkv", "b.mkv")), ({"check": 1},) * 3)
         self.assertEqual(self.calls("a.mkv"), {"check": 1, "scan": 1})
 

@@ -18,7 +18,7 @@ from ..judging.reasons import UNTOLD, Note, Reason, Why, join, lines
 from ..judging.results import GUESSED, VERIFIED, Counts, FrameResult, FrameState, NearEnd, Results, Sums, is_guessed
 from ..model import BESIDE_TRACKS, Claims, Content, Kind, Layout, Outcome, State, Stretch
 
-# What copies agree on may be so.
+# What copies agree on may be so, and that a part has no size.
 MAY_BE_AGREED = (Flaw.BARE, Flaw.AFTER_END, Flaw.ZEROS)
 PLAYED = (Content.SOUND, Content.VIDEO, Content.SUBTITLES)
 
@@ -141,7 +141,7 @@ def judge(evidence: Evidence) -> Verdict:
               *(unchecked(results) if evidence.is_alone or evidence.is_good else of_one_copy(results))]
     flaws = evidence.flaws if evidence.is_alone else [flaw for flaw in evidence.flaws if flaw.flaw not in MAY_BE_AGREED]
     found = [*found, *of_flaws(flaws, found)]
-    found += [reason for reason in of_lines(evidence.checked, found) if evidence.is_alone or not are_alike(results, reason)]
+    found += [reason for reason in of_lines(evidence.checked, found) if evidence.is_alone or reason.why is not Why.ENDLESS]
     found = sorted(found, key=lambda reason: reason.bytes or (0, 0))
     # What other files have, and OUT lacks or has less of. Whoever writes a file writes tags.
     lacking = [(copy, content) for copy, other in evidence.others.items() for content in in_order(other.contents() - evidence.layout.contents())]
@@ -160,13 +160,6 @@ def judge(evidence: Evidence) -> Verdict:
               *(f"copy {copy + 1} has tags, and OUT has none" for copy, what in lacking if what is Content.TAGS)]
     has_damage = bool(counts.damaged or results.outcomes or evidence.has_damaged_heads or is_cut(evidence, copy_of_mark))
     return Verdict([] if is_original and is_of_all else join(found), notes, results.sums(), counts, results, has_damage, compared)
-
-
-def are_alike(results: Results, reason: Reason) -> bool:
-    """Whether several copies have what lies where a reason is, so that it was recorded so."""
-    place, _ = reason.bytes or (0, 0)
-    at = bisect.bisect_right([stretch.start for stretch in results.stretches], place) - 1
-    return len(results.stretches[at].having()) > 1
 
 
 def in_order(contents: Iterable[Content]) -> list[Content]:

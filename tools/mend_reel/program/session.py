@@ -444,15 +444,14 @@ class Session:
             return Made(stretches, outcomes, read, flaws_of(out, out.form, read), part, decoded)
 
     def judged_again(self, attempt: Attempt) -> tuple[frozenset[int], FileCheck | None]:
-        """The numbers of the frames of OUT that fail their parities in elements that pass, and what a check of all of it says, if that can count:
-        what several copies have was recorded so. Of a judged copy that is OUT byte for byte both are known."""
+        """The numbers of the frames of OUT that fail their parities in elements that pass, and what a check of all of it says, if it is Matroska. Of a
+        judged copy that is OUT byte for byte both are known."""
         made = attempt.made
         same = next((number for number in attempt.arrangement.basis if number in self.judgments and attempt.is_copy(number)), None)
         with opened(made.part if same is None else self.copies[same].path) as out:
             self.progress.watch([out])
             out.form = form_of(out)
-            can_count = same is not None or any(len(stretch.having()) < 2 for stretch in made.stretches)
-            checked = self.scan.check(out) if can_count and out.form == MATROSKA else None
+            checked = self.scan.check(out) if out.form == MATROSKA else None
             return frozenset() if all_passes(checked, made.out) else self.failing(out, attempt.layout, made), checked
 
     def failing(self, out: Copy, layout: Layout, made: Made) -> frozenset[int]:
