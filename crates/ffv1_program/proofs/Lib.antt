@@ -6,4 +6,5 @@ pub mod Lists
 pub mod Runs
 pub mod Makes
 pub mod Unread
+pub mod Reported
 mod Outputs

@@ -9,3 +9,11 @@ pub record FilesAt (Device Buffered : Type 0) : Type 1 where
   pub is_buffered_at : List ℕ → Buffered → Type 0
   pub is_opened_at : List ℕ → Device → Type 0
   pub cannot_open_at : List ℕ → Type 0
+
+-- What is known of files that are made: the bytes of one, if they are known; that it is the file of a path, not made yet; that it is made; and
+-- that making it failed.
+pub record FilesMade (Made : Type 0) : Type 1 where
+  pub contents : Made → Option (List ℕ)
+  pub is_unmade_at : Made → List ℕ → Type 0
+  pub is_made : Made → Type 0
+  pub cannot_make : Made → Type 0

@@ -4,6 +4,7 @@ pub mod Merging
 pub mod Splicing
 pub mod Running
 pub mod Reporting
+pub mod Program
 pub mod Unread
 pub mod Inner
 -- those by which the commands and their faults are described

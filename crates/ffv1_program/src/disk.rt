@@ -1,6 +1,6 @@
 //! The files of a runtime (own), of which no contract can say the bytes.
 
-use crate::files::{FileSystem, MakeFile};
+use crate::files::{FileSystem, MakeFile, NewFiles};
 use ffv1_commands::CliFault;
 use ffv1_devices::FromRead;
 use ffv1_files::{InputFile, Opener, OutputFile, PathToOpen};
@@ -61,6 +61,14 @@ impl<'a, R: Files> FileSystem<'a> for Disk<'a, R> {
             // It fails only if the buffer can't be allocated.
             Err(_) => Err(CliFault::Memory),
         }
+    }
+}
+
+impl<'a, R: Files> NewFiles<'a> for Disk<'a, R> {
+    type Made = OutputFile<'a, R>;
+
+    fn unmade(&self, path: &'a str) -> OutputFile<'a, R> {
+        OutputFile::new(self.rt, path)
     }
 }
 

@@ -1,4 +1,4 @@
-//! The files of a program by their paths (own): those that it reads, and the one that it makes.
+//! The files of a program by their paths (own): those that it reads, and those that it may make.
 ghost use Rattle.std.specs.Prelude.{◌≡◌, ◌⊎◌, ℕ, List, Ok, Err, IfOk, IfErr};
 ghost use Rattle.ffv1_program.specs.FilesAt.{FilesAt};
 ghost use Rattle.ffv1_program.specs.Splicing.{IsUnmade};
@@ -54,6 +54,16 @@ pub trait MakeFile: Write {
         ensures bytes { Self.contents self.new ≡ Self.contents self.old }
         ensures made { IfOk result (λ _. is_made self.new) }
         ensures failed { IfErr result (λ _. cannot_make self.new) };
+}
+
+/// The files that may be made, by their paths.
+pub trait NewFiles<'a> {
+    /// A file that is made.
+    type Made: MakeFile + Drop;
+
+    /// The file of this path, not made yet.
+    fn unmade(&self, path: &'a str) -> Self::Made
+        ensures { Self.Made.is_unmade_at result path.now };
 }
 
 /// What a command returns that makes its file even of no bytes: where all was done, the file is made, if it is not made yet. Where that

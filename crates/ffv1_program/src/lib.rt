@@ -10,10 +10,12 @@ mod frames;
 mod holdings;
 mod inputs;
 mod pictures;
+mod program;
 mod reporting;
 mod stretches;
 
 pub use command::{out_word, run};
 pub use disk::Disk;
-pub use files::{FileSystem, MakeFile};
+pub use files::{FileSystem, MakeFile, NewFiles};
+pub use program::{report_early, run_program};
 pub use reporting::{OUT_OF_MEMORY, command_line, early_line, end_status};

@@ -4,7 +4,7 @@ ghost use Rattle.std.specs.Str.{bytes_eq};
 
 use ffv1_commands::CliFault;
 use ffv1_devices::FromRead;
-use ffv1_program::{FileSystem, MakeFile};
+use ffv1_program::{FileSystem, MakeFile, NewFiles};
 use std::alloc::Global;
 use std::cell::Cell;
 use std::io;
@@ -142,6 +142,14 @@ impl<'a> FileSystem<'a> for Fakes<'a> {
             Ok(reader) => Ok(FromRead::new(reader)),
             Err(_) => Err(CliFault::Memory),
         }
+    }
+}
+
+impl<'a> NewFiles<'a> for Fakes<'a> {
+    type Made = FakeOutput<'a>;
+
+    fn unmade(&self, path: &'a str) -> FakeOutput<'a> {
+        FakeOutput::new(self.order, path)
     }
 }
 

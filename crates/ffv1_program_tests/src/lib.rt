@@ -7,4 +7,6 @@ mod fakes;
 #[cfg(test)]
 mod opened;
 #[cfg(test)]
+mod program;
+#[cfg(test)]
 mod reported;

@@ -174,7 +174,7 @@ fn reported<'a>(
 }
 
 /// The program's name, and these words after it.
-fn given_of(alloc: Global, words: &[&str]) -> Result<Vec<String>, Fail> {
+pub(crate) fn given_of(alloc: Global, words: &[&str]) -> Result<Vec<String>, Fail> {
     let mut given = Vec::new(alloc);
     given.push(String::from_str(alloc, "ffv1restore")?)?;
     for word in words {
