@@ -3,7 +3,6 @@
 
 mod asked;
 mod coded;
-mod encoder;
 mod maker;
 mod range;
 mod record;
@@ -11,7 +10,6 @@ mod sets;
 mod slice;
 mod spec;
 mod states;
-mod successors;
 mod transitions;
 
 pub use maker::Maker;

@@ -8,10 +8,9 @@ use crate::record::spell_recording;
 use crate::slice::{Making, spell_slice};
 use crate::spec::{PictureSpec, RecordingSpec, SliceSpec};
 use crate::states::{GroupStates, copy_of, fresh_states};
-use crate::successors::Successors;
 use ffv1_player::{Player, Samples, SamplesFault, SliceEnd};
 use ffv1_range::{Recording, SetupFault, recording_is_one};
-use ffv1_vectors::MakeFault;
+use ffv1_vectors::{MakeFault, Successors};
 use std::alloc::Global;
 use std::marker::Model;
 use std::mem;
@@ -111,12 +110,12 @@ impl Maker {
     }
 }
 
-/// How states change in the slices of a recording.
-fn successors_of(spec: &RecordingSpec) -> Successors {
+/// How states change in the slices of a recording, where not by the default table.
+fn successors_of(spec: &RecordingSpec) -> Option<Successors> {
     if spec.coder == 2 {
-        Successors::with_deltas(&spec.deltas)
+        Some(Successors::with_deltas(&spec.deltas))
     } else {
-        Successors::with_deltas(&[])
+        None
     }
 }
 

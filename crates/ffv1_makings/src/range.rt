@@ -1,12 +1,11 @@
 //! Rows of samples written by the range coder (RFC 9043, section 3.8.1).
 
-use crate::encoder::Encoder;
-use ffv1_vectors::{CodedPlane, MakeFault, RowWriter};
+use ffv1_vectors::{CodedPlane, MakeFault, RowWriter, SymbolEncoder};
 
 /// Writes samples as signed symbols, each at the 32 states of its context in its group.
 #[derive(Drop)]
 pub(crate) struct RangeWriter<'a> {
-    pub(crate) encoder: Encoder<'a>,
+    pub(crate) encoder: SymbolEncoder<'a>,
     /// The states of each group.
     pub(crate) states: Vec<Vec<[u8; 32]>>,
 }

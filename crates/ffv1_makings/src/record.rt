@@ -5,12 +5,10 @@ ghost use Rattle.ffv1_range.specs.Setup.{RecordingValue, IsRecordingOf};
 ghost use Rattle.ffv1_makings.specs.Asked.{IsAskedRecording};
 
 use crate::asked::is_asked;
-use crate::encoder::Encoder;
 use crate::spec::{RecordingSpec, SetSpec};
-use crate::successors::Successors;
 use ffv1_bits::GREATEST_SIDE;
 use ffv1_range::{Recording, SetupFault};
-use ffv1_vectors::{MakeFault, with_parity};
+use ffv1_vectors::{MakeFault, SymbolEncoder, with_parity};
 use std::alloc::Global;
 
 /// The record with its parity, returned only if it reads back as what was asked: `Recording::read` for frames whose sides have
@@ -31,8 +29,7 @@ pub fn make_recording_record(alloc: Global, spec: &RecordingSpec) -> Result<Vec<
 
 /// The record with its parity.
 pub(crate) fn spell_recording(alloc: Global, spec: &RecordingSpec) -> Result<Vec<u8>, MakeFault> {
-    let successors = Successors::with_deltas(&[]);
-    let mut encoder = Encoder::new(alloc, &successors);
+    let mut encoder = SymbolEncoder::new(alloc, None);
     let mut states = [128; 32];
     encoder.all_unsigned(&mut states, &[3, spec.micro, spec.coder])?;
     spell_transitions(&mut encoder, &mut states, spec)?;
@@ -40,12 +37,12 @@ pub(crate) fn spell_recording(alloc: Global, spec: &RecordingSpec) -> Result<Vec
     spell_sets(&mut encoder, &spec.sets)?;
     spell_initial_states(&mut encoder, &mut states, &spec.sets)?;
     encoder.all_unsigned(&mut states, &[spec.ec, spec.intra])?;
-    with_parity(encoder.finish()?)
+    with_parity(encoder.finish_closed()?)
 }
 
 /// Writes the deltas of the transitions, with coder_type 2.
 fn spell_transitions(
-    encoder: &mut Encoder<'_>,
+    encoder: &mut SymbolEncoder<'_>,
     states: &mut [u8; 32],
     spec: &RecordingSpec,
 ) -> Result<(), MakeFault> {
@@ -61,7 +58,7 @@ fn spell_transitions(
 
 /// Writes the planes, the grid and the number of table sets.
 fn spell_format(
-    encoder: &mut Encoder<'_>,
+    encoder: &mut SymbolEncoder<'_>,
     states: &mut [u8; 32],
     spec: &RecordingSpec,
 ) -> Result<(), MakeFault> {
@@ -75,7 +72,7 @@ fn spell_format(
 }
 
 /// Writes the tables of all sets.
-fn spell_sets(encoder: &mut Encoder<'_>, sets: &[SetSpec]) -> Result<(), MakeFault> {
+fn spell_sets(encoder: &mut SymbolEncoder<'_>, sets: &[SetSpec]) -> Result<(), MakeFault> {
     for set in sets {
         spell_tables(encoder, &set.tables)?;
     }
@@ -83,7 +80,7 @@ fn spell_sets(encoder: &mut Encoder<'_>, sets: &[SetSpec]) -> Result<(), MakeFau
 }
 
 /// Writes the tables of a set.
-fn spell_tables(encoder: &mut Encoder<'_>, tables: &[Vec<u32>]) -> Result<(), MakeFault> {
+fn spell_tables(encoder: &mut SymbolEncoder<'_>, tables: &[Vec<u32>]) -> Result<(), MakeFault> {
     for runs in tables {
         spell_runs(encoder, runs)?;
     }
@@ -91,7 +88,7 @@ fn spell_tables(encoder: &mut Encoder<'_>, tables: &[Vec<u32>]) -> Result<(), Ma
 }
 
 /// Writes the lengths of a table's runs, each less 1, at a row of states of its own.
-fn spell_runs(encoder: &mut Encoder<'_>, runs: &[u32]) -> Result<(), MakeFault> {
+fn spell_runs(encoder: &mut SymbolEncoder<'_>, runs: &[u32]) -> Result<(), MakeFault> {
     let mut states = [128; 32];
     for length in runs {
         encoder.unsigned(&mut states, length.saturating_sub(1))?;
@@ -101,7 +98,7 @@ fn spell_runs(encoder: &mut Encoder<'_>, runs: &[u32]) -> Result<(), MakeFault> 
 
 /// Writes for each set whether its initial states are coded, and these.
 fn spell_initial_states(
-    encoder: &mut Encoder<'_>,
+    encoder: &mut SymbolEncoder<'_>,
     states: &mut [u8; 32],
     sets: &[SetSpec],
 ) -> Result<(), MakeFault> {
@@ -115,7 +112,7 @@ fn spell_initial_states(
 
 /// Writes the initial states of each context, by their deltas from those of the context before.
 fn spell_contexts(
-    encoder: &mut Encoder<'_>,
+    encoder: &mut SymbolEncoder<'_>,
     rows: &mut [[u8; 32]; 32],
     contexts: &[[u8; 32]],
 ) -> Result<(), MakeFault> {
@@ -129,7 +126,7 @@ fn spell_contexts(
 
 /// Writes the deltas of the 32 states of a context, number k at row k.
 fn spell_context(
-    encoder: &mut Encoder<'_>,
+    encoder: &mut SymbolEncoder<'_>,
     rows: &mut [[u8; 32]; 32],
     before: &[u8; 32],
     context: &[u8; 32],

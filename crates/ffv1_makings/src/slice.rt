@@ -1,14 +1,14 @@
 //! Slices of any recording, spelled from what they are to be (RFC 9043, sections 4.5 to 4.9).
 
 use crate::coded::coded_planes;
-use crate::encoder::Encoder;
 use crate::range::RangeWriter;
 use crate::spec::{RecordingSpec, SliceSpec};
 use crate::states::GroupStates;
-use crate::successors::Successors;
 use ffv1_range::Recording;
 use ffv1_rice::VlcState;
-use ffv1_vectors::{CodedPlane, MakeFault, RiceWriter, with_parity, write_planes};
+use ffv1_vectors::{
+    CodedPlane, MakeFault, RiceWriter, Successors, SymbolEncoder, with_parity, write_planes,
+};
 use std::alloc::Global;
 
 /// The most bytes that a slice can have before its footer.
@@ -19,7 +19,8 @@ const MOST_CONTENT: usize = 0xFF_FFFF;
 pub(crate) struct Making {
     pub(crate) spec: RecordingSpec,
     pub(crate) recording: Recording,
-    pub(crate) successors: Successors,
+    /// By the default table where there are none.
+    pub(crate) successors: Option<Successors>,
 }
 
 /// The slice, and the states that it leaves.
@@ -47,8 +48,8 @@ fn spell_header<'a>(
     making: &'a Making,
     key: Option<bool>,
     slice: &SliceSpec,
-) -> Result<Encoder<'a>, MakeFault> {
-    let mut encoder = Encoder::new(alloc, &making.successors);
+) -> Result<SymbolEncoder<'a>, MakeFault> {
+    let mut encoder = SymbolEncoder::new(alloc, making.successors.as_ref());
     if let Some(key) = key {
         encoder.bit(&mut 128, key)?;
     }
@@ -66,7 +67,7 @@ fn spell_header<'a>(
 
 /// The content of a range-coded slice, and the states that it leaves.
 fn spell_range(
-    encoder: Encoder<'_>,
+    encoder: SymbolEncoder<'_>,
     states: Vec<Vec<[u8; 32]>>,
     planes: &[CodedPlane<'_>],
     is_rgb: bool,
@@ -80,7 +81,7 @@ fn spell_range(
 /// The content of a slice of Golomb-Rice codes, and the states that it leaves.
 fn spell_rice(
     alloc: Global,
-    encoder: Encoder<'_>,
+    encoder: SymbolEncoder<'_>,
     states: Vec<Vec<VlcState>>,
     planes: &[CodedPlane<'_>],
     is_rgb: bool,

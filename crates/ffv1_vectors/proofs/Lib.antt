@@ -4,5 +4,4 @@ pub mod FrameSteps
 pub mod Bursts
 pub mod OneBit
 pub mod Lent
-pub mod Grown
 pub mod AskedSetup

@@ -4,6 +4,7 @@ pub mod Spelled
 pub mod Frames
 pub mod Suite
 pub mod Encoder
+pub mod SymbolEncoders
 pub mod Inner
 -- what the clauses cite of the crates below
 pub use Rattle.ffv1_bits.specs.Bits

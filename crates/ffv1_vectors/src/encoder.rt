@@ -3,7 +3,7 @@
 //! Nothing is promised of its bytes but what reading them back shows. Its range is in 256..=65280 between two bits, and
 //! its low end, the carry included, never passes 17 bits. Each bit adds one byte at most, so memory for all bits of a
 //! symbol is asked for before the first is written.
-ghost use Rattle.std.specs.Prelude.{◌≡◌, ◌+◌, ◌*◌, ◌≤◌, ◌<◌, OnOk, OnErr, IfErr, vec_len, vec_capacity};
+ghost use Rattle.std.specs.Prelude.{◌≡◌, ◌+◌, ◌*◌, ◌≤◌, ◌<◌, OnOk, OnErr, IfErr, [], None, vec_len, vec_capacity};
 ghost use Rattle.ffv1_range.specs.Transitions.{IsBitState, bit_state_after};
 ghost use Rattle.ffv1_range.specs.Decoder.{AreStates};
 ghost use Rattle.ffv1_vectors.specs.Inner.Encoder.{IsEncoder};
@@ -11,20 +11,25 @@ ghost use Rattle.ffv1_vectors.specs.Encoder.{encoder_start};
 ghost use Rattle.ffv1_vectors.specs.declared.fault.MakeFault.TheVariants.{Memory};
 
 use crate::fault::MakeFault;
+use crate::successors::Successors;
+use crate::symbol::Symbol;
 use ffv1_range::next_state;
 use std::alloc::Global;
 use std::marker::Model;
 
-/// The most bits of an unsigned symbol: whether it is 0, the 32 of an exponent of 31, and the 31 under the highest one.
-const UNSIGNED_BITS: usize = 64;
-
-/// The same of a signed symbol, with its sign.
-const SIGNED_BITS: usize = 65;
-
-/// Writes range-coded values. Contracts see it as its low end, its range and the bytes that it has written.
+/// Writes range-coded values at states of the default table. Contracts see it as its low end, its range and the bytes that it has written.
 #[derive(Drop)]
 pub struct RangeEncoder {
-    writing: Writing,
+    encoder: SymbolEncoder<'static>,
+}
+
+/// Writes range-coded values at any states. No bytes say a bit 1 at state 0: where one is written, what is read back is another value.
+#[derive(Drop)]
+pub struct SymbolEncoder<'a> {
+    interval: Interval,
+    bytes: Vec<u8>,
+    /// How states change; by the default table where there are none.
+    successors: Option<&'a Successors>,
 }
 
 /// The low end and the range between two bits.
@@ -35,19 +40,15 @@ struct Interval {
     ghost bounds: { IsEncoder low range },
 }
 
-/// An encoder whose bytes have room for the bits that are written: nothing is refused.
-#[derive(Drop)]
-struct Writing {
-    interval: Interval,
-    bytes: Vec<u8>,
-}
-
 impl Model for RangeEncoder {
+    ghost use Rattle.std.specs.Prelude.{◌≡◌, None};
     ghost use Rattle.ffv1_vectors.specs.Encoder.{EncoderValue};
 
     ghost Value = { EncoderValue };
 
-    ghost view = { λ e. record { low = e.writing.interval.low; range = e.writing.interval.range; bytes = e.writing.bytes.items } };
+    ghost view = { λ e. record { low = e.encoder.interval.low; range = e.encoder.interval.range; bytes = e.encoder.bytes.items } };
+
+    ghost invariant = { λ e. e.encoder.successors ≡ None };
 }
 
 impl RangeEncoder {
@@ -56,13 +57,7 @@ impl RangeEncoder {
         ensures { result ≡ encoder_start }
     {
         RangeEncoder {
-            writing: Writing {
-                interval: Interval {
-                    low: 0,
-                    range: 65280,
-                },
-                bytes: Vec::new(alloc),
-            },
+            encoder: SymbolEncoder::new(alloc, None),
         }
     }
 
@@ -75,9 +70,7 @@ impl RangeEncoder {
         ensures memory { IfErr result (λ fault. fault ≡ Memory) }
         ensures unchanged { OnErr result ((self.new ≡ self.old) × (state.new ≡ state.old)) }
     {
-        self.writing.bytes.reserve(1)?;
-        self.writing.bit(state, bit);
-        Ok(())
+        self.encoder.bit(state, bit)
     }
 
     /// Writes one bit at the first of a row of states in 8..=248, as `bit` does.
@@ -99,9 +92,7 @@ impl RangeEncoder {
         ensures memory { IfErr result (λ fault. fault ≡ Memory) }
         ensures unchanged { OnErr result ((self.new ≡ self.old) × (states.new ≡ states.old)) }
     {
-        self.writing.bytes.reserve(UNSIGNED_BITS)?;
-        self.writing.unsigned(states, value);
-        Ok(())
+        self.encoder.unsigned(states, value)
     }
 
     /// Writes these unsigned symbols one after another, at one row of states.
@@ -114,10 +105,7 @@ impl RangeEncoder {
         ensures in_range { AreStates states.new }
         ensures memory { IfErr result (λ fault. fault ≡ Memory) }
     {
-        for value in values {
-            self.unsigned(states, *value)?;
-        }
-        Ok(())
+        self.encoder.all_unsigned(states, values)
     }
 
     /// Writes a signed symbol, as `unsigned` does.
@@ -127,18 +115,14 @@ impl RangeEncoder {
         ensures memory { IfErr result (λ fault. fault ≡ Memory) }
         ensures unchanged { OnErr result ((self.new ≡ self.old) × (states.new ≡ states.old)) }
     {
-        self.writing.bytes.reserve(SIGNED_BITS)?;
-        self.writing.signed(states, value);
-        Ok(())
+        self.encoder.signed(states, value)
     }
 
     /// Ends values that zero bytes follow, and returns their bytes. `Memory`, the one fault, is returned if an allocation of memory failed.
     pub fn finish_closed(self) -> Result<Vec<u8>, MakeFault>
         ensures { IfErr result (λ fault. fault ≡ Memory) }
     {
-        let mut last = self.writing;
-        last.bytes.reserve(1)?;
-        Ok(last.into_bytes())
+        self.encoder.finish_closed()
     }
 
     /// Ends values that codes follow: writes a bit 0 at state 129, and returns the bytes up to the codes. `Memory`, the one
@@ -146,101 +130,135 @@ impl RangeEncoder {
     pub fn finish_sentinel(self) -> Result<Vec<u8>, MakeFault>
         ensures { IfErr result (λ fault. fault ≡ Memory) }
     {
-        let mut writing = self.writing;
-        writing.bytes.reserve(2)?;
-        writing.bit(&mut 129, false);
-        Ok(writing.into_bytes())
+        self.encoder.finish_sentinel()
     }
 }
 
-impl Writing {
-    /// Writes a signed symbol.
-    fn signed(&mut self, states: &mut [u8; 32], value: i32)
-        requires states { AreStates states.old }
-        requires room { vec_len self.old.bytes + 65 ≤ vec_capacity self.old.bytes }
-        ensures { AreStates states.new }
+impl<'a> SymbolEncoder<'a> {
+    ghost use Rattle.ffv1_vectors.specs.SymbolEncoders.{HasWrittenNothing, KeepsBitStates};
+
+    /// An encoder that has written nothing, whose states change so, or by the default table. It takes no memory.
+    pub fn new(alloc: Global, successors: Option<&'a Successors>) -> SymbolEncoder<'a>
+        ensures low { result.interval.low ≡ 0 }
+        ensures range { result.interval.range ≡ 65280 }
+        ensures bytes { result.bytes.items ≡ [] }
+        ensures successors { result.successors ≡ successors.entry }
     {
-        let magnitude = value.unsigned_abs();
-        self.unsigned(states, magnitude);
-        if magnitude != 0 {
-            let exponent = magnitude.ilog2();
-            self.slot(states, 11 + exponent.min(10) as usize, value < 0);
+        SymbolEncoder {
+            interval: Interval {
+                low: 0,
+                range: 65280,
+            },
+            bytes: Vec::new(alloc),
+            successors,
         }
     }
 
-    /// Writes an unsigned symbol: whether it is 0, else its exponent, and the bits under its highest.
-    fn unsigned(&mut self, states: &mut [u8; 32], value: u32)
-        requires states { AreStates states.old }
-        requires room { vec_len self.old.bytes + 64 ≤ vec_capacity self.old.bytes }
-        ensures in_range { AreStates states.new }
-        ensures len { vec_len self.new.bytes ≤ vec_len self.old.bytes + 64 }
-        ensures capacity { vec_capacity self.old.bytes ≤ vec_capacity self.new.bytes }
+    /// Writes one bit at a state, which becomes the one after that bit. `Memory`, the one fault, is returned if an allocation of memory
+    /// failed, and leaves the encoder and the state as they were.
+    pub fn bit(&mut self, state: &mut u8, bit: bool) -> Result<(), MakeFault>
+        ensures in_range { self.old.successors ≡ None → IsBitState state.old → IsBitState state.new }
+        ensures state { self.old.successors ≡ None → OnOk result (state.new ≡ bit_state_after state.old bit) }
+        ensures memory { IfErr result (λ fault. fault ≡ Memory) }
+        ensures unchanged { OnErr result (HasWrittenNothing self.old self.new × (state.new ≡ state.old)) }
+        ensures successors { self.new.successors ≡ self.old.successors }
     {
-        self.slot(states, 0, value == 0);
-        if value != 0 {
-            let exponent = value.ilog2();
-            self.exponent(states, exponent);
-            self.low_bits(states, value, exponent);
-        }
+        self.bytes.reserve(1)?;
+        self.put(state, bit);
+        Ok(())
     }
 
-    /// Writes an exponent: so many ones, and a zero.
-    fn exponent(&mut self, states: &mut [u8; 32], exponent: u32)
-        requires states { AreStates states.old }
-        requires small { exponent < 32 }
-        requires room { vec_len self.old.bytes + exponent < vec_capacity self.old.bytes }
-        ensures in_range { AreStates states.new }
-        ensures len { vec_len self.new.bytes ≤ vec_len self.old.bytes + exponent + 1 }
-        ensures capacity { vec_capacity self.old.bytes ≤ vec_capacity self.new.bytes }
+    /// Writes one bit at the first of a row of states, as `bit` does.
+    pub fn flag(&mut self, states: &mut [u8; 32], bit: bool) -> Result<(), MakeFault>
+        ensures kept { KeepsBitStates self.old states.old states.new }
+        ensures memory { IfErr result (λ fault. fault ≡ Memory) }
+        ensures unchanged { OnErr result (HasWrittenNothing self.old self.new × (states.new ≡ states.old)) }
+        ensures successors { self.new.successors ≡ self.old.successors }
     {
-        for place in 0..exponent {
-            self.slot(states, 1 + place.min(9) as usize, true);
-        }
-        self.slot(states, 1 + exponent.min(9) as usize, false);
+        self.bit(&mut states[0], bit)
     }
 
-    /// Writes the lowest `count` bits of a value, the highest of them first.
-    fn low_bits(&mut self, states: &mut [u8; 32], value: u32, count: u32)
-        requires states { AreStates states.old }
-        requires few { count < 32 }
-        requires room { vec_len self.old.bytes + count ≤ vec_capacity self.old.bytes }
-        ensures in_range { AreStates states.new }
-        ensures len { vec_len self.new.bytes ≤ vec_len self.old.bytes + count }
-        ensures capacity { vec_capacity self.old.bytes ≤ vec_capacity self.new.bytes }
+    /// Writes an unsigned symbol (section 3.8.1.2) at a row of states, which change. `Memory`, the one fault, is returned if an allocation of
+    /// memory failed, and leaves the encoder and the states as they were.
+    pub fn unsigned(&mut self, states: &mut [u8; 32], value: u32) -> Result<(), MakeFault>
+        ensures kept { KeepsBitStates self.old states.old states.new }
+        ensures memory { IfErr result (λ fault. fault ≡ Memory) }
+        ensures unchanged { OnErr result (HasWrittenNothing self.old self.new × (states.new ≡ states.old)) }
+        ensures successors { self.new.successors ≡ self.old.successors }
     {
-        for done in 0..count {
-            let place = count - 1 - done;
-            self.slot(
-                states,
-                22 + place.min(9) as usize,
-                (value >> place) & 1 == 1,
-            );
-        }
+        self.symbol(states, Symbol::unsigned(value))
     }
 
-    /// Writes one bit at a slot of the states.
-    fn slot(&mut self, states: &mut [u8; 32], slot: usize, bit: bool)
-        requires slot { slot < 32 }
-        requires states { AreStates states.old }
+    /// Writes these unsigned symbols one after another, at one row of states.
+    pub fn all_unsigned(&mut self, states: &mut [u8; 32], values: &[u32]) -> Result<(), MakeFault>
+        ensures kept { KeepsBitStates self.old states.old states.new }
+        ensures memory { IfErr result (λ fault. fault ≡ Memory) }
+        ensures successors { self.new.successors ≡ self.old.successors }
+    {
+        for value in values {
+            self.unsigned(states, *value)?;
+        }
+        Ok(())
+    }
+
+    /// Writes a signed symbol, as `unsigned` does.
+    pub fn signed(&mut self, states: &mut [u8; 32], value: i32) -> Result<(), MakeFault>
+        ensures kept { KeepsBitStates self.old states.old states.new }
+        ensures memory { IfErr result (λ fault. fault ≡ Memory) }
+        ensures unchanged { OnErr result (HasWrittenNothing self.old self.new × (states.new ≡ states.old)) }
+        ensures successors { self.new.successors ≡ self.old.successors }
+    {
+        self.symbol(states, Symbol::signed(value))
+    }
+
+    /// Ends values that zero bytes follow, and returns their bytes. `Memory`, the one fault, is returned if an allocation of memory failed.
+    pub fn finish_closed(self) -> Result<Vec<u8>, MakeFault>
+        ensures { IfErr result (λ fault. fault ≡ Memory) }
+    {
+        let mut encoder = self;
+        encoder.bytes.reserve(1)?;
+        let low = encoder.interval.low + 0xFF;
+        encoder.push_byte(low);
+        Ok(encoder.bytes)
+    }
+
+    /// Ends values that codes follow: writes a bit 0 at state 129, and returns the bytes up to the codes. `Memory`, the one
+    /// fault, is returned if an allocation of memory failed.
+    pub fn finish_sentinel(self) -> Result<Vec<u8>, MakeFault>
+        ensures { IfErr result (λ fault. fault ≡ Memory) }
+    {
+        let mut encoder = self;
+        encoder.bit(&mut 129, false)?;
+        encoder.finish_closed()
+    }
+
+    /// Writes the bits of a symbol, each at the state of its slot.
+    fn symbol(&mut self, states: &mut [u8; 32], symbol: Symbol) -> Result<(), MakeFault>
+        ensures kept { KeepsBitStates self.old states.old states.new }
+        ensures memory { IfErr result (λ fault. fault ≡ Memory) }
+        ensures unchanged { OnErr result (HasWrittenNothing self.old self.new × (states.new ≡ states.old)) }
+        ensures successors { self.new.successors ≡ self.old.successors }
+    {
+        let count = symbol.bits();
+        self.bytes.reserve(count as usize)?;
+        for place in 0..count {
+            let (slot, bit) = symbol.bit(place);
+            self.put(&mut states[slot], bit);
+        }
+        Ok(())
+    }
+
+    /// Writes one bit at a state, where the bytes have room for one more.
+    fn put(&mut self, state: &mut u8, bit: bool)
         requires room { vec_len self.old.bytes < vec_capacity self.old.bytes }
-        ensures in_range { AreStates states.new }
+        ensures in_range { self.old.successors ≡ None → IsBitState state.old → IsBitState state.new }
+        ensures state { self.old.successors ≡ None → state.new ≡ bit_state_after state.old bit }
         ensures len { vec_len self.new.bytes ≤ vec_len self.old.bytes + 1 }
         ensures capacity { vec_capacity self.old.bytes ≤ vec_capacity self.new.bytes }
-    {
-        self.bit(&mut states[slot], bit);
-    }
-
-    /// Writes one bit at a state.
-    fn bit(&mut self, state: &mut u8, bit: bool)
-        requires state { IsBitState state.old }
-        requires room { vec_len self.old.bytes < vec_capacity self.old.bytes }
-        ensures in_range { IsBitState state.new }
-        ensures state { state.new ≡ bit_state_after state.old bit }
-        ensures len { vec_len self.new.bytes ≤ vec_len self.old.bytes + 1 }
-        ensures capacity { vec_capacity self.old.bytes ≤ vec_capacity self.new.bytes }
+        ensures successors { self.new.successors ≡ self.old.successors }
     {
         let Interval { low, range } = self.interval;
-        let part = (range * u32::from(*state)) >> 8;
+        let part = ((range * u32::from(*state)) >> 8).max(u32::from(bit));
         let (low, range) = if bit {
             (low + (range - part), part)
         } else {
@@ -255,17 +273,18 @@ impl Writing {
         } else {
             self.interval = Interval { low, range };
         }
-        *state = next_state(*state, bit);
+        *state = self.state_after(*state, bit);
     }
 
-    /// Ends the values, and returns the bytes.
-    fn into_bytes(self) -> Vec<u8>
-        requires room { vec_len self.bytes < vec_capacity self.bytes }
+    /// What a state becomes after a bit.
+    fn state_after(&self, state: u8, bit: bool) -> u8
+        ensures value { self.now.successors ≡ None → result ≡ bit_state_after state bit }
+        ensures in_range { self.now.successors ≡ None → IsBitState state → IsBitState result }
     {
-        let mut writing = self;
-        let low = writing.interval.low + 0xFF;
-        writing.push_byte(low);
-        writing.bytes
+        match self.successors {
+            None => next_state(state, bit),
+            Some(successors) => successors.after(state, bit),
+        }
     }
 
     /// Writes the byte above the low one, and carries into those before it.
@@ -274,6 +293,8 @@ impl Writing {
         requires room { vec_len self.old.bytes < vec_capacity self.old.bytes }
         ensures len { vec_len self.new.bytes ≡ vec_len self.old.bytes + 1 }
         ensures capacity { vec_capacity self.old.bytes ≤ vec_capacity self.new.bytes }
+        ensures interval { self.new.interval ≡ self.old.interval }
+        ensures successors { self.new.successors ≡ self.old.successors }
     {
         if low >= 65536 {
             carry(self.bytes.as_mut_slice());

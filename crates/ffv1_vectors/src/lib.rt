@@ -13,11 +13,13 @@ mod planes;
 mod record;
 mod rice;
 mod slice;
+mod successors;
 mod suite;
+mod symbol;
 mod writer;
 
 pub use damage::{burst, cut, flip, put_front, zero};
-pub use encoder::RangeEncoder;
+pub use encoder::{RangeEncoder, SymbolEncoder};
 pub use fault::MakeFault;
 pub use frame::{FrameSpec, TileSpec, make_frame};
 pub use parity::with_parity;
@@ -26,6 +28,7 @@ pub use planes::write_planes;
 pub use record::{RecordSpec, make_record, spell_record};
 pub use rice::RiceWriter;
 pub use slice::spell_slice;
+pub use successors::Successors;
 pub use suite::{
     SUITE_NUMBERS, SuiteCase, SuiteContent, SuiteTables, suite_case, suite_frame, suite_record,
 };

@@ -4,14 +4,14 @@ use ffv1_range::next_state;
 
 /// The states after a bit, of all 256 states.
 #[derive(Clone, Copy)]
-pub(crate) struct Successors {
+pub struct Successors {
     zero: [u8; 256],
     one: [u8; 256],
 }
 
 impl Successors {
     /// The default table with these deltas of the states from 1 on, modulo 256. Those that are left out are 0.
-    pub(crate) fn with_deltas(deltas: &[i32]) -> Successors {
+    pub fn with_deltas(deltas: &[i32]) -> Successors {
         let one = one_states(deltas);
         Successors {
             zero: zero_states(&one),

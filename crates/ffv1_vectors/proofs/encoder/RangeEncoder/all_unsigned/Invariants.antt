@@ -1,5 +1,0 @@
-use Rattle.ffv1_range.specs.Decoder.{AreStates}
-use Rattle.ffv1_vectors.proofs.encoder.RangeEncoder.all_unsigned.Given as goal
-
-abbrev pub invariant-loop-value : goal.invariant-loop-value
-invariant-loop-value l = AreStates l.states
