@@ -1,15 +1,16 @@
 -- A maker of the frames of a recording, and what it makes.
-use Rattle.std.specs.Prelude.{◌≡◌, ◌<◌, ℕ, List, length, map, true, slice_index_or, Some}
+use Rattle.std.specs.Prelude.{◌≡◌, ◌<◌, ℕ, Bool, List, length, map, true, slice_index_or, Some}
 use Rattle.ffv1_player.specs.Frames.{LeftValue, IsPlayedFrame, planes_of_samples}
 use Rattle.ffv1_player.specs.Players.{PlayerValue}
 use Rattle.ffv1_player.specs.declared.samples.Samples.{Samples}
 use Rattle.ffv1_player.specs.declared.samples.SliceEnd.{SliceEnd}
 use Rattle.ffv1_makings.specs.declared.spec.PictureSpec.{PictureSpec}
 
--- a maker: its record, and a player of the frames that it has made
+-- a maker: its record, a player of the frames that it has made, and whether a frame can go on from the last
 pub record MakerValue : Type 0 where
   pub config : List ℕ
   pub player : PlayerValue
+  pub goes_on : Bool
 
 abbrev pub wanted_planes : PictureSpec → List (List ℕ)
 wanted_planes picture = map (λ plane. plane.items) picture.planes.items

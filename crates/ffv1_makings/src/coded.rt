@@ -1,6 +1,7 @@
 //! The coded planes of a slice, cut out of the planes of its frame (RFC 9043, sections 3.7 and 4.6).
 ghost use Rattle.std.specs.Prelude.{◌≤◌};
 
+use crate::fits::{frame_in, rect_in};
 use crate::spec::SliceSpec;
 use ffv1_plane::{Tables, group_of};
 use ffv1_range::{Recording, TileRect};
@@ -81,28 +82,13 @@ fn cuts_of(
     rect: TileRect,
     planes: &[Vec<u16>],
 ) -> Result<Vec<Cut>, MakeFault> {
-    let frame = TileRect {
-        x: 0,
-        y: 0,
-        w: recording.width(),
-        h: recording.height(),
-    };
     let mut cuts = Vec::with_capacity(alloc, planes.len())?;
     for (plane, samples) in planes.iter().enumerate() {
-        let width = rect_in(recording, plane, frame).w;
+        let width = frame_in(recording, plane).w;
         let place = rect_in(recording, plane, rect);
         cuts.push(cut_of(alloc, samples, width, place)?)?;
     }
     Ok(cuts)
-}
-
-/// Where a rectangle of luma lies in a plane.
-fn rect_in(recording: &Recording, plane: usize, rect: TileRect) -> TileRect {
-    if !recording.is_rgb() && group_of(recording.has_chroma(), plane) == 1 {
-        recording.grid().chroma_rect(rect)
-    } else {
-        rect
-    }
 }
 
 /// What a rectangle has of a plane of this width.

@@ -3,6 +3,8 @@
 
 mod asked;
 mod coded;
+mod fits;
+mod headers;
 mod maker;
 mod range;
 mod record;

@@ -1,9 +1,13 @@
 //! A maker of the frames of a recording (RFC 9043, sections 4.4 to 4.9).
-ghost use Rattle.std.specs.Prelude.{◌≡◌, IsTrue, IfOk, None, map};
+ghost use Rattle.std.specs.Prelude.{◌≡◌, true, false, IsTrue, IfOk, MatchResult, Err, None, map};
 ghost use Rattle.ffv1_range.specs.Setup.{IsRecordingOf};
+ghost use Rattle.ffv1_makings.specs.Fitting.{FitsPicture};
 ghost use Rattle.ffv1_makings.specs.Makers.{AreClean, IsAskedFrame};
+ghost use Rattle.ffv1_vectors.specs.declared.fault.MakeFault.TheVariants as MakeFault;
 
 use crate::asked::is_asked;
+use crate::fits::fits;
+use crate::headers::has_slices;
 use crate::record::spell_recording;
 use crate::slice::{Making, spell_slice};
 use crate::spec::{PictureSpec, RecordingSpec, SliceSpec};
@@ -22,16 +26,21 @@ pub struct Maker {
     config: Vec<u8>,
     making: Making,
     player: Player,
-    /// What the slices of the frame before have left; none where that was not made.
+    /// What the slices of the frame made last have left.
     left: Vec<GroupStates>,
+    /// Whether a frame can go on from that: no refusal came after it.
+    goes_on: bool,
 }
 
 impl Model for Maker {
+    ghost use Rattle.std.specs.Prelude.{◌≡◌};
     ghost use Rattle.ffv1_makings.specs.Makers.{MakerValue};
 
     ghost Value = { MakerValue };
 
-    ghost view = { λ maker. record { config = maker.config.items; player = maker.player } };
+    ghost view = { λ maker. record { config = maker.config.items; player = maker.player; goes_on = maker.goes_on } };
+
+    ghost invariant = { λ maker. maker.making.recording ≡ maker.player.recording };
 }
 
 /// A frame's bytes, and what its slices leave.
@@ -43,6 +52,7 @@ struct Spelled {
 
 impl Maker {
     ghost use Rattle.ffv1_makings.specs.Asked.{IsAskedRecording};
+    ghost use Rattle.ffv1_makings.specs.Fitting.{FitsMaker, HasAskedSlices};
     ghost use Rattle.ffv1_makings.specs.Makers.{MakesFrame};
 
     /// A maker of frames of a recording with this record and of this size in samples, of which none was made.
@@ -58,6 +68,7 @@ impl Maker {
         ensures recording { IfOk result (λ maker. IsRecordingOf maker.config width height maker.player.recording) }
         ensures asked { IfOk result (λ maker. IsAskedRecording maker.player.recording spec) }
         ensures none { IfOk result (λ maker. maker.player.last ≡ None) }
+        ensures goes_on { IfOk result (λ maker. maker.goes_on ≡ false) }
     {
         let config = spell_recording(alloc, &spec)?;
         let recording = read_recording(alloc, &config, width, height)?;
@@ -77,6 +88,7 @@ impl Maker {
             },
             player,
             left: Vec::new(alloc),
+            goes_on: false,
         })
     }
 
@@ -88,26 +100,54 @@ impl Maker {
     }
 
     /// The payload of the next frame. It is returned only if a player of the recording, which has decoded the frames made before, decodes it
-    /// to exactly the planes asked for, as a keyframe or none as asked for, of as many slices, of which each ends clean.
+    /// to exactly the planes asked for, as a keyframe or none as asked for, of the slices asked for in their order, each with the place, the
+    /// size and the table sets of its own, of which each ends clean.
     ///
-    /// Returns `NotSelf` if the payload does not read back so, as where the slices are not those of the frame before, or the picture can't be
-    /// coded by the recording's states; `Memory` if an allocation of memory failed. After a refusal only a keyframe can be made.
+    /// Returns `NotSelf`, before any allocation of memory, where the picture does not fit: it has no slice, or one that has no tile, or a tile
+    /// outside the grid, or names a table set that the record does not have; its planes are not as many or not of the sizes that the recording
+    /// has; or it is no keyframe and no frame was made before it, or none since the last refusal. It is returned too if the payload does not read
+    /// back so, as where the slices are not those of the frame before, or the picture can't be coded by the recording's states. Returns `Memory`
+    /// if an allocation of memory failed. After a refusal only a keyframe can be made.
     pub fn frame(&mut self, picture: &PictureSpec) -> Result<Vec<u8>, MakeFault>
         ensures made { IfOk result (λ payload. MakesFrame self.old.player self.new.player payload.items picture.now) }
+        ensures slices { IfOk result (λ payload. HasAskedSlices self.old.player.recording payload.items picture.now.slices.items) }
+        ensures fits { IfOk result (λ payload. FitsMaker self.old picture.now) }
+        ensures misfit { (FitsMaker self.old picture.now → ⊥) → result ≡ Err MakeFault.NotSelf }
+        ensures goes_on { MatchResult result (λ payload. self.new.goes_on ≡ true) (λ fault. self.new.goes_on ≡ false) }
         ensures config { self.new.config ≡ self.old.config }
         ensures recording { self.new.player.recording ≡ self.old.player.recording }
     {
-        let before = mem::replace(&mut self.left, Vec::new(self.alloc));
-        let Spelled { payload, left } = spell_frame(self.alloc, &self.making, picture, &before)?;
+        let goes_on = mem::replace(&mut self.goes_on, false);
+        if !fits_maker(&self.making.recording, goes_on, picture) {
+            return Err(MakeFault::NotSelf);
+        }
+        let Spelled { payload, left } = spell_frame(self.alloc, &self.making, picture, &self.left)?;
+        if !has_slices(
+            self.alloc,
+            &self.making.recording,
+            &payload,
+            &picture.slices,
+        )? {
+            return Err(MakeFault::NotSelf);
+        }
         match self.player.decode(&payload) {
             Ok(frame) if is_picture(&frame, picture) => {
                 self.left = left;
+                self.goes_on = true;
                 Ok(payload)
             }
             Err(SamplesFault::Memory) => Err(MakeFault::Memory),
             _ => Err(MakeFault::NotSelf),
         }
     }
+}
+
+/// Whether a picture fits the recording, and goes on only from a frame.
+fn fits_maker(recording: &Recording, goes_on: bool, picture: &PictureSpec) -> bool
+    ensures fits { IsTrue result → FitsPicture recording.now picture.now }
+    ensures goes_on { IsTrue result → picture.now.key ≡ false → goes_on ≡ true }
+{
+    (picture.key || goes_on) && fits(recording, picture)
 }
 
 /// How states change in the slices of a recording, where not by the default table.

@@ -8,7 +8,7 @@ returns-in-Ok-clause-made c =
     let frame = c.in-Ok.frame in
     let left = c.in-Ok.ensures.ok.0 in
     let player = c.self.inside.player in
-    let of_bytes = subst (λ bytes. IsPlayedFrame player.recording player.last bytes frame left) c.deref-2.ensures.value c.in-Ok.ensures.ok.1 in
+    let of_bytes = subst (λ bytes. IsPlayedFrame player.recording player.last bytes frame left) c.deref-4.ensures.value c.in-Ok.ensures.ok.1 in
     record {
       frame = frame;
       left = left;
