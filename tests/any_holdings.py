@@ -144,6 +144,8 @@ def shown(recording, held, is_any=True):
     stand = readings.standing(held, readings.tiles_of(recording))
     first = header_of(recording, stand[0][0], True) if len(stand[0]) == 1 else None
     has_states, slices, lines = not (first and first[0].key is False), [], ""
+    if is_any and first is None and recording.intra == 0:
+        lines = "keyframe unknown\n"
     for tile, pieces in enumerate(stand):
         if len(pieces) != 1:
             lines += f"tile {tile} " + (f"disputed {len(pieces)}\n" if pieces else "missing\n")

@@ -119,10 +119,10 @@ def profile_difference(held, recording, copies):
 
 
 def results(held, hold):
-    """What the commands make and print of a holding, but for the lines of `picture` that name ends, which stand with --any alone."""
+    """What the commands make and print of a holding, but for the lines of `picture` that stand with --any alone: of ends, and `keyframe unknown`."""
     yield from (held.report(hold), held.restore(hold), held.join(hold, hold), held.merge(hold, hold))
     samples, lines, _, fault = held.picture(hold)
-    yield samples, [line for line in lines.splitlines() if b"unclean" not in line], fault
+    yield samples, [line for line in lines.splitlines() if b"unclean" not in line and line != b"keyframe unknown"], fault
 
 
 def refusal_difference(held, frame):

@@ -137,6 +137,7 @@ class Lines(unittest.TestCase):
         self.assertEqual(found, Tiles(frozenset({1, 2}), frozenset({3, 5, 7}), frozenset({6}), True))
         self.assertEqual(found.hatched(), {1, 2, 3, 5, 7})
         self.assertEqual(pictures.tiles_of("tile 0 no keyframe\ntile 1 missing\n"), Tiles(frozenset({1}), is_key=False))
+        self.assertEqual(pictures.tiles_of("keyframe unknown\ntile 0 missing\n"), Tiles(frozenset({0})))
         self.assertEqual(pictures.tiles_of(""), Tiles())
 
 

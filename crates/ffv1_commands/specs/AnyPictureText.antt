@@ -1,5 +1,5 @@
--- What the command `picture --any` makes and prints: the samples of what can be shown of a holding of any recording, and a line for each tile
--- that has none, or whose slice does not end as an encoder ends it.
+-- What the command `picture --any` makes and prints: the samples of what can be shown of a holding of any recording, whether it is not known
+-- if the frame is a keyframe, and a line for each tile that has no samples, or whose slice does not end as an encoder ends it.
 use Rattle.std.specs.Prelude.{ℕ, ◌++◌, Bool, true, All, List, [], length, Option, Result, slice_index_or, codes, ◌≡◌, if◌then◌else◌}
 use Rattle.std.specs.List.{flat_map, range_with_len}
 use Rattle.std.specs.Fmt.{decimal}
@@ -15,6 +15,10 @@ use Rattle.ffv1_player.specs.declared.shown.ShownTile.TheVariants.{Decoded, Miss
 use Rattle.ffv1_commands.specs.Pictures.{ShowsPicture, ShowingStops, ReportsShowing}
 use Rattle.ffv1_commands.specs.PictureText.{missing_line, disputed_line, stuck_line, header_line}
 use Rattle.ffv1_commands.specs.declared.fault.CliFault.{CliFault}
+
+-- nothing says whether the frame is a keyframe
+abbrev pub key_line : (is_known : Bool) → List ℕ
+key_line is_known = if is_known then [] else codes "keyframe unknown\n"
 
 -- the frame is no keyframe
 abbrev pub no_keyframe_line : ℕ → List ℕ
@@ -56,7 +60,7 @@ abbrev pub shown_samples : Shown → List ℕ
 shown_samples shown = samples_bytes shown.samples
 
 abbrev pub shown_lines : Shown → List ℕ
-shown_lines shown = shown_text shown.tiles.items
+shown_lines shown = key_line shown.is_key_known ++ shown_text shown.tiles.items
 
 abbrev pub IsWholeShown : Shown → Type 0
 IsWholeShown shown = All IsShownWhole shown.tiles.items

@@ -7,7 +7,7 @@ ghost use Rattle.ffv1_commands.specs.Fault.{NamesPath};
 ghost use Rattle.ffv1_commands.specs.Paths.{IsHoldPath};
 ghost use Rattle.ffv1_commands.specs.Devices.{UnlessWriting};
 ghost use Rattle.ffv1_commands.specs.Inner.Devices.{WritesNamed};
-ghost use Rattle.ffv1_commands.specs.AnyPictureText.{slice_fault_line, unclean_tile_line, shown_line, shown_text, IsShownWhole, shown_samples, shown_lines, IsWholeShown, ShowsAnyFile, AnyPictureStops, ReportsAnyPicture};
+ghost use Rattle.ffv1_commands.specs.AnyPictureText.{slice_fault_line, unclean_tile_line, shown_line, shown_text, key_line, IsShownWhole, shown_samples, shown_lines, IsWholeShown, ShowsAnyFile, AnyPictureStops, ReportsAnyPicture};
 
 use crate::devices::buffered;
 use crate::fault::CliFault;
@@ -24,8 +24,9 @@ use std::io::{Read, Write};
 
 /// Reads a holding file of any recording to its end; writes what can be shown of it to `out`, planes Y, Cb, Cr and alpha, or G, B, R and
 /// alpha, row by row: a byte a sample at depth 8, else two, the less significant first, and 2^(depth - 1) where there is none; and then
-/// prints a line for each tile without samples, as `tile 0 missing`, and for each whose slice does not end as an encoder ends it, as
-/// `tile 0 unclean spare 8`. Returns whether there is no such tile.
+/// prints `keyframe unknown` in a line, if nothing says whether the frame is a keyframe; and a line for each tile without samples, as
+/// `tile 0 missing`, and for each whose slice does not end as an encoder ends it, as `tile 0 unclean spare 8`. Returns whether there is no
+/// such tile: where it is unknown, tile 0 is one.
 ///
 /// Returns `Read` if the file can't be read; `HoldFile` with its first fault in the order of its bytes; `Memory` if an
 /// allocation fails: then nothing was written, and `out` was not touched. Returns `Write` if `out` or the output fails: then
@@ -88,7 +89,10 @@ impl Pictured for Shown {
     }
 
     fn text(&self, alloc: Global) -> Result<String, AllocError> {
-        tiles_text(alloc, self.tiles.as_slice())
+        let mut text = String::new(alloc);
+        push_key(&mut text, self.is_key_known)?;
+        push_tiles(&mut text, self.tiles.as_slice())?;
+        Ok(text)
     }
 
     fn is_whole(&self) -> bool {
@@ -97,15 +101,24 @@ impl Pictured for Shown {
     }
 }
 
-/// The lines of the tiles.
-fn tiles_text(alloc: Global, tiles: &[ShownTile]) -> Result<String, AllocError>
-    ensures { IfOk result (λ text. string_bytes text ≡ shown_text tiles.now) }
+/// Adds the line of a frame of which it is not known if it is a keyframe.
+fn push_key(text: &mut String, is_known: bool) -> Result<(), AllocError>
+    ensures { OnOk result (string_bytes text.new ≡ string_bytes text.old ++ key_line is_known) }
 {
-    let mut text = String::new(alloc);
-    for tile in 0..tiles.len() {
-        push_tile(&mut text, tile, tiles[tile])?;
+    if is_known {
+        return Ok(());
     }
-    Ok(text)
+    text.push_str("keyframe unknown\n")
+}
+
+/// Adds the lines of the tiles.
+fn push_tiles(text: &mut String, tiles: &[ShownTile]) -> Result<(), AllocError>
+    ensures { OnOk result (string_bytes text.new ≡ string_bytes text.old ++ shown_text tiles.now) }
+{
+    for tile in 0..tiles.len() {
+        push_tile(text, tile, tiles[tile])?;
+    }
+    Ok(())
 }
 
 /// Adds the line of a tile, if it has one.

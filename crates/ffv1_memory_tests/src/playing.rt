@@ -154,9 +154,19 @@ pub struct ShowHolding<'a> {
 
 impl Attempt for ShowHolding<'_> {
     fn attempt(&mut self, alloc: Global) -> Tried {
-        let Ok(Shown { samples, tiles }) = show_holding(alloc, self.held) else {
+        let Ok(
+            Shown {
+                samples,
+                tiles,
+                is_key_known,
+            },
+        ) = show_holding(alloc, self.held)
+        else {
             return Tried::Memory;
         };
+        if !is_key_known {
+            return Tried::Wrong;
+        }
         match tiles.as_slice() {
             [
                 ShownTile::Missing,

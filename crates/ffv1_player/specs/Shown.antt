@@ -1,6 +1,6 @@
 -- What can be shown of a holding of any recording (own): the pictures of its settled tiles, each decoded as a slice of a keyframe
 -- (RFC 9043, sections 4.4 to 4.9).
-use Rattle.std.specs.Prelude.{◌≡◌, ◌==◌, ℕ, ◌<◌, Bool, true, false, List, length, Option, Some, None, MatchBool, slice_index_or}
+use Rattle.std.specs.Prelude.{◌≡◌, ◌==◌, ℕ, ◌<◌, Bool, true, false, List, length, Option, Some, None, MatchBool, not, slice_index_or}
 use Rattle.std.specs.List.{filter_map}
 use Rattle.ffv1_range.specs.Setup.{RecordingValue, IsScopedRecord}
 use Rattle.ffv1_range.specs.SliceHeader.{IsSliceHeaderOf}
@@ -37,6 +37,12 @@ MayBeByTile r (disputed n) key = key ≡ true
 
 abbrev pub MayBeKeyframe : RecordingValue → Contents → Bool → Type 0
 MayBeKeyframe r h key = MayBeByTile r (tile_state h 0) key
+
+-- whether it is known if the frame is a keyframe: by the bit in the settled slice of tile 0, or by intra, which is not 0 where each frame is one
+-- (section 4.2.17)
+abbrev pub is_key_known : RecordingValue → StateOfTile → Bool
+is_key_known r (settled slice) = true
+is_key_known r state = not (r.setup.intra == 0)
 
 -- ---- tiles
 
@@ -96,4 +102,5 @@ pub record ShowsHolding (h : Contents) (shown : Shown) : Type 0 where
   pub says : SaysRecording h.reel recording
   pub key : Bool
   pub may_be : MayBeKeyframe recording h key
+  pub known : shown.is_key_known ≡ is_key_known recording (tile_state h 0)
   pub shows : ShowsEachTile h recording key (reel_tiles h.reel) shown.tiles.items shown.samples

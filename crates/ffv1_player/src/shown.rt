@@ -3,9 +3,10 @@ ghost use Rattle.std.specs.Prelude.{◌≡◌, ◌<◌, ◌≤◌, [], true, Boo
 ghost use Rattle.ffv1_bits.specs.Limits.{slice_limit};
 ghost use Rattle.ffv1_range.specs.Setup.{RecordingValue};
 ghost use Rattle.ffv1_holding.specs.Reels.{reel_tiles};
+ghost use Rattle.ffv1_holding.specs.TileState.{tile_state};
 ghost use Rattle.ffv1_samples.specs.Slices.{SlicePictureValue, slice_picture_value};
 ghost use Rattle.ffv1_player.specs.Frames.{planes_of_samples, slice_end_of, IsFrameOfSlices};
-ghost use Rattle.ffv1_player.specs.Shown.{ShowsHolding, AreShownPictures, MayBeKeyframe, present};
+ghost use Rattle.ffv1_player.specs.Shown.{ShowsHolding, AreShownPictures, MayBeKeyframe, is_key_known, present};
 ghost use Rattle.ffv1_player.specs.Inner.Drawing.{AreFramePlanes, AreSlicePlanes, IsInGrid};
 ghost use Rattle.ffv1_player.specs.Inner.Showing.{HeadSaysNoKeyframe, IsRecordingOfReel, Adds, ShowsSlice, ShowsOneTile};
 
@@ -24,6 +25,8 @@ pub struct Shown {
     pub samples: Samples,
     /// How each tile came out, in tile order.
     pub tiles: Vec<ShownTile>,
+    /// Whether it is known if the frame is a keyframe: tile 0 is settled, or the record's intra is not 0 (RFC 9043, section 4.2.17).
+    pub is_key_known: bool,
 }
 
 /// How a tile of a shown holding came out.
@@ -43,7 +46,8 @@ pub enum ShownTile {
 
 /// What can be shown of a holding, whose record is read again: the pictures of its settled tiles, each decoded from initial states. In chroma a
 /// sample that two decoded tiles cover is the greater tile's, and one that none covers is 2^(depth - 1). Where the settled slice of tile 0
-/// says that the frame is no keyframe (RFC 9043, section 4.4), no tile is decoded.
+/// says that the frame is no keyframe (RFC 9043, section 4.4), no tile is decoded. While nothing says whether it is one, tiles are decoded as
+/// those of a keyframe, and `is_key_known` is false.
 ///
 /// It fails where memory is refused. A frame takes 2 bytes a sample, and besides what `decode_slice` takes for one slice at a time.
 pub fn show_holding<S: Recorded>(alloc: Global, holding: &Holding<S>) -> Result<Shown, AllocError>
@@ -67,13 +71,18 @@ fn show_tiles<S: Recorded>(
     ensures { IfOk result (ShowsHolding holding.now) }
 {
     let key = may_be_keyframe(recording, holding);
+    let is_key_known = is_key_known(recording, holding);
     let count = recording.grid().tiles();
     let mut samples = blank_samples(alloc, recording, key, count)?;
     let mut tiles = Vec::with_capacity(alloc, count)?;
     for tile in 0..count {
         tiles.push(show_tile(alloc, recording, holding, tile, &mut samples)?)?;
     }
-    Ok(Shown { samples, tiles })
+    Ok(Shown {
+        samples,
+        tiles,
+        is_key_known,
+    })
 }
 
 /// What the record of a holding says, which was read before: the only refusal is Memory.
@@ -99,6 +108,18 @@ fn may_be_keyframe<S: Recorded>(recording: &Recording, holding: &Holding<S>) -> 
     match holding.state(0) {
         TileState::Settled(slice) => !says_no_keyframe(recording, slice),
         _ => true,
+    }
+}
+
+/// Whether it is known if the frame is a keyframe: by the settled slice of tile 0, or as the record says that each frame is one.
+fn is_key_known<S: Recorded>(recording: &Recording, holding: &Holding<S>) -> bool
+    requires { IsRecordingOfReel holding.now.reel recording.now }
+    ensures { result ≡ is_key_known recording.now (tile_state holding.now 0) }
+{
+    recording.keeps_version_3();
+    match holding.state(0) {
+        TileState::Settled(_) => true,
+        _ => recording.intra() != 0,
     }
 }
 

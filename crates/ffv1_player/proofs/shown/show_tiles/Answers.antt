@@ -32,5 +32,6 @@ returns g c =
       says = c.requires.says;
       key = key;
       may_be = c.may_be_keyframe-key.ensures;
+      known = c.is_key_known-is_key_known.ensures;
       shows = subst (λ n. ShowsEachTile h r key n c.loop-tile.tiles.items c.loop-tile.samples) all c.loop-tile.invariant;
     }
