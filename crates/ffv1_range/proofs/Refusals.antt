@@ -15,6 +15,7 @@ use Rattle.ffv1_range.specs.Tables.{SetValue, scale_after, half_of}
 use Rattle.ffv1_range.specs.InitialStates.{StatesValue, uncoded_states, keeps_states}
 use Rattle.ffv1_range.specs.TableForms.{TwoRows, fresh_row, fresh_rows, runs_from, table_form, tables_from, sets_from, set_count, delta_form, context_deltas, contexts_deltas, kept_states, set_states, sets_states, states_form}
 use Rattle.ffv1_range.specs.SetupFaults.{OneSetupRefusal, OneRecordingRefusal}
+use Rattle.ffv1_range.specs.ScopeLaws.{OneScopedRefusal}
 use Rattle.ffv1_range.specs.SetupForms.{all_granted, record_read, record_form, front_form, is_size}
 use Rattle.ffv1_range.specs.declared.scope.Scope.{Scope}
 use Rattle.ffv1_range.specs.declared.scope.Scope.TheVariants.{Profile, Version3}
@@ -234,17 +235,20 @@ read_or_refused : {A : Type 0} (r : Result A SetupFault) → ((x : A) × (r ≡ 
 read_or_refused (Ok x) = inl (x, refl)
 read_or_refused (Err e) = inr (e, refl)
 
-pub one_recording_refusal : OneRecordingRefusal
-one_recording_refusal config width height =
+pub one_scoped_refusal : OneScopedRefusal
+one_scoped_refusal scope config width height =
     record {
-      either = elim (read_or_refused (record_read all_granted config Version3 width height)) [
-        | inl is ↦ inl (is.0, record-found config Version3 width height is.0 is.1)
+      either = elim (read_or_refused (record_read all_granted config scope width height)) [
+        | inl is ↦ inl (is.0, record-found config scope width height is.0 is.1)
         | inr fault ↦ inr (fault.0, fault.1)
       ];
-      not_both = λ r fault is h. let both = sym (record-run config Version3 width height r is) ∙ h in cc;
+      not_both = λ r fault is h. let both = sym (record-run config scope width height r is) ∙ h in cc;
       one_fault = λ fault other h also. let both = sym h ∙ also in cc;
-      not_memory = record_needs config Version3 width height;
+      not_memory = record_needs config scope width height;
     }
+
+pub one_recording_refusal : OneRecordingRefusal
+one_recording_refusal = one_scoped_refusal Version3
 
 pub one_setup_refusal : OneSetupRefusal
 one_setup_refusal config width height =

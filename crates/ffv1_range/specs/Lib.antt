@@ -15,6 +15,7 @@ pub mod Rows
 pub mod Setup
 pub mod SetupForms
 pub mod SetupFaults
+pub mod ScopeLaws
 pub mod Tiles
 pub mod HeaderForms
 pub mod Header

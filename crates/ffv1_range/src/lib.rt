@@ -11,6 +11,7 @@ mod head;
 mod recorded;
 mod recording;
 mod scope;
+mod scope_laws;
 mod setup;
 mod symbols;
 mod tables;
@@ -29,6 +30,7 @@ pub use recording::{
     recording_is_one,
 };
 pub use scope::Scope;
+pub use scope_laws::{one_scoped_refusal, parities_are_of_ec_1};
 pub use setup::{
     Setup, one_setup_refusal, recording_is_of_profile, setup_is_in_profile, setup_is_one,
     setup_is_recording,
