@@ -14,7 +14,8 @@ use Rattle.ffv1_devices.specs.declared.streams.ThroughWrite.{ThroughWrite}
 use Rattle.ffv1_mend.specs.Mended.{MendedValue}
 use Rattle.ffv1_stretches.specs.Copies.{CopyState, unread}
 use Rattle.ffv1_stretches.specs.Listed.{AreStretches, IsFirstBadLine}
-use Rattle.ffv1_stretches.specs.Passes.{AreRead, AreReadBut, MendsFront, StopsMending, WritesIfTouched}
+use Rattle.ffv1_stretches.specs.Passes.{AreRead, AreReadBut, MendsFront, StopsMending}
+use Rattle.ffv1_devices.specs.Touching.{WritesIfTouched}
 use Rattle.ffv1_stretches.specs.Stretches.{StretchValue}
 use Rattle.ffv1_stretches.specs.declared.pass.MendFault.{MendFault}
 use Rattle.ffv1_stretches.specs.declared.pass.MendFault.TheVariants as stops
@@ -142,10 +143,10 @@ module _ {W : Type 0} (contents : W → Option (List ℕ)) (old new : ThroughWri
   pub left_kept : new ≡ old → left ≡ w
   left_kept same = left_new (ap (λ (s : ThroughWrite W). s.writer.ghost_name) same) ∙ ap writer_of same ∙ is
 
-  pub left_touched : (path : CommandPath) (r : Result Bool CliFault)
+  pub left_touched : {T : Type 0} (path : CommandPath) (r : Result T CliFault)
       → IfErr r (λ fault. (fault ≡ faults.Write path) ⊎ WritesIfTouched (through_log contents) old new)
       → IfErr r (IsWrittenIfTouched path (left ≡ w) (contents w) (contents left))
-  left_touched path (Ok good) touched = tt
+  left_touched path (Ok done) touched = tt
   left_touched path (Err fault) (inl failed) = inl failed
   left_touched path (Err fault) (inr (inl same)) = inr (inl (left_kept same))
   left_touched path (Err fault) (inr (inr (bytes, some, wrote))) =

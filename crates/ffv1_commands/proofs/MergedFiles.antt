@@ -24,6 +24,7 @@ use Rattle.ffv1_commands.specs.Paths.{IsMergePath}
 use Rattle.ffv1_commands.specs.Holdings.{IsHoldingFile}
 use Rattle.ffv1_commands.specs.MergeText.{MergesFiles, BeginsUnion, HeadsDiffer, IsFaultOfEither, IsMergeFault, LeavesEntries, MergeLeaves, ReturnsFiles, ReturnsOtherHeads, LeavesFront, ReportsMerge}
 use Rattle.ffv1_commands.specs.declared.fault.CliFault.{CliFault}
+use Rattle.ffv1_commands.specs.declared.fault.CliFault.TheVariants as faults
 
 holding_file : (recordings : Recordings) (old new : Option (List ℕ)) (h : Contents) → MayRead recordings h.reel.rules.is_profile → ReadsAll old new h
     → IsHoldingFile recordings old h
@@ -129,6 +130,13 @@ pub leaves_front : (recordings : Recordings) (old new : Devices) (f : HoldFileFa
     → (f ≡ files.Write → WritesFrontSoFar (inputs_of recordings old new) old.sink.contents new.sink.contents) → LeavesFront recordings f old new
 leaves_front recordings old new files.Write none front = front refl
 leaves_front recordings old new fault none front = none (λ is. absurd (cc))
+
+-- no other fault is reported as that of heads of two reels
+pub other_heads : (f : HoldFileFault) → of_merge f ≡ faults.HoldFile files.OtherReel → f ≡ files.OtherReel
+other_heads files.Read is = absurd (cc)
+other_heads files.Write is = absurd (cc)
+other_heads files.Memory is = absurd (cc)
+other_heads fault is = cc
 
 merge_names : (f : HoldFileFault) → NamesPath IsMergePath (of_merge f)
 merge_names files.Read = tt

@@ -1,8 +1,8 @@
 //! The command `mend`: makes a file of its stretches in copies of it, in one pass over the copies (own).
 ghost use Rattle.std.specs.Prelude.{◌≡◌, ◌⊎◌, All, IfOk, IfErr, length, map, replicate, vec_len};
+ghost use Rattle.ffv1_devices.specs.Touching.{WritesIfTouched};
 ghost use Rattle.ffv1_stretches.specs.Copies.{state_of, unread};
 ghost use Rattle.ffv1_stretches.specs.Listed.{AreStretches};
-ghost use Rattle.ffv1_stretches.specs.Passes.{WritesIfTouched};
 ghost use Rattle.ffv1_stretches.specs.Stretches.{AreInOrder};
 ghost use Rattle.ffv1_commands.specs.Devices.{IsWrittenIfTouched};
 ghost use Rattle.ffv1_commands.specs.Fault.{NamesPath};

@@ -1,11 +1,13 @@
 //! The command `merge`: makes the holding file of the union of two holding files, which are read as streams (own).
-ghost use Rattle.std.specs.Prelude.{◌≡◌, IfErr, IsErrOf, OnOk};
+ghost use Rattle.std.specs.Prelude.{◌≡◌, ◌⊎◌, IfErr, IsErrOf, OnOk};
 ghost use Rattle.ffv1_bits.specs.Limits.{file_limit};
+ghost use Rattle.ffv1_devices.specs.Touching.{WritesIfTouched};
 ghost use Rattle.ffv1_holding.specs.Reels.{Reel};
 ghost use Rattle.ffv1_holding.specs.Contents.{Contents, IsSameReel, joined};
 ghost use Rattle.ffv1_hold.specs.declared.version.Version.{Version};
 ghost use Rattle.ffv1_hold.specs.FileFaults.{MayRead};
 ghost use Rattle.ffv1_hold.specs.MergedStreams.{IsFileOf, BeginsWithHead, WritesAtMost};
+ghost use Rattle.ffv1_commands.specs.Devices.{IsWrittenIfTouched};
 ghost use Rattle.ffv1_commands.specs.Fault.{NamesPath};
 ghost use Rattle.ffv1_commands.specs.Paths.{IsMergePath};
 ghost use Rattle.ffv1_commands.specs.MergeText.{MergesFiles, IsMergeFault, MergeLeaves, ReturnsFiles, ReturnsOtherHeads, ReportsMerge};
@@ -24,7 +26,7 @@ use std::io::{Read, Write};
 /// with the first fault of one of them, with `OtherReel` if their heads are of another record, width or height,
 /// before `out` is touched, or with `TooLong` if the file would pass its limit; `Memory` if an allocation
 /// fails; `Write` if `out` fails. After `Write` a front of the file was written; after another fault nothing, or
-/// its head and whole entries: no end tag, so that what is there is no holding file.
+/// its head and whole entries: no end tag, so that what is there is no holding file. Before its first byte `out` is not touched.
 pub fn run_merge<R: Read, Q: Read, O: Write>(
     alloc: Global,
     recordings: Recordings,
@@ -42,6 +44,7 @@ pub fn run_merge<R: Read, Q: Read, O: Write>(
     ensures other { (g h : Reel) → BeginsWithHead recordings (R.remaining left.old) g → BeginsWithHead recordings (Q.remaining right.old) h → ¬ (g ≡ h)
         → ReturnsOtherHeads result }
     ensures untouched { IsErrOf result (CliFault.HoldFile HoldFileFault.OtherReel) → out.new ≡ out.old }
+    ensures out_untouched { IfErr result (IsWrittenIfTouched CommandPath.Out (out.new ≡ out.old) (O.contents out.old) (O.contents out.new)) }
     ensures names { IfErr result (NamesPath IsMergePath) }
 {
     merge_of(
@@ -71,6 +74,7 @@ pub fn merge_of<R: Source, Q: Source, O: Sink>(
     ensures other { (g h : Reel) → BeginsWithHead recordings (R.log left.old).remaining g → BeginsWithHead recordings (Q.log right.old).remaining h → ¬ (g ≡ h)
         → ReturnsOtherHeads result }
     ensures untouched { IsErrOf result (CliFault.HoldFile HoldFileFault.OtherReel) → out.new ≡ out.old }
+    ensures out_untouched { IfErr result (λ fault. (fault ≡ CliFault.Write CommandPath.Out) ⊎ WritesIfTouched O.log out.old out.new) }
 {
     match join_streams_of(alloc, recordings, left, right, out) {
         Ok(()) => Ok(()),

@@ -1,7 +1,10 @@
 -- What joining two files returns for texts of one reel, and to heads of two.
-use Rattle.ffv1_hold.proofs.Common.{◌≡◌, ℕ, ◌<◌, List, [], ◌∷◌, ◌++◌, length, Option, Some, None, Result, Ok, Err, IfErr, OnOk, IsErrOf, rules, refl, sym, ap, ◌∙◌, subst, inl, inr, arith, append_assoc, length-append, ◌⊎◌, Consumes, Appends, Consumes-nil, Appends-nil, file_limit, Version, Reel, Contents, IsSameReel, joined, HoldFileFault, magic, head_text, entries_text, begun_text, file_entries, file_text, holding_text, IsStated, StopsIn, IsFileReel, IsPartOfReel, IsOutside, IsPartOfHead, HeadShows, Inputs, IsFileOf, IsFileOfSome, StreamBegins, BeginsWithHead, InputRefuses, ShowsNoFault, BothRefuse, MergeRefuses, EntriesPass, UnionPasses, ReadsPart, ReadsAll, ReadsOtherHeads, WritesUnion, ReturnsUnion, ReturnsOther, WritesNoEnd, StaysInReadLimit, Facts, both, HeadsRefuse, StopsAtWrite, Stops, MergeIsRefused, part, Recordings, MayRead, HasFileVersion, HeadRefuses, sized_record, WritesAtMost}
+use Rattle.ffv1_hold.proofs.Common.{◌≡◌, ℕ, ◌<◌, List, [], ◌∷◌, ◌++◌, length, Option, Some, None, Result, Ok, Err, IfErr, OnOk, IsErrOf, rules, refl, sym, ap, ◌∙◌, subst, inl, inr, arith, append_assoc, length-append, ◌⊎◌, Consumes, Appends, Consumes-nil, Appends-nil, file_limit, Version, Reel, Contents, IsSameReel, joined, HoldFileFault, magic, head_text, entries_text, begun_text, file_entries, file_text, holding_text, IsStated, StopsIn, IsFileReel, IsPartOfReel, IsOutside, IsPartOfHead, HeadShows, Inputs, IsFileOf, IsFileOfSome, StreamBegins, BeginsWithHead, InputRefuses, ShowsNoFault, BothRefuse, MergeRefuses, EntriesPass, UnionPasses, ReadsPart, ReadsAll, ReadsOtherHeads, WritesUnion, ReturnsUnion, ReturnsOther, WritesNoEnd, StaysInReadLimit, Facts, both, HeadsRefuse, StopsAtWrite, Stops, MergeIsRefused, part, Recordings, MayRead, HasFileVersion, HeadRefuses, sized_record, WritesAtMost, ReadLog, WriteLog, WritesIfTouched, Devices, MergeWent}
 use Rattle.ffv1_hold.specs.declared.file_fault.HoldFileFault.TheVariants as faults
+use Rattle.ffv1_hold.specs.declared.version.Version.TheVariants.{Second}
+use Rattle.ffv1_hold.specs.JoinedStreams.{devices}
 use Rattle.ffv1_hold.proofs.Bodies.{length-be4}
+use Rattle.ffv1_hold.proofs.Slots.{length-head_text}
 use Rattle.ffv1_hold.proofs.TextLaws.{short_reel, one_reel, same_head, same_name, head_parts, after_magic, text_parts, one_file, fitting_items}
 use Rattle.ffv1_hold.proofs.HeldEntries.{holding-joined, version_of}
 use Rattle.ffv1_hold.proofs.FaultLaws.{magic_none, reel_none, sized_cut}
@@ -220,7 +223,7 @@ module _ (i : Inputs) (w v : Option (List ℕ)) where
 
   pub writes_no_end : (f : HoldFileFault) → MergeIsRefused i w v f → (f ≡ faults.Write → ⊥) → WritesNoEnd i w v
   writes_no_end f (inl (heads, untouched)) other = inl (subst (λ (o : Option (List ℕ)). Appends w o []) (sym untouched) (Appends-nil w))
-  writes_no_end f (inr s) other = s.no_end other
+  writes_no_end f (inr s) other = inr (s.no_end other)
 
   heads_write : HeadsRefuse i faults.Write → ⊥
   heads_write (inl (r, untaken)) = r
@@ -270,3 +273,22 @@ module _ (i : Inputs) (w v : Option (List ℕ)) where
     few = omega arith;
   }
   wrote_most (Err f) ok (inr s) = s.most
+
+-- ---- what a refusal after the heads leaves of the sink
+
+begun_long : (h : Contents) → 0 < length (begun_text Second h)
+begun_long h = omega (arith, length-append (head_text Second h.reel) (entries_text Second (file_entries h)), length-head_text Second h.reel)
+
+-- the head was written to it, unless it is the fault
+pub touched_after : {W : Type 0} (log : W → WriteLog) (i : Inputs) (old new : W) (a b c d : ReadLog) (from to : ℕ × ℕ) (r : Result (Unit {0}) HoldFileFault)
+    → IfErr r (Stops i (log old).contents (log new).contents) → MergeWent r (devices a c (log old)) (devices b d (log new)) from to
+    → IfErr r (λ f. (f ≡ faults.Write) ⊎ WritesIfTouched log old new)
+touched_after log i old new a b c d from to (Ok x) stops went = tt
+touched_after log i old new a b c d from to (Err faults.Write) stops went = inl refl
+touched_after log i old new a b c d from to (Err f) stops went =
+    let e = stops.no_end (λ is. absurd (cc)) in
+    inr (inr (
+      begun_text Second (joined e.left e.right),
+      begun_long (joined e.left e.right),
+      record { bytes' = e.written; same = went.few.same; tries' = went.sink' },
+    ))

@@ -1,5 +1,5 @@
 -- What one entry more does to where joining two files stands.
-use Rattle.ffv1_hold.proofs.Common.{◌≡◌, ℕ, ◌+◌, ◌<◌, ◌≤◌, List, [], ◌∷◌, ◌++◌, length, Option, Some, None, IfSome, IfNone, refl, sym, ap, ◌∙◌, subst, inl, inr, arith, append_assoc, append-nil, length-append, Ordering, Less, Equal, Greater, Consumes, Appends, IsAtEnd, Appends-trans, record_limit, file_limit, TileRules, WritesFront, front-append, front-after, Reel, Contents, IsHolding, AreDigests, HoldFileFault, Version, Second, FileEntry, head_text, entry_text, entries_text, begun_text, file_entries, IsStated, Takes, Refuses, last_of, Follows, IsFileEntryOf, next_text, IsFileReel, IsPartOfFile, FileIsWhole, FileShows, IsPartOfEntry, EntryShows, EndIsWhole, ReadsPart, ReadsAll, ReadsSoFar, EntriesPass, InputRefuses, ShowsNoFault, OneRefuses, MergeRefuses, StreamBegins, BeginsWithPart, WritesFrontSoFar, Inputs, WritesNoEnd, WritesAtMost, Start, AreVersions, inputs_from, Facts, part, with_file_entry, both, IsPassed, IsReadUpTo, ReadsToNext, FollowsAll, Stands, Stops, Ends, with_digests, IsTurn, EntryStops, StopsAtWrite, Recordings, IsPartOfEntries}
+use Rattle.ffv1_hold.proofs.Common.{◌≡◌, ℕ, ◌+◌, ◌<◌, ◌≤◌, List, [], ◌∷◌, ◌++◌, length, Option, Some, None, IfSome, IfNone, refl, sym, ap, ◌∙◌, subst, inl, inr, arith, append_assoc, append-nil, length-append, Ordering, Less, Equal, Greater, Consumes, Appends, IsAtEnd, Appends-trans, record_limit, file_limit, TileRules, WritesFront, front-append, front-after, Reel, Contents, IsHolding, AreDigests, HoldFileFault, Version, Second, FileEntry, head_text, entry_text, entries_text, begun_text, file_entries, IsStated, Takes, Refuses, last_of, Follows, IsFileEntryOf, next_text, IsFileReel, IsPartOfFile, FileIsWhole, FileShows, IsPartOfEntry, EntryShows, EndIsWhole, ReadsPart, ReadsAll, ReadsSoFar, EntriesPass, InputRefuses, ShowsNoFault, OneRefuses, MergeRefuses, StreamBegins, BeginsWithPart, WritesFrontSoFar, Inputs, WritesEntries, WritesAtMost, Start, AreVersions, inputs_from, Facts, part, with_file_entry, both, IsPassed, IsReadUpTo, ReadsToNext, FollowsAll, Stands, Stops, Ends, with_digests, IsTurn, EntryStops, StopsAtWrite, Recordings, IsPartOfEntries}
 use Rattle.ffv1_hold.specs.declared.file_fault.HoldFileFault.TheVariants as faults
 use Rattle.ffv1_hold.proofs.ReadRefusals.{Takes-trans, Refuses-after}
 use Rattle.ffv1_hold.proofs.Entries.{part_of_entries, entries_show}
@@ -123,7 +123,7 @@ one_refused_outside i f (inr r) = (λ is. subst (InputRefuses i.recordings i.rig
 
 module _ (i : Inputs) (r : Reel) (is : IsFileReel i.recordings r) (v w : Version) (left_head : StreamBegins i.left_old (head_text v r))
     (right_head : StreamBegins i.right_old (head_text w r)) (old new : Option (List ℕ)) where
-  stopped : (f : HoldFileFault) → MergeRefuses i f → (f ≡ faults.OtherReel → ⊥) → ((f ≡ faults.Write → ⊥) → WritesNoEnd i old new)
+  stopped : (f : HoldFileFault) → MergeRefuses i f → (f ≡ faults.OtherReel → ⊥) → ((f ≡ faults.Write → ⊥) → WritesEntries i old new)
       → (f ≡ faults.Write → StopsAtWrite i r old new) → WritesAtMost old new file_limit → Stops i old new f
   stopped f fault inside no_end write most = grind arith
 
@@ -133,7 +133,7 @@ module _ (i : Inputs) (r : Reel) (is : IsFileReel i.recordings r) (v w : Version
       → (f : HoldFileFault) → MergeRefuses i f → (f ≡ faults.Write → ⊥) × (f ≡ faults.OtherReel → ⊥) → Stops i old new f
   stops_between x y left right written few f fault outside =
       stopped f fault outside.1
-      (λ _. inr (record { left = part r x; right = part r y; left_begins = left; right_begins = right; same = refl; written = written }))
+      (λ _. record { left = part r x; right = part r y; left_begins = left; right_begins = right; same = refl; written = written })
       (λ is_write. absurd (outside.0 is_write)) (record { done = begun_text Second (part r (both x y)); written = written; few = few })
 
   -- an input is the fault

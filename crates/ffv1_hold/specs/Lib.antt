@@ -15,6 +15,7 @@ pub mod Inner
 pub use Rattle.ffv1_devices.specs.Logs
 pub use Rattle.ffv1_devices.specs.Results
 pub use Rattle.ffv1_devices.specs.Streams
+pub use Rattle.ffv1_devices.specs.Touching
 pub use Rattle.ffv1_devices.specs.Writing
 pub use Rattle.ffv1_holding.specs.SliceOrder
 pub use Rattle.ffv1_holding.specs.Sets

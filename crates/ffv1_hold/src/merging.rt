@@ -3,6 +3,7 @@ ghost use Rattle.std.specs.Prelude.{◌≡◌, ◌≢◌, ◌+◌, ◌≤◌, �
 ghost use Rattle.std.specs.Io.KnownBytes.{Appends};
 ghost use Rattle.ffv1_bits.specs.Limits.{record_limit, file_limit};
 ghost use Rattle.ffv1_devices.specs.Logs.{WriteLog};
+ghost use Rattle.ffv1_devices.specs.Touching.{WritesIfTouched};
 ghost use Rattle.ffv1_range.specs.TileHeaders.{rules_of};
 ghost use Rattle.ffv1_holding.specs.declared.recordings.Recordings.TheVariants.{Profile};
 ghost use Rattle.ffv1_hold.specs.HoldingText.{HasFileVersion, head_text, entry_text};
@@ -38,6 +39,7 @@ pub fn join_streams<R: Source, Q: Source, W: Sink>(
 ) -> Result<(), HoldFileFault>
     ensures streams { JoinsStreams Profile result (devices (R.log left.old) (Q.log right.old) (W.log sink.old)) (devices (R.log left.new) (Q.log right.new) (W.log sink.new)) }
     ensures untouched { IsErrOf result HoldFileFault.OtherReel → sink.new ≡ sink.old }
+    ensures sink_untouched { IfErr result (λ fault. (fault ≡ HoldFileFault.Write) ⊎ WritesIfTouched W.log sink.old sink.new) }
 {
     join_streams_of(alloc, Recordings::Profile, left, right, sink)
 }
@@ -52,10 +54,10 @@ pub fn join_streams<R: Source, Q: Source, W: Sink>(
 /// Returns `TooLong` if an input passes its limits, or if what is written would pass 2^31 bytes; each other fault is the one that
 /// `read_holding` returns for that input. The end tag is written only where both inputs were read to their ends
 /// and show no fault. `Read` and `Write` are returned only if a source or the sink counted a failure: an interrupted try is
-/// made again, and 65 in a row are a failure. After `Write` each input that is a text was read at most to the end of its
-/// first entry that is not whole in what was written, or to its own end where all are whole: an entry is whole there
-/// once its slice stands there with exactly the digests that both inputs give it, where the other one is a text too, and
-/// else with its own among others. Returns `Memory` if an allocation fails.
+/// made again, and 65 in a row are a failure. Before its first byte the sink is not touched. After `Write` each input that is a text was read
+/// at most to the end of its first entry that is not whole in what was written, or to its own end where all are whole: an entry is whole
+/// there once its slice stands there with exactly the digests that both inputs give it, where the other one is a text too, and else with its
+/// own among others. Returns `Memory` if an allocation fails.
 pub fn join_streams_of<R: Source, Q: Source, W: Sink>(
     alloc: Global,
     recordings: Recordings,
@@ -65,6 +67,7 @@ pub fn join_streams_of<R: Source, Q: Source, W: Sink>(
 ) -> Result<(), HoldFileFault>
     ensures streams { JoinsStreams recordings result (devices (R.log left.old) (Q.log right.old) (W.log sink.old)) (devices (R.log left.new) (Q.log right.new) (W.log sink.new)) }
     ensures untouched { IsErrOf result HoldFileFault.OtherReel → sink.new ≡ sink.old }
+    ensures sink_untouched { IfErr result (λ fault. (fault ≡ HoldFileFault.Write) ⊎ WritesIfTouched W.log sink.old sink.new) }
 {
     let mut merge = Merge::new();
     merge_files(alloc, recordings, &mut merge, left, right, sink)
@@ -88,6 +91,7 @@ fn merge_files<R: Source, Q: Source, W: Sink>(
     ensures most { OnOk result (WritesAtMost (W.log sink.old).contents (W.log sink.new).contents file_limit) }
     ensures err { IfErr result (MergeIsRefused (inputs_read recordings (R.log left.old) (R.log left.new) (Q.log right.old) (Q.log right.new)) (W.log sink.old).contents (W.log sink.new).contents) }
     ensures untouched { IsErrOf result HoldFileFault.OtherReel → sink.new ≡ sink.old }
+    ensures sink_untouched { IfErr result (λ fault. (fault ≡ HoldFileFault.Write) ⊎ WritesIfTouched W.log sink.old sink.new) }
     ensures went { MergeWent result (devices (R.log left.old) (Q.log right.old) (W.log sink.old))
         (devices (R.log left.new) (Q.log right.new) (W.log sink.new)) (0, 0) (file_limit, file_limit) }
 {

@@ -193,7 +193,7 @@ promise_of files made printed (Merge out left right) =
       Does = λ returned. (returned ≡ true) × MergesFiles files.recordings (files.bytes_at left.now) (files.bytes_at right.now) made.before made.after;
       Stops = StopsMerging files.recordings (IsEither out.now left.now right.now) files.IsUnopened left.now right.now (files.bytes_at left.now) (files.bytes_at right.now)
           made.before made.after;
-      Keeps = λ fault. IfNotBegun fault made.IsKept;
+      Keeps = λ fault. IfNotBegun fault made.IsKept × IsWrittenIfTouched paths.Out made.IsKept made.before made.after fault;
       Unread = IfUnread (IsUnmerged files.IsUnopened files.OpenedWent left.now right.now);
       Refuses = λ result. IsEither out.now left.now right.now → IsErrOf result (faults.Write paths.Out) × made.IsKept;
       Leaves = λ Made Printed. Printed;

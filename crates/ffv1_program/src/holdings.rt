@@ -80,7 +80,8 @@ pub(crate) fn join_files<'a, F: FileSystem<'a>, O: MakeFile, W: Write>(
 /// anything is written, and none is where `out` is one of their words: it would be emptied before it is read.
 ///
 /// It stops where `merge_of` does; with `Write` where `out` is one of their words; and with `Read` of the first file that can't be
-/// opened. Then the file that is made is not touched, and neither is it where the heads of both are of another record or size.
+/// opened. Then the file that is made is not touched, and neither is it where the heads of both are of another record or size; and after no
+/// fault is it touched before its first byte.
 pub(crate) fn merge_files<'a, F: FileSystem<'a>, O: MakeFile>(
     alloc: Global,
     recordings: Recordings,

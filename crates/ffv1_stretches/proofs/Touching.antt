@@ -3,7 +3,7 @@ use Rattle.std.proofs.Common.{◌≡◌, ◌⊎◌, ◌<◌, ℕ, Bool, List, []
 use Rattle.std.proofs.lemmas.List.{length-append}
 use Rattle.ffv1_devices.specs.Logs.{WriteLog}
 use Rattle.ffv1_devices.proofs.Steps.{Writes-trans}
-use Rattle.ffv1_stretches.specs.Passes.{WritesIfTouched}
+use Rattle.ffv1_devices.specs.Touching.{WritesIfTouched}
 use Rattle.ffv1_stretches.specs.declared.pass.MendFault.{MendFault}
 
 module _ {S : Type 0} (log : S → WriteLog) where

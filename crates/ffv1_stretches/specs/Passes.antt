@@ -80,10 +80,6 @@ StopsMending stretches old new out_old out_new output_old output_new faults.Outp
     × MendsFront stretches front files mended
     × Writes out_old out_new (bytes_of mended) × StopsWriting output_old output_new (mend_text 1 files front mended)
 
--- A sink is as it was, or some bytes, one at least, were written to it.
-abbrev pub WritesIfTouched : {S : Type 0} → (log : S → WriteLog) → (old new : S) → Type 0
-WritesIfTouched log old new = (new ≡ old) ⊎ ((bytes : List ℕ) × (0 < length bytes) × Writes (log old) (log new) bytes)
-
 -- all stretches were mended, or the pass stopped
 abbrev pub MendsStretches : List StretchValue → Result Bool MendFault → (old new : List ReadLog) → (out_old out_new output_old output_new : WriteLog) → Type 0
 MendsStretches stretches (Ok good) old new out_old out_new output_old output_new = MendsAll stretches old new out_old out_new output_old output_new good

@@ -1,12 +1,13 @@
 //! One pass over the copies of a file (own).
 ghost use Rattle.std.specs.Prelude.{◌≡◌, ◌⊎◌, All, length, map, replicate, Err, IfOk, IfErr};
 ghost use Rattle.ffv1_devices.specs.Results.{WritesAll};
+ghost use Rattle.ffv1_devices.specs.Touching.{WritesIfTouched};
 ghost use Rattle.ffv1_mend.specs.Improved.{IsWithin};
 ghost use Rattle.ffv1_stretches.specs.Stretches.{IsAfter, FollowsStretch, AreInOrder};
 ghost use Rattle.ffv1_stretches.specs.Inner.CellSteps.{cell_now, HasVersion, IsAsLong};
 ghost use Rattle.ffv1_stretches.specs.Copies.{state_of};
 ghost use Rattle.ffv1_stretches.specs.Inner.PassSteps.{ReadsPlaced, ReadsEach, MendsOne};
-ghost use Rattle.ffv1_stretches.specs.Passes.{MendsStretches, WritesIfTouched};
+ghost use Rattle.ffv1_stretches.specs.Passes.{MendsStretches};
 
 use crate::cells::{cells_of, version_at, versions_of};
 use crate::copy::CopyReader;

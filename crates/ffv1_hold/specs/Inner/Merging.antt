@@ -26,7 +26,7 @@ use Rattle.ffv1_hold.specs.FileFaults.{IsFileReel}
 use Rattle.ffv1_hold.specs.Inner.FileFaults.{IsPartOfHead, HeadIsWhole, HeadShows}
 use Rattle.ffv1_hold.specs.ReadLimits.{LiesWhole, AreAllDigests}
 use Rattle.ffv1_hold.specs.MergeLogs.{Devices}
-use Rattle.ffv1_hold.specs.MergedStreams.{Inputs, IsFileOf, IsFileOfSome, ReadsOtherHeads, MergeRefuses, WritesNoEnd, WritesFrontSoFar, WritesAtMost, ReadsBoth, StreamBegins}
+use Rattle.ffv1_hold.specs.MergedStreams.{Inputs, IsFileOf, IsFileOfSome, ReadsOtherHeads, MergeRefuses, WritesEntries, WritesFrontSoFar, WritesAtMost, ReadsBoth, StreamBegins}
 
 -- which files are read, what both inputs had left and the sink held at first, the reel of both heads, and their versions
 pub record Start : Type 0 where
@@ -185,7 +185,7 @@ pub record Stops (i : Inputs) (old new : Option (List ℕ)) (f : HoldFileFault) 
   pub right_head : StreamBegins i.right_old (head_text right_version reel)
   pub fault : MergeRefuses i f
   pub inside : f ≢ faults.OtherReel
-  pub no_end : f ≢ faults.Write → WritesNoEnd i old new
+  pub no_end : f ≢ faults.Write → WritesEntries i old new
   pub write : f ≡ faults.Write → StopsAtWrite i reel old new
   pub most : WritesAtMost old new file_limit
 

@@ -2,7 +2,9 @@ use Rattle.std.proofs.Common.{◌≡◌, rules, refl}
 use Rattle.ffv1_holding.specs.Contents.{joined}
 use Rattle.ffv1_hold.specs.MergedStreams.{WritesFrontSoFar, inputs_read}
 use Rattle.ffv1_hold.specs.declared.file_fault.HoldFileFault.TheVariants.{Write}
-use Rattle.ffv1_commands.proofs.MergedFiles.{leaves_front, returns_files, returns_other_heads}
+use Rattle.ffv1_commands.specs.Fault.{of_merge}
+use Rattle.ffv1_commands.proofs.MendCommandSteps.{or_touched}
+use Rattle.ffv1_commands.proofs.MergedFiles.{leaves_front, other_heads, returns_files, returns_other_heads}
 use Rattle.ffv1_commands.proofs.merge.merge_of.Goals as goal
 
 pub returns-in-Ok-clause-reported : goal.returns-in-Ok-clause-reported
@@ -37,3 +39,10 @@ returns-in-Err-clause-other g c one two left right other =
 pub returns-in-Err-clause-only : goal.returns-in-Err-clause-only
 returns-in-Err-clause-only g c v w one two same taken left right =
     rw c.of_merge.ensures (returns_files (joined one two) c.in-Err.fault (c.in-Err.ensures.streams.only v w one two same taken left right))
+
+pub returns-in-Err-clause-untouched : goal.returns-in-Err-clause-untouched
+returns-in-Err-clause-untouched g c =
+    rw c.of_merge.ensures (λ is. c.in-Err.ensures.untouched (search (rules, other_heads c.in-Err.fault (search (rules, is)))))
+
+pub returns-in-Err-clause-out_untouched : goal.returns-in-Err-clause-out_untouched
+returns-in-Err-clause-out_untouched g c = rw c.of_merge.ensures (or_touched of_merge c.in-Err.fault Write c.in-Err.ensures.sink_untouched)

@@ -1,6 +1,8 @@
 use Rattle.std.proofs.Common.{rules, List, ℕ, Option, sym, subst, ap}
 use Rattle.ffv1_devices.specs.Logs.{ReadLog}
 use Rattle.ffv1_hold.specs.MergedStreams.{BeginsWithHead, IsFileOf}
+use Rattle.ffv1_commands.specs.declared.path.CommandPath.TheVariants as paths
+use Rattle.ffv1_commands.proofs.MendCommandSteps.{left_touched}
 use Rattle.ffv1_commands.proofs.MergedFiles.{merge_of_bytes}
 use Rattle.ffv1_commands.proofs.merge.run_merge.Goals as goal
 
@@ -34,3 +36,8 @@ returns-clause-leaves g c =
 
 pub returns-clause-names : goal.returns-clause-names
 returns-clause-names g c = (merge_of_bytes _ _ _ c.merge_of.result c.merge_of.ensures.reported).names
+
+pub returns-clause-out_untouched : goal.returns-clause-out_untouched
+returns-clause-out_untouched g c =
+    left_touched g.O.Write.contents c.new-3.result c.merge_of.new.out c.args.out.now _ _ c.new-3.ensures.log c.new-3.ensures.writer (search rules)
+    paths.Out c.merge_of.result c.merge_of.ensures.out_untouched

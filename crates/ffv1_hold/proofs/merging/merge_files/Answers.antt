@@ -1,7 +1,12 @@
-use Rattle.ffv1_hold.proofs.Common.{rules, refl, Start, AreVersions, IsOpened}
-use Rattle.ffv1_hold.proofs.MergeResults.{after_heads, never_other}
+use Rattle.ffv1_hold.proofs.Common.{rules, refl, inl, inr, err_from_is_err_and, Start, AreVersions, IsOpened}
+use Rattle.ffv1_hold.proofs.MergeResults.{after_heads, never_other, touched_after}
 use Rattle.ffv1_hold.proofs.JoinSteps.{MergeWent-after}
 use Rattle.ffv1_hold.proofs.merging.merge_files.Goals as goal
+
+pub returns-in_err-reel-clause-sink_untouched : goal.returns-in_err-reel-clause-sink_untouched
+returns-in_err-reel-clause-sink_untouched g c =
+    let p = err_from_is_err_and c.from_residual.result c.from_residual.ensures.1 in
+    rw (p.1, p.2) (inr (inl refl))
 
 pub returns : goal.returns
 returns g c =
@@ -25,5 +30,6 @@ returns g c =
       most = done.most s versions opened;
       err = after_heads _ _ _ r (done.err s versions opened);
       untouched = never_other _ _ _ _ r (done.err s versions opened);
+      sink_untouched = touched_after g.W.Sink.log _ _ _ _ _ _ _ _ _ r (done.err s versions opened) done.went;
       went = MergeWent-after r _ _ _ _ _ _ (o.went (g.W.Sink.log c.args.sink.now)) done.went;
     }

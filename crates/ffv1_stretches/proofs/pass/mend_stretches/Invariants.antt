@@ -1,6 +1,6 @@
 use Rattle.std.proofs.Common.{take, length, map}
 use Rattle.ffv1_stretches.specs.Copies.{state_of}
-use Rattle.ffv1_stretches.specs.Passes.{WritesIfTouched}
+use Rattle.ffv1_devices.specs.Touching.{WritesIfTouched}
 use Rattle.ffv1_stretches.proofs.Mending.{IsMended}
 use Rattle.ffv1_stretches.proofs.pass.mend_stretches.Given as goal
 
