@@ -1,6 +1,6 @@
 -- What was read of the copies, stretch by stretch.
 use Rattle.std.proofs.Common.{◌≡◌, ℕ, zero, suc, ◌+◌, ◌<◌, ◌≤◌, List, [], ◌∷◌, ◌++◌, Option, Some, None, length, get_or, take, drop, map, refl, sym, ap, ◌∙◌, subst, arith}
-use Rattle.std.specs.Prelude.{All, MatchOption}
+use Rattle.std.specs.Prelude.{All, IfSome, MatchOption}
 use Rattle.std.specs.List.{AllZip, fold, zip}
 use Rattle.std.proofs.Math.Seq.{drop-append_seam, take-length}
 use Rattle.std.proofs.lemmas.List.{append_assoc, append-nil, length-append, length-drop, length-take-le, drop-append-le, take-append-le}
@@ -246,6 +246,25 @@ module _ (size : ℕ) where
   stopped_short Went (s ∷ steps) place old new more rest (o ∷ olds) [] stop read = absurd read
   stopped_short Went (s ∷ steps) place old new more rest (o ∷ olds) (f ∷ files) stop read =
       stopped_short Went steps place old new more rest olds files stop read.1
+
+module _ (size : ℕ) where
+  step_has : (place : Option ℕ) (old new : CopyState) (more file : List ℕ) → StepsCopy size place old new more → length file ≡ old.end
+      → IfSome place (λ start. start + size ≤ length (file ++ more))
+  step_has None old new more file step long = tt
+  step_has (Some start) old new more file step long =
+      omega (arith, long, step.gap, step.long, ap length step.whole, length-append file more, length-append step.before step.here)
+
+  -- the copies before the one that stopped have the stretch
+  pub earlier_have : (steps : List (CopyStep size)) (place : Option ℕ) (old : CopyState) (more : List ℕ) (later : List (Option ℕ)) (rest : List CopyState)
+      (olds : List ReadLog) (files : List (List ℕ)) → AreReadAs olds (olds_of steps ++ old ∷ rest) files
+      → AllZip (λ start file. IfSome start (λ begin. begin + size ≤ length file)) (take (length steps) (places_of steps ++ place ∷ later))
+      (take (length steps) (joined files (stopped_mores size steps more rest)))
+  unfolding joined
+  earlier_have [] place old more later rest olds files read = tt
+  earlier_have (s ∷ steps) place old more later rest [] files read = absurd read
+  earlier_have (s ∷ steps) place old more later rest (o ∷ olds) [] read = absurd read
+  earlier_have (s ∷ steps) place old more later rest (o ∷ olds) (f ∷ files) read =
+      (step_has s.place s.old s.new s.more f s.step read.0.1, earlier_have steps place old more later rest olds files read.1)
 
 pub at_boundary : {X : Type 0} (xs : List X) (x : X) (ys : List X) (d : X) → get_or (xs ++ x ∷ ys) (length xs) d ≡ x
 at_boundary [] x ys d = refl

@@ -1,7 +1,7 @@
 -- One stretch more of a pass.
 use Rattle.std.proofs.Common.{◌≡◌, ℕ, suc, ◌+◌, ◌<◌, ◌≤◌, Bool, true, ◌&&◌, List, [], ◌∷◌, ◌++◌, Option, None, length, get_or, take, drop, map, replicate, refl, sym, ap, ◌∙◌, subst, arith, Ok, Err}
 use Rattle.std.proofs.Math.Bool.{and-true}
-use Rattle.std.specs.Prelude.{All}
+use Rattle.std.specs.Prelude.{All, IfSome}
 use Rattle.std.specs.List.{AllZip, fold, list_all}
 use Rattle.std.proofs.lemmas.Grind.{flat_map-append}
 use Rattle.std.proofs.lemmas.List.{append_assoc, append-nil, length-append, length-map, length-replicate, length-take-le, take_more, take_all}
@@ -28,7 +28,7 @@ use Rattle.ffv1_stretches.proofs.ListLemmas.{ends_of-push}
 use Rattle.ffv1_stretches.proofs.OrderLemmas.{in_order_last, in_order_front}
 use Rattle.ffv1_stretches.proofs.Pairs.{pairs_so, pairs_long}
 use Rattle.ffv1_stretches.proofs.PassLemmas.{parted_at}
-use Rattle.ffv1_stretches.proofs.FileLemmas.{joined, AreReadAs, ends_are_lengths, as_many_files, all_are_read, places_of, olds_of, mores_of, read_on, held_all, cells_here, ends_on, stopped_mores, but_one_read, all_read_so_far, stopped_most, stopped_short, at_boundary, long_cells, has_version, AreBelow, Rise, most_later, ends_rise, kept_all, text_push}
+use Rattle.ffv1_stretches.proofs.FileLemmas.{joined, AreReadAs, ends_are_lengths, as_many_files, all_are_read, places_of, olds_of, mores_of, read_on, held_all, cells_here, ends_on, stopped_mores, but_one_read, all_read_so_far, stopped_most, stopped_short, earlier_have, at_boundary, long_cells, has_version, AreBelow, Rise, most_later, ends_rise, kept_all, text_push}
 
 abbrev pub ends_at : List CopyState → List ℕ
 ends_at states = map (λ state. state.end) states
@@ -240,6 +240,9 @@ module _ (copies : ℕ) (stretches front : List StretchValue) (s : StretchValue)
       subst (Writes x y) (sym (same_text (stopped_mores s.size stops.steps stops.more stops.rest) (stopped_many news stops) (stopped_ends news stops)))
       so_far.printed
 
+  abbrev HaveWhole : ℕ → List (Option ℕ) → List (List ℕ) → Type 0
+  HaveWhole n places files = AllZip (λ start file. IfSome start (λ begin. begin + s.size ≤ length file)) (take n places) (take n files)
+
   pub reading_stops : (T : Type 0) (news : List CopyState) (fault : MendFault) → ReadsEach {T = T} s.size s.places (Err fault) states news
       → StopsMending stretches olds (logs_at news) a b x y fault
   unfolding front_more front_until
@@ -264,6 +267,9 @@ module _ (copies : ℕ) (stretches front : List StretchValue) (s : StretchValue)
               ∙ at_boundary (places_of stops.steps) stops.place stops.later None ∙ stops.stop.there;
           short = subst (λ n. length (get_or (joined so_far.files mores) n []) < stops.stop.start + s.size) (sym stop.1)
               (stopped_short s.size StopsReading stops.steps stops.place stops.old stops.new stops.more stops.rest olds so_far.files stops.stop read);
+          earlier = subst (λ n. HaveWhole n s.places (joined so_far.files mores)) (sym stop.1)
+              (subst (λ ps. HaveWhole (length stops.steps) ps (joined so_far.files mores)) (sym stops.places')
+              (earlier_have s.size stops.steps stops.place stops.old stops.more stops.later stops.rest olds so_far.files read));
         },
         so_far.wrote,
         printed_until news stops,

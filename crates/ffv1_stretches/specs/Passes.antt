@@ -1,5 +1,5 @@
 -- What one pass over copies makes of stretches (own).
-use Rattle.std.specs.Prelude.{ℕ, ◌≡◌, ◌+◌, ◌<◌, ◌≤◌, ◌⊎◌, Bool, List, [], ◌∷◌, ◌++◌, length, slice_index_or, zero, suc, Some, None, Result, Ok, Err}
+use Rattle.std.specs.Prelude.{ℕ, ◌≡◌, ◌+◌, ◌<◌, ◌≤◌, ◌⊎◌, Bool, List, [], ◌∷◌, ◌++◌, length, take, slice_index_or, zero, suc, Some, None, IfSome, Result, Ok, Err}
 use Rattle.std.specs.List.{AllZip, flat_map, list_all}
 use Rattle.ffv1_devices.specs.Logs.{ReadLog, WriteLog, Reads, Writes, StopsWriting}
 use Rattle.ffv1_devices.specs.Exact.{StopsReading}
@@ -38,7 +38,7 @@ pub record MendsFront (stretches front : List StretchValue) (files : List (List 
 abbrev pub bytes_of : List MendedValue → List ℕ
 bytes_of mended = flat_map (λ one. one.bytes) mended
 
--- the copy of this number ends within the first stretch after a front
+-- the copy of this number ends within the first stretch after a front, and each copy before it has that stretch, or none there
 pub record EndsWithin (copy : ℕ) (rest : List StretchValue) (files : List (List ℕ)) : Type 0 where
   pub stretch : StretchValue
   pub later : List StretchValue
@@ -46,6 +46,7 @@ pub record EndsWithin (copy : ℕ) (rest : List StretchValue) (files : List (Lis
   pub place : ℕ
   pub there : slice_index_or stretch.places copy None ≡ Some place
   pub short : length (slice_index_or files copy []) < place + stretch.size
+  pub earlier : AllZip (λ start file. IfSome start (λ begin. begin + stretch.size ≤ length file)) (take copy stretch.places) (take copy files)
 
 -- What a pass over all stretches did: each copy was read to the end of its last stretch, and no further; what becomes of the stretches was
 -- written to OUT, and their lines to the output, and what is returned is whether all are good.

@@ -147,7 +147,7 @@ fn write_output<W: Sink>(output: &mut W, lines: &str) -> Result<(), MendFault>
 /// stretch is whole, woven or agreed.
 ///
 /// Each copy is read once, from its start on, and no further than to the end of its last stretch; a copy that has none is not read. One
-/// stretch of each copy is held, and room for it grows as its bytes come. Returns `Read` with the copy that failed or ended within a
+/// stretch of each copy is held, and room for it grows as its bytes come. Returns `Read` with the first copy that failed or ended within a
 /// stretch, `Memory` if an allocation fails, `Out` and `Output` if these fail: what became of the stretches before was written and
 /// printed. Before its first byte `out` is not touched, and neither is `output`.
 pub fn mend_stretches<S: Source, O: Sink, W: Sink>(
