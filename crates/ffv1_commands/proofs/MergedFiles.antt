@@ -10,7 +10,7 @@ use Rattle.ffv1_hold.proofs.HeldEntries.{holding-joined}
 use Rattle.ffv1_hold.specs.HoldingText.{head_text, begun_text, file_text, holding_text}
 use Rattle.ffv1_hold.specs.declared.version.Version.TheVariants.{Second}
 use Rattle.ffv1_hold.specs.FileFaults.{IsOutside, IsFaultOf}
-use Rattle.ffv1_hold.specs.MergedStreams.{Inputs, InputRefuses, OneRefuses, MergeRefuses, EntriesPass, UnionPasses, ReadsAll, ReadsSoFar, ReadsOtherHeads, WritesUnion, WritesNoEnd, WritesFrontSoFar, ReturnsUnion, ReturnsOther, StreamBegins, BeginsWithPart}
+use Rattle.ffv1_hold.specs.MergedStreams.{Inputs, InputRefuses, OneRefuses, MergeRefuses, LeftRefusesFirst, EntriesPass, UnionPasses, ReadsAll, ReadsSoFar, ReadsOtherHeads, WritesUnion, WritesNoEnd, WritesFrontSoFar, ReturnsUnion, ReturnsOther, StreamBegins, BeginsWithPart}
 use Rattle.ffv1_hold.specs.MergeLogs.{Devices}
 use Rattle.ffv1_hold.specs.declared.file_fault.HoldFileFault.{HoldFileFault}
 use Rattle.ffv1_hold.specs.declared.file_fault.HoldFileFault.TheVariants as files
@@ -22,7 +22,7 @@ use Rattle.ffv1_hold.specs.JoinedStreams.{inputs_of}
 use Rattle.ffv1_commands.specs.Fault.{NamesPath, of_merge}
 use Rattle.ffv1_commands.specs.Paths.{IsMergePath}
 use Rattle.ffv1_commands.specs.Holdings.{IsHoldingFile}
-use Rattle.ffv1_commands.specs.MergeText.{MergesFiles, BeginsUnion, HeadsDiffer, IsFaultOfEither, IsMergeFault, LeavesEntries, MergeLeaves, ReturnsFiles, ReturnsOtherHeads, LeavesFront, ReportsMerge}
+use Rattle.ffv1_commands.specs.MergeText.{MergesFiles, BeginsUnion, HeadsDiffer, IsFaultOfEither, IsLeftFaultFirst, IsMergeFault, LeavesEntries, MergeLeaves, ReturnsFiles, ReturnsOtherHeads, LeavesFront, ReportsMerge}
 use Rattle.ffv1_commands.specs.declared.fault.CliFault.{CliFault}
 use Rattle.ffv1_commands.specs.declared.fault.CliFault.TheVariants as faults
 
@@ -101,17 +101,21 @@ module _ (i : Inputs) (w v : Option (List ℕ)) where
     differ = o.other;
   }
 
-  pub merge_fault : (f : HoldFileFault) → MergeRefuses i f → IsMergeFault i.recordings i.left_old i.right_old (of_merge f)
-  merge_fault files.Read r = refl
-  merge_fault files.Write r = refl
-  merge_fault files.Memory r = tt
-  merge_fault files.OtherReel (inl (inl r)) = absurd r.0
-  merge_fault files.OtherReel (inl (inr r)) = absurd r.0
-  merge_fault files.OtherReel (inr heads) = inr (heads_differ heads)
-  merge_fault files.TooLong (inr (inl b)) = inr (entries_pass b.0)
-  merge_fault files.TooLong (inr (inr u)) = inr (union_passes u)
-  merge_fault fault (inl r) = inl (either_fault fault (λ out. out) r)
-  merge_fault fault (inr b) = absurd b
+  left_fault : (f : HoldFileFault) → (IsOutside f → ⊥) → LeftRefusesFirst i f → IsLeftFaultFirst i.recordings i.left_old f
+  left_fault f inside (inl refused) = inl (input_fault _ _ f inside refused)
+  left_fault f inside (inr begins) = inr begins
+
+  pub merge_fault : (f : HoldFileFault) → MergeRefuses i f → LeftRefusesFirst i f → IsMergeFault i.recordings i.left_old i.right_old (of_merge f)
+  merge_fault files.Read r first = refl
+  merge_fault files.Write r first = refl
+  merge_fault files.Memory r first = tt
+  merge_fault files.OtherReel (inl (inl r)) first = absurd r.0
+  merge_fault files.OtherReel (inl (inr r)) first = absurd r.0
+  merge_fault files.OtherReel (inr heads) first = (inr (heads_differ heads), left_fault files.OtherReel (λ out. out) first)
+  merge_fault files.TooLong (inr (inl b)) first = (inr (entries_pass b.0), left_fault files.TooLong (λ out. out) first)
+  merge_fault files.TooLong (inr (inr u)) first = (inr (union_passes u), left_fault files.TooLong (λ out. out) first)
+  merge_fault fault (inl r) first = (inl (either_fault fault (λ out. out) r), left_fault fault (λ out. out) first)
+  merge_fault fault (inr b) first = absurd b
 
   -- ---- what it left
 
@@ -162,7 +166,7 @@ module _ {T : Type 0} (recordings : Recordings) (old new : Devices) where
   merge_of_bytes (Ok x) (union, went) = record { ok = merges (inputs_of recordings old new) old.sink.contents new.sink.contents union; err = tt; leaves = tt; names = tt }
   merge_of_bytes (Err fault) (f, is, stops) = subst (λ (g : CliFault). OfBytes (Err g)) (sym is) (record {
     ok = tt;
-    err = merge_fault (inputs_of recordings old new) old.sink.contents new.sink.contents f stops.shown;
+    err = merge_fault (inputs_of recordings old new) old.sink.contents new.sink.contents f stops.shown stops.first;
     leaves = merge_leaves recordings old new f stops.leaves;
     names = merge_names f;
   })

@@ -8,7 +8,7 @@ use Rattle.ffv1_holding.specs.Reels.{Reel}
 use Rattle.ffv1_holding.specs.Contents.{Contents, IsSameReel, joined}
 use Rattle.ffv1_hold.specs.HoldingText.{head_text, begun_text, holding_text}
 use Rattle.ffv1_hold.specs.FileFaults.{IsFileReel, IsFaultOf}
-use Rattle.ffv1_hold.specs.MergedStreams.{StreamBegins, BeginsWithPart, MergeRefuses, WritesUnion, WritesNoEnd, WritesFrontSoFar}
+use Rattle.ffv1_hold.specs.MergedStreams.{StreamBegins, BeginsWithPart, MergeRefuses, LeftRefusesFirst, WritesUnion, WritesNoEnd, WritesFrontSoFar}
 use Rattle.ffv1_hold.specs.JoinedStreams.{inputs_of}
 use Rattle.ffv1_hold.specs.MergeLogs.{Devices, AllGoOn, OneStops}
 use Rattle.ffv1_hold.specs.declared.version.Version.{Version}
@@ -64,8 +64,14 @@ IsFaultOfBoth recordings left right files.OtherReel = HeadsDiffer recordings lef
 IsFaultOfBoth recordings left right files.TooLong = (union : Contents) × BeginsUnion left right union × (file_limit < length (holding_text union))
 IsFaultOfBoth recordings left right _ = ⊥
 
+-- the head of the left one is judged first: the fault is its own, or it begins with a head
+abbrev pub IsLeftFaultFirst : Recordings → (left : Option (List ℕ)) → HoldFileFault → Type 0
+IsLeftFaultFirst recordings left fault = IfSome left (λ bytes. IsFaultOf recordings bytes fault)
+    ⊎ ((v : Version) × (r : Reel) × IsFileReel recordings r × StreamBegins left (head_text v r))
+
 abbrev pub IsMergeFault : Recordings → Option (List ℕ) → Option (List ℕ) → CliFault → Type 0
-IsMergeFault recordings left right (faults.HoldFile fault) = IsFaultOfEither recordings left right fault ⊎ IsFaultOfBoth recordings left right fault
+IsMergeFault recordings left right (faults.HoldFile fault) =
+    (IsFaultOfEither recordings left right fault ⊎ IsFaultOfBoth recordings left right fault) × IsLeftFaultFirst recordings left fault
 IsMergeFault recordings left right (faults.Read path) = path ≡ paths.Inputs
 IsMergeFault recordings left right (faults.Write path) = path ≡ paths.Out
 IsMergeFault recordings left right faults.Memory = Unit {0}
@@ -112,6 +118,7 @@ LeavesFront recordings _ old new = WritesNoEnd (inputs_of recordings old new) ol
 -- Joining both files as streams stopped: what was taken of them shows the fault, and only the device that is the fault was given up.
 pub record MergeStops (recordings : Recordings) (f : HoldFileFault) (old new : Devices) : Type 0 where
   pub shown : MergeRefuses (inputs_of recordings old new) f
+  pub first : LeftRefusesFirst (inputs_of recordings old new) f
   pub leaves : LeavesFront recordings f old new
   pub went : OneStops f old new (0, 0)
 

@@ -1,5 +1,5 @@
 -- What joining two files returns for texts of one reel, and to heads of two.
-use Rattle.ffv1_hold.proofs.Common.{◌≡◌, ℕ, ◌<◌, List, [], ◌∷◌, ◌++◌, length, Option, Some, None, Result, Ok, Err, IfErr, OnOk, IsErrOf, rules, refl, sym, ap, ◌∙◌, subst, inl, inr, arith, append_assoc, length-append, ◌⊎◌, Consumes, Appends, Consumes-nil, Appends-nil, file_limit, Version, Reel, Contents, IsSameReel, joined, HoldFileFault, magic, head_text, entries_text, begun_text, file_entries, file_text, holding_text, IsStated, StopsIn, IsFileReel, IsPartOfReel, IsOutside, IsPartOfHead, HeadShows, Inputs, IsFileOf, IsFileOfSome, StreamBegins, BeginsWithHead, InputRefuses, ShowsNoFault, BothRefuse, MergeRefuses, EntriesPass, UnionPasses, ReadsPart, ReadsAll, ReadsOtherHeads, WritesUnion, ReturnsUnion, ReturnsOther, WritesNoEnd, StaysInReadLimit, Facts, both, HeadsRefuse, StopsAtWrite, Stops, MergeIsRefused, part, Recordings, MayRead, HasFileVersion, HeadRefuses, sized_record, WritesAtMost, ReadLog, WriteLog, WritesIfTouched, Devices, MergeWent}
+use Rattle.ffv1_hold.proofs.Common.{◌≡◌, ℕ, ◌<◌, List, [], ◌∷◌, ◌++◌, length, Option, Some, None, Result, Ok, Err, IfErr, OnOk, IsErrOf, rules, refl, sym, ap, ◌∙◌, subst, inl, inr, arith, append_assoc, length-append, ◌⊎◌, Consumes, Appends, Consumes-nil, Appends-nil, file_limit, Version, Reel, Contents, IsSameReel, joined, HoldFileFault, magic, head_text, entries_text, begun_text, file_entries, file_text, holding_text, IsStated, StopsIn, IsFileReel, IsPartOfReel, IsOutside, IsPartOfHead, HeadShows, Inputs, IsFileOf, IsFileOfSome, StreamBegins, BeginsWithHead, InputRefuses, ShowsNoFault, BothRefuse, LeftRefusesFirst, MergeRefuses, EntriesPass, UnionPasses, ReadsPart, ReadsAll, ReadsOtherHeads, WritesUnion, ReturnsUnion, ReturnsOther, WritesNoEnd, StaysInReadLimit, Facts, both, HeadsRefuse, StopsAtWrite, Stops, MergeIsRefused, part, Recordings, MayRead, HasFileVersion, HeadRefuses, sized_record, WritesAtMost, ReadLog, WriteLog, WritesIfTouched, MergeWent}
 use Rattle.ffv1_hold.specs.declared.file_fault.HoldFileFault.TheVariants as faults
 use Rattle.ffv1_hold.specs.declared.version.Version.TheVariants.{Second}
 use Rattle.ffv1_hold.specs.JoinedStreams.{devices}
@@ -220,6 +220,12 @@ module _ (i : Inputs) (w v : Option (List ℕ)) where
   ))
   join_refuses f (inl (inr (inr (is, heads)), untouched)) = inr (subst (BothRefuse i) (sym is) heads)
   join_refuses f (inr s) = s.fault
+
+  pub left_first : (f : HoldFileFault) → MergeIsRefused i w v f → LeftRefusesFirst i f
+  left_first f (inl (inl (r, untaken), untouched)) = inl (head_file i.recordings _ _ f r)
+  left_first f (inl (inr (inl ((u, q, is, has, taken), r)), untouched)) = inr (u, q, is, whole_begins _ _ _ taken)
+  left_first f (inl (inr (inr (is, heads)), untouched)) = inr (heads.left_version, heads.left, heads.left_is, whole_begins _ _ _ heads.left_taken)
+  left_first f (inr s) = inr (s.left_version, s.reel, s.is, s.left_head)
 
   pub writes_no_end : (f : HoldFileFault) → MergeIsRefused i w v f → (f ≡ faults.Write → ⊥) → WritesNoEnd i w v
   writes_no_end f (inl (heads, untouched)) other = inl (subst (λ (o : Option (List ℕ)). Appends w o []) (sym untouched) (Appends-nil w))

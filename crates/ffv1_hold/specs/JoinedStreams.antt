@@ -9,7 +9,7 @@ use Rattle.ffv1_hold.specs.declared.file_fault.HoldFileFault.{HoldFileFault}
 use Rattle.ffv1_hold.specs.declared.file_fault.HoldFileFault.TheVariants as faults
 use Rattle.ffv1_hold.specs.declared.version.Version.{Version}
 use Rattle.ffv1_hold.specs.FileFaults.{MayRead}
-use Rattle.ffv1_hold.specs.MergedStreams.{Inputs, inputs_read, IsFileOf, IsFileOfSome, WritesUnion, ReturnsUnion, BeginsWithHead, ReturnsOther, MergeRefuses, WritesNoEnd, WritesFrontSoFar, WritesAtMost, StaysInReadLimit}
+use Rattle.ffv1_hold.specs.MergedStreams.{Inputs, inputs_read, IsFileOf, IsFileOfSome, WritesUnion, ReturnsUnion, BeginsWithHead, ReturnsOther, MergeRefuses, LeftRefusesFirst, WritesNoEnd, WritesFrontSoFar, WritesAtMost, StaysInReadLimit}
 use Rattle.ffv1_hold.specs.MergeLogs.{Devices, MergeWent}
 
 -- the devices by their logs
@@ -32,6 +32,8 @@ pub record JoinsStreams (recordings : Recordings) (result : Result (Unit {0}) Ho
       → ReturnsOther result
   -- The bytes that were read show the fault, and it is the first: what was taken of the other input shows none.
   pub fault : IfErr result (MergeRefuses (inputs_of recordings old new))
+  -- Nothing of the right input is the fault before the left one's head was judged.
+  pub left_first : IfErr result (LeftRefusesFirst (inputs_of recordings old new))
   -- After `Write` no more was taken of an input that is a text than up to its read_limit: where the other one is a text too, with the
   -- digests of both.
   pub left_read_limit : (v : Version) (h : Contents) (beside : Option Contents) → IsFileOf old.left.remaining v h

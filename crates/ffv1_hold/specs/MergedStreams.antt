@@ -169,6 +169,11 @@ abbrev pub StreamBegins : Option (List ℕ) → List ℕ → Type 0
 StreamBegins None bytes = Unit {0}
 StreamBegins (Some input) bytes = (rest : List ℕ) × (input ≡ bytes ++ rest)
 
+-- The head of the left input is judged first: the left one is refused, or begins with a head.
+abbrev pub LeftRefusesFirst : Inputs → HoldFileFault → Type 0
+LeftRefusesFirst i f = InputRefuses i.recordings i.left_old i.left_new f
+    ⊎ ((v : Version) × (r : Reel) × IsFileReel i.recordings r × StreamBegins i.left_old (head_text v r))
+
 -- The input begins with the head and the entries of this holding.
 pub record BeginsWithPart (input : Option (List ℕ)) (h : Contents) : Type 0 where
   pub well_formed : IsHolding h

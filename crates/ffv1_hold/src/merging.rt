@@ -47,7 +47,7 @@ pub fn join_streams<R: Source, Q: Source, W: Sink>(
 /// Joins two holding files of these recordings as streams: reads both, as `read_holding` reads them, and writes the file of the union, of
 /// version 2.
 ///
-/// Both heads are read and judged before anything is written. Then the smaller of the inputs' next entries is
+/// Both heads are read and judged, the left one first, before anything is written. Then the smaller of the inputs' next entries is
 /// written, once where both have its slice, and then with the digests of both, and its input is read on: at most one
 /// entry of each input is held, and the next one is read over it, block after block, and compared with it. Returns `OtherReel` exactly if
 /// both heads were read and their record, width or height differ, before anything is written.

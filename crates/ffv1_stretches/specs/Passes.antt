@@ -1,5 +1,5 @@
 -- What one pass over copies makes of stretches (own).
-use Rattle.std.specs.Prelude.{ℕ, ◌≡◌, ◌+◌, ◌<◌, ◌≤◌, ◌⊎◌, Bool, List, [], ◌∷◌, ◌++◌, length, take, slice_index_or, zero, suc, Some, None, IfSome, Result, Ok, Err}
+use Rattle.std.specs.Prelude.{ℕ, ◌≡◌, ◌+◌, ◌<◌, ◌≤◌, Bool, List, [], ◌∷◌, ◌++◌, length, take, slice_index_or, zero, suc, Some, None, IfSome, Result, Ok, Err}
 use Rattle.std.specs.List.{AllZip, flat_map, list_all}
 use Rattle.ffv1_devices.specs.Logs.{ReadLog, WriteLog, Reads, Writes, StopsWriting}
 use Rattle.ffv1_devices.specs.Exact.{StopsReading}

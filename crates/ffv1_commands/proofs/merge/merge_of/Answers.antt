@@ -24,6 +24,7 @@ returns-in-Err-clause-reported g c =
       refl,
       record {
         shown = streams.fault;
+        first = streams.left_first;
         leaves = leaves_front _ _ _ c.in-Err.fault streams.no_end front;
         went = streams.went;
       },
