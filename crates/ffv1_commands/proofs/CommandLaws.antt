@@ -243,19 +243,19 @@ no_fault recordings h file of text has fault stops =
 module _ (recordings : Recordings) (config : List ℕ) (width height : ℕ) (reel : Reel) (copies : List (List ℕ)) (file original : List ℕ) (slices : List (List ℕ))
     (of_record : IsReelOf recordings config width height reel) (is : IsFileOf recordings config width height copies file)
     (is_original : IsOriginal reel.rules original slices) (are : AreCopiesOfSlices reel.rules slices copies) where
-  same_reel : reel ≡ is.reel
+  pub same_reel : reel ≡ is.reel
   same_reel = one_reel recordings config width height reel is.reel of_record is.of_record
 
-  is_reel : IsReel is.reel
+  pub is_reel : IsReel is.reel
   is_reel = subst IsReel (sym is.of_record.2) (reel_is recordings config width height is.of_record.0 is.of_record.1)
 
   is_taken : MayRead recordings is.reel.rules.is_profile
   is_taken = taken_reel recordings config width height is.reel is.of_record
 
-  exact : HoldsExactly (holding_of is.reel copies) slices
+  pub exact : HoldsExactly (holding_of is.reel copies) slices
   exact = exactly_held is.reel slices copies (subst (λ (r : Reel). AreCopiesOfSlices r.rules slices copies) same_reel are)
 
-  own : IsOriginal is.reel.rules original slices
+  pub own : IsOriginal is.reel.rules original slices
   own = subst (λ (r : Reel). IsOriginal r.rules original slices) same_reel is_original
 
   read : (h : Contents) → IsHoldingFile recordings (Some file) h → h ≡ holding_of is.reel copies

@@ -19,6 +19,7 @@ pub mod ReportSteps
 pub mod DecodeSteps
 pub mod PictureSteps
 pub mod CommandLaws
+pub mod AnyPictureLaws
 pub mod SmallCommandLaws
 pub mod SpliceCommandLaws
 pub mod WholeFrames

@@ -27,6 +27,7 @@ pub mod ScanText
 pub mod CheckText
 pub mod MendText
 pub mod Commands
+pub mod AnyPictureLaws
 pub mod SmallCommands
 pub mod SpliceLaws
 pub mod MendLaws

@@ -1,5 +1,6 @@
 //! The way from copies to a frame or a file by commands, whatever their order (own), as contracts of functions that do nothing.
 ghost use Rattle.ffv1_commands.specs.Commands.{MadeOfCopies, SameCopiesMakeOneFile, SameCopiesMakeOneHolding, SameCopiesMakeOneReport, CommandsRestoreTheOriginal, CommandsRestoreNearCopies, CommandsShowTheOriginal, CommandsShowNearCopies};
+ghost use Rattle.ffv1_commands.specs.AnyPictureLaws.{AnyPictureShowsTheOriginal, AnyPictureShowsNearCopies, AnyPictureShowsTheKeyframe};
 ghost use Rattle.ffv1_commands.specs.SmallCommands.{CommandsRestoreByAFunction};
 ghost use Rattle.ffv1_commands.specs.MendLaws.{ListedIsMade, AnyOrderMakesOneFile, TrueIsVouched, MendGivesTheOriginal};
 ghost use Rattle.ffv1_commands.specs.UnreadLaws.{UnreadIsGivenUp, LongCopyIsGivenUp};
@@ -26,6 +27,18 @@ pub fn commands_restore_the_original()
     ensures near { CommandsRestoreNearCopies }
     ensures shows { CommandsShowTheOriginal }
     ensures shows_near { CommandsShowNearCopies }
+{}
+
+/// Whatever trees of `take --any`, `join --any` and `merge --any` lead from copies to a holding file, for one record and size: where every slice
+/// found in the copies is the original's for its tile, and each tile's is found in some copy, `picture --any` of the file writes the samples of
+/// just the pictures that the original's slices have as those of a keyframe, and of none if the first says that the frame is no keyframe; or it
+/// is refused because reading, writing or memory failed. It returns whether each slice has a picture and ends as an encoder ends it. So it is
+/// of near copies, with each slice intact in one of them. Where `Player::decode` of the original after no frame gives a frame, the samples
+/// written are that frame's.
+pub fn any_picture_shows_the_original()
+    ensures original { AnyPictureShowsTheOriginal }
+    ensures near { AnyPictureShowsNearCopies }
+    ensures keyframe { AnyPictureShowsTheKeyframe }
 {}
 
 /// Of a record and a size some function gives contents their tiles, and there is a number of tiles, such that whatever trees of `take`, `join`

@@ -18,7 +18,7 @@ recording_size : (config : List ℕ) (width height : ℕ) (r : RecordingValue) �
 recording_size config width height r h = (ap (λ (z : RecordingValue). z.setup.width) h.is, ap (λ (z : RecordingValue). z.setup.height) h.is)
 
 -- what a record says is so at its own size
-own_size : (config : List ℕ) (width height : ℕ) (r : RecordingValue) → IsScopedRecord config Parities width height r
+pub own_size : (config : List ℕ) (width height : ℕ) (r : RecordingValue) → IsScopedRecord config Parities width height r
     → IsScopedRecord config Parities r.setup.width r.setup.height r
 own_size config width height r is =
     let size = recording_size config width height r is in

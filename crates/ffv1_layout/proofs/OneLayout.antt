@@ -17,7 +17,7 @@ use Rattle.ffv1_layout.specs.declared.fault.LayoutFault.TheVariants.{Chain, Slic
 
 -- ---- one cut
 
-one_cut : (footer : ℕ) (payload : List ℕ) (q : ℕ) (xs ys : List (List ℕ)) → 3 ≤ footer → AreCutAt footer payload q xs → AreCutAt footer payload q ys → xs ≡ ys
+pub one_cut : (footer : ℕ) (payload : List ℕ) (q : ℕ) (xs ys : List (List ℕ)) → 3 ≤ footer → AreCutAt footer payload q xs → AreCutAt footer payload q ys → xs ≡ ys
 one_cut footer payload q xs ys some (no_slice at_start none) (no_slice at_start' none') = none ∙ sym none'
 one_cut footer payload q xs ys some (no_slice at_start none) (one_slice p others gives are before) = absurd (omega arith)
 one_cut footer payload q xs ys some (one_slice p others gives are before) (no_slice at_start none) = absurd (omega arith)

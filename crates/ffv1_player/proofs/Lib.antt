@@ -12,3 +12,5 @@ pub mod TileLayouts
 pub mod ProfileFrames
 pub mod Showing
 pub mod OneShown
+pub mod ShownSlices
+pub mod PlayedSlices

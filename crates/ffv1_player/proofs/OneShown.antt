@@ -14,10 +14,11 @@ use Rattle.ffv1_holding.specs.TileState.{StateOfTile, missing, settled, disputed
 use Rattle.ffv1_samples.specs.States.{count_of_planes}
 use Rattle.ffv1_samples.specs.Slices.{SlicePictureValue, IsSamePicture}
 use Rattle.ffv1_samples.proofs.OnePicture.{one_slice_picture}
-use Rattle.ffv1_samples.proofs.Refusals.{refused_has_no_picture}
+use Rattle.ffv1_samples.proofs.Refusals.{refused_has_no_picture, refused_for_one}
 use Rattle.ffv1_player.specs.Patches.{patched_plane}
 use Rattle.ffv1_player.specs.Frames.{frame_in, patch_in, frame_planes, slice_end_of, IsFrameOfSlices}
-use Rattle.ffv1_player.specs.Shown.{MayBeByTile, IsShownSlice, IsShownTile, IsShownPicture, IsTilePicture, AreShownPictures, present, ShowsEachTile, ShowsHolding}
+use Rattle.ffv1_player.specs.Shown.{SaysRecording, MayBeByTile, IsShownSlice, IsShownTile, IsShownPicture, IsTilePicture, AreShownPictures, present, ShowsEachTile, ShowsHolding}
+use Rattle.ffv1_player.specs.Alone.{IsSameOption, ComesOutAlike}
 use Rattle.ffv1_player.specs.declared.samples.Samples.{Samples}
 use Rattle.ffv1_player.specs.declared.shown.Shown.{Shown}
 use Rattle.ffv1_player.specs.declared.shown.ShownTile.{ShownTile}
@@ -25,12 +26,6 @@ use Rattle.ffv1_player.specs.declared.shown.ShownTile.TheVariants.{Decoded, Miss
 use Rattle.ffv1_player.proofs.OneFrame.{patch_same, end_same}
 
 -- ---- one picture a tile
-
--- no picture, or one and the same
-abbrev IsSameOption : RecordingValue → Option SlicePictureValue → Option SlicePictureValue → Type 0
-IsSameOption r None None = Unit {0}
-IsSameOption r (Some picture) (Some other) = IsSamePicture r picture other
-IsSameOption r picture other = ⊥
 
 both_none : (r : RecordingValue) (a b : Option SlicePictureValue) → a ≡ None → b ≡ None → IsSameOption r a b
 both_none r a b one other = subst (λ o. IsSameOption r o b) (sym one) (subst (IsSameOption r None) (sym other) tt)
@@ -64,6 +59,33 @@ module _ (r : RecordingValue) (version : IsInVersion3 r) (tile : ℕ) where
   one_picture true (settled slice) a b one other = same_of_slice slice a b one other
   one_picture false (settled slice) a b one other = both_none r a b one other
   one_picture key (disputed n) a b one other = both_none r a b one other
+
+  -- ---- one outcome a tile
+
+  slice_outcome : (key : Bool) (slice : List ℕ) (a b : ShownTile) (p q : Option SlicePictureValue) → IsShownSlice r key tile slice a p
+      → IsShownSlice r key tile slice b q → a ≡ b
+  slice_outcome true slice (Decoded end) (Decoded other) (Some p) (Some q) one more =
+      ap Decoded (one.1 ∙ end_same r p q (one_slice_picture r (content_of slice) (tile == 0) None p q version (λ header start is. tt) one.0 more.0) ∙ sym more.1)
+  slice_outcome true slice (Decoded end) (Fault cause) (Some p) None one more =
+      absurd (refused_has_no_picture r (content_of slice) (tile == 0) None cause p version (λ header start is. tt) more one.0)
+  slice_outcome true slice (Fault cause) (Decoded end) None (Some q) one more =
+      absurd (refused_has_no_picture r (content_of slice) (tile == 0) None cause q version (λ header start is. tt) one more.0)
+  slice_outcome true slice (Fault cause) (Fault other) None None one more =
+      ap Fault (refused_for_one r (content_of slice) (tile == 0) None cause other version (λ header start is. tt) one more)
+  slice_outcome false slice NoKeyframe NoKeyframe None None one more = refl
+  slice_outcome true slice (Decoded end) b (Some p) q one more = absurd more
+  slice_outcome true slice (Fault cause) b None q one more = absurd more
+  slice_outcome false slice NoKeyframe b None q one more = absurd more
+  slice_outcome key slice a b p q one more = absurd one
+
+  one_outcome : (key : Bool) (state : StateOfTile) (a b : ShownTile) (p q : Option SlicePictureValue) → IsShownTile r key tile state a p
+      → IsShownTile r key tile state b q → a ≡ b
+  one_outcome key missing Missing Missing None None one more = refl
+  one_outcome key (settled slice) a b p q one more = slice_outcome key slice a b p q one more
+  one_outcome key (disputed n) (Disputed slices) (Disputed others) None None one more = ap Disputed (one ∙ sym more)
+  one_outcome key missing Missing b None q one more = absurd more
+  one_outcome key (disputed n) (Disputed slices) b None q one more = absurd more
+  one_outcome key state a b p q one more = absurd one
 
 -- a frame may be a keyframe, or not
 one_key : (r : RecordingValue) (state : StateOfTile) (a b : Bool) → MayBeByTile r state a → MayBeByTile r state b → a ≡ b
@@ -101,7 +123,7 @@ module _ (r : RecordingValue) where
         ap (λ (f : ℕ → List ℕ). map f (range_with_len 0 (count_of_planes r)))
         (fun_ext λ p. ap (patched_plane (2 ^ (r.depth - 1)) (frame_in r p).w (frame_in r p).h) (present_same (patch_in r p) (patch_same r p) xs ys long each))
 
-    frame_same : (frame : Samples) → IsFrameOfSlices r key (present xs) frame → IsFrameOfSlices r key (present ys) frame
+    pub frame_same : (frame : Samples) → IsFrameOfSlices r key (present xs) frame → IsFrameOfSlices r key (present ys) frame
     frame_same frame is = record {
       width = is.width;
       height = is.height;
@@ -142,3 +164,35 @@ module _ (h : Contents) (r : RecordingValue) (key : Bool) (pictures : List (Opti
   pub result_is_whole : (result : Result Shown AllocError) → IfOk result (ShowsHolding h) → IfOk result (λ shown. IsFrameOfSlices r key (present pictures) shown.samples)
   result_is_whole (Ok shown) shows = whole_frame shown shows
   result_is_whole (Err error) shows = tt
+
+-- ---- two holdings
+
+module _ (g h : Contents) (tile : ℕ) (reel : g.reel ≡ h.reel) (inside : tile < reel_tiles h.reel) (stands : tile_state g tile ≡ tile_state h tile) where
+  in_other : tile < reel_tiles g.reel
+  in_other = subst (λ z. tile < reel_tiles z) (sym reel) inside
+
+  same_outcome : (shown other : Shown) → ShowsHolding g shown → ShowsHolding h other → shown.samples.key ≡ other.samples.key
+      → get_or shown.tiles.items tile Missing ≡ get_or other.tiles.items tile Missing
+  same_outcome shown other one more keys =
+      let r = more.recording in
+      let same : one.recording ≡ r =
+      record_is_one h.reel.config Parities h.reel.setup.width h.reel.setup.height one.recording r (subst (λ z. SaysRecording z one.recording) reel one.says)
+      more.says in
+      let same_key : one.key ≡ more.key = sym one.shows.is_frame.is_key ∙ keys ∙ more.shows.is_frame.is_key in
+      let a = get_or shown.tiles.items tile Missing in
+      let p = get_or one.shows.pictures tile None in
+      let version = record_in_version_3 h.reel.config Parities h.reel.setup.width h.reel.setup.height r more.says in
+      one_outcome r version tile more.key (tile_state h tile) a (get_or other.tiles.items tile Missing) p (get_or more.shows.pictures tile None)
+      (subst (λ z. IsShownTile z more.key tile (tile_state h tile) a p) same
+      (subst (λ k. IsShownTile one.recording k tile (tile_state h tile) a p) same_key
+      (subst (λ s. IsShownTile one.recording one.key tile s a p) stands (one.shows.each tile in_other))))
+      (more.shows.each tile inside)
+
+  same_tile_picture : (r : RecordingValue) (key : Bool) (pictures others : List (Option SlicePictureValue)) → AreShownPictures g r key pictures
+      → AreShownPictures h r key others → IsSameOption r (get_or pictures tile None) (get_or others tile None)
+  same_tile_picture r key pictures others are more =
+      one_picture r (record_in_version_3 h.reel.config Parities h.reel.setup.width h.reel.setup.height r more.says) tile key (tile_state h tile) _ _
+      (subst (λ s. IsTilePicture r key tile s (get_or pictures tile None)) stands (are.each tile in_other)) (more.each tile inside)
+
+  pub tile_shown_alike : ComesOutAlike g h tile
+  tile_shown_alike = record { outcome = same_outcome; picture = same_tile_picture }

@@ -36,7 +36,7 @@ use Rattle.ffv1_player.proofs.TilePlanes.{IsPictureAt, planes_are}
 ends_vec : (v : Vec (Vec ℕ Global) Global) (ends : List SliceEnd) → length ends < 2 ^ 63 → Vec SliceEnd Global
 ends_vec v ends small = record { ptr = v.ptr; len = length ends; cap = length ends; alloc = v.alloc; items = ends; ok = (refl, omega arith); small = small }
 
-no_picture : SlicePictureValue
+pub no_picture : SlicePictureValue
 no_picture = record { header = no_header; planes = []; spare_bits = 0; is_clean = false; states = rice_states (record { luma = []; chroma = []; alpha = [] }) }
 
 module _ (r : RecordingValue) (profile : IsOfProfile r) (payload : List ℕ) (frame : Frame) (h : IsDecodedFrame r.setup payload frame) where

@@ -5,6 +5,9 @@ pub mod Fitting
 pub mod Players
 pub mod Written
 pub mod Shown
+pub mod Alone
+pub mod ShownSlices
+pub mod PlayedSlices
 pub mod Profile
 pub mod Laws
 pub mod Inner

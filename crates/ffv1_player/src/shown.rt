@@ -7,6 +7,8 @@ ghost use Rattle.ffv1_holding.specs.TileState.{tile_state};
 ghost use Rattle.ffv1_samples.specs.Slices.{SlicePictureValue, slice_picture_value};
 ghost use Rattle.ffv1_player.specs.Frames.{planes_of_samples, slice_end_of, IsFrameOfSlices};
 ghost use Rattle.ffv1_player.specs.Shown.{ShowsHolding, AreShownPictures, MayBeKeyframe, is_key_known, present};
+ghost use Rattle.ffv1_player.specs.Alone.{TilesAreShownAlone};
+ghost use Rattle.ffv1_player.specs.PlayedSlices.{KeyframeIsShown};
 ghost use Rattle.ffv1_player.specs.Inner.Drawing.{AreFramePlanes, AreSlicePlanes, IsInGrid};
 ghost use Rattle.ffv1_player.specs.Inner.Showing.{HeadSaysNoKeyframe, IsRecordingOfReel, Adds, ShowsSlice, ShowsOneTile};
 
@@ -60,6 +62,18 @@ pub fn show_holding<S: Recorded>(alloc: Global, holding: &Holding<S>) -> Result<
     let recording = recording_of(alloc, holding)?;
     show_tiles(alloc, &recording, holding)
 }
+
+/// A tile is shown by how it stands, and by whether the frame may be a keyframe: in two holdings of one recording that agree on these it has one
+/// outcome and one picture, whatever they hold of other tiles.
+pub fn tiles_are_shown_alone()
+    ensures { TilesAreShownAlone }
+{}
+
+/// Where what is shown is of the slices of a payload, one of each tile in the order of the tiles, and the payload is a frame to a player after
+/// none, and so a keyframe: the samples that are shown are that frame's, and each tile is decoded and ends as its slice does.
+pub fn keyframe_is_shown()
+    ensures { KeyframeIsShown }
+{}
 
 /// What can be shown of a holding, by what its record says.
 fn show_tiles<S: Recorded>(
