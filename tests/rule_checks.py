@@ -224,6 +224,16 @@ def undamaged_copies_that_differ_are_in_doubt(kit: Kit) -> Checks:
         yield from in_each_order(recording, "sound of which nothing says which is right", copies, partial(is_one_in_doubt, known=copies))
 
 
+@of_rule(2)
+def a_copy_that_ends_early_has_a_say(kit: Kit) -> Checks:
+    """A byte that nothing checks is wrong in a file in which a check finds no damage, and right in one whose end is lost."""
+    for name, before in (("matroska-plain", b"Lavf"), ("avi", b"JUNK"), ("mov", b"ftypqt  ")):
+        recording = kit.recording(name)
+        wrong = small.inverted(recording.content, recording.content.index(before) + 8)
+        copies = [wrong, recording.content[: len(recording.content) * 2 // 3]]
+        yield from in_each_order(recording, "a wrong byte that nothing checks beside the end lost", copies, partial(is_one_in_doubt, known=[wrong]))
+
+
 def is_one_in_doubt(desk: Desk, contents: typing.Sequence[bytes], known: typing.Sequence[bytes]) -> Problems:
     """That OUT is one of some files, and that it is said that the copies differ."""
     found = desk.mend(contents, "bin")

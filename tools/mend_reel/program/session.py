@@ -339,10 +339,21 @@ class Session:
         """Whether a copy's own parts say that bytes were lost from it or put into it."""
         return self.is_disordered(copy) or any(found.flaw is Flaw.CUT for found in flaws_of(copy, copy.form, self.layout_of(copy)))
 
-    def is_broken(self, copy: Copy, good: int) -> bool:
-        """Whether the parts of a copy do not hang together, or lead to other frames than those of an undamaged copy of its file."""
-        return self.is_disordered(copy) or any((one.place, one.size) != (other.place, other.size) for one, other in zip(
-            self.layout_of(copy).frames, self.layout_of(self.copies[good]).frames))
+    def ends_early(self, copy: Copy, good: Copy) -> bool:
+        """Whether a copy is shorter than an undamaged one of its file, and its parts hang together as far as it goes."""
+        layout = self.layout_of(copy)
+        return copy.size < good.size and all(place + size >= copy.size for place, size in layout.gaps) and all(
+            found.flaw in NO_DISORDER or found.flaw is Flaw.INDEX or found.end >= copy.size for found in flaws_of(copy, copy.form, layout))
+
+    def is_broken(self, copy: Copy, number: int) -> bool:
+        """Whether the parts of a copy do not hang together, or lead to other frames than those of an undamaged copy of its file, by that one's
+        number. What an early end takes away is neither."""
+        good = self.copies[number]
+        is_early = bool(by_start(copy)) and self.ends_early(copy, good)
+        pairs = () if self.is_disordered(copy) and not is_early else zip(self.layout_of(copy).frames, self.layout_of(good).frames)
+        leads_elsewhere = any((one.place, one.size) != (other.place, other.size) for one, other in pairs
+                              if not is_early or one.place + one.size < copy.size)
+        return self.is_disordered(copy) and not is_early or leads_elsewhere
 
     def shorter(self, arrangement: Arrangement) -> Iterator[Reason]:
         """Where a shorter copy of its file, whose parts are all there and hang together, shows fewer frames than an undamaged OUT: bytes may have
