@@ -1,10 +1,13 @@
 -- `picture --any` shows just the original's slices.
-use Rattle.std.proofs.Common.{◌≡◌, ℕ, true, List, [], ◌∷◌, map, Vec, Global, Option, Some, sym, ap, subst, ◌∙◌}
+use Rattle.std.proofs.Common.{◌≡◌, ℕ, suc, ◌++◌, true, List, [], ◌∷◌, map, Vec, Global, Option, Some, refl, sym, ap, subst, ◌∙◌}
 use Rattle.std.specs.Prelude.{All}
 use Rattle.std.specs.List.{flat_map}
 use Rattle.std.specs.Io.KnownBytes.{Appends}
+use Rattle.std.proofs.Math.Nat.{mod-eq_of_lt}
+use Rattle.std.proofs.lemmas.Grind.{flat_map-append}
 use Rattle.std.proofs.lemmas.List.Folds.{flat_map-map}
 use Rattle.std.proofs.lemmas.List.Elements.{All-nil, All-cons, All-head, All-tail, All-map}
+use Rattle.ffv1_bits.specs.Parity.{AreBytes}
 use Rattle.ffv1_range.specs.declared.scope.Scope.TheVariants.{Version3}
 use Rattle.ffv1_range.proofs.SetupLaws.{record_is_one, parities_are_wider}
 use Rattle.ffv1_slice.specs.Slices.{IsOriginal}
@@ -15,17 +18,20 @@ use Rattle.ffv1_holding.specs.declared.recordings.Recordings.TheVariants.{Any}
 use Rattle.ffv1_holding.proofs.Reels.{own_size, has_parities}
 use Rattle.ffv1_holding.proofs.ExactlyHeld.{near_are_copies}
 use Rattle.ffv1_hold.specs.Headline.{IsReelOf}
+use Rattle.ffv1_hold.proofs.TextLaws.{one_text}
+use Rattle.ffv1_picture.specs.Frames.{planes_of}
 use Rattle.ffv1_player.specs.Frames.{planes_of_samples, IsSameFrame}
 use Rattle.ffv1_player.specs.Shown.{SaysRecording, ShowsHolding}
 use Rattle.ffv1_player.specs.ShownSlices.{ShowsEachSlice}
-use Rattle.ffv1_player.specs.Written.{plane_bytes, samples_bytes}
+use Rattle.ffv1_player.specs.Written.{sample_bytes, plane_bytes, samples_bytes}
 use Rattle.ffv1_player.specs.declared.samples.Samples.{Samples}
 use Rattle.ffv1_player.specs.declared.samples.SliceEnd.{SliceEnd}
 use Rattle.ffv1_player.specs.declared.shown.ShownTile.TheVariants.{Decoded}
 use Rattle.ffv1_player.proofs.ShownSlices as shown_slices
 use Rattle.ffv1_player.proofs.PlayedSlices.{keyframe_is_shown}
+use Rattle.ffv1_player.proofs.ProfilePictures.{profile_is_shown_alike}
 use Rattle.ffv1_commands.specs.AnyPictureText.{IsShownWhole, AnyPictureStops}
-use Rattle.ffv1_commands.specs.AnyPictureLaws.{ShowsAnyOnly, AnyPictureShowsTheOriginal, AnyPictureShowsNearCopies, AnyPictureShowsTheKeyframe}
+use Rattle.ffv1_commands.specs.AnyPictureLaws.{ShowsAnyOnly, AnyPictureShowsTheOriginal, AnyPictureShowsNearCopies, AnyPictureShowsTheKeyframe, PicturesAreAlike}
 use Rattle.ffv1_commands.specs.Commands.{IsNoFaultOfBytes}
 use Rattle.ffv1_commands.specs.declared.fault.CliFault.{CliFault}
 use Rattle.ffv1_commands.specs.declared.fault.CliFault.TheVariants as faults
@@ -106,3 +112,32 @@ any_picture_shows_the_keyframe config width height reel copies file original sli
         λ clean. written.3.1 (subst (All IsShownWhole) (sym shown.ends) (All-map IsShownWhole Decoded frame.slices.items clean)),
       ),
     )
+
+-- ---- of the profile
+
+-- at depth 8 a sample is its byte
+bytes_kept : (samples : List ℕ) → AreBytes samples → plane_bytes 8 samples ≡ samples
+bytes_kept [] are = refl
+bytes_kept (sample ∷ samples) are =
+    ap (λ byte. byte ∷ plane_bytes 8 samples) (mod-eq_of_lt (are 0)) ∙ ap (λ more. sample ∷ more) (bytes_kept samples (λ i. are (suc i)))
+
+-- so are planes, one after the other
+planes_joined : (planes : List (List ℕ)) → flat_map (plane_bytes 8) planes ≡ plane_bytes 8 (flat_map (λ plane. plane) planes)
+planes_joined [] = refl
+planes_joined (plane ∷ planes) =
+    ap (λ more. plane_bytes 8 plane ++ more) (planes_joined planes) ∙ sym (flat_map-append (sample_bytes 8) plane (flat_map (λ plane. plane) planes))
+
+raw_planes : (planes : List (Vec ℕ Global)) → flat_map (λ plane. plane.items) planes ≡ flat_map (λ plane. plane) (map (λ plane. plane.items) planes)
+raw_planes planes = sym (flat_map-map (λ (plane : List ℕ). plane) (λ (plane : Vec ℕ Global). plane.items) planes)
+
+pub pictures_are_alike : PicturesAreAlike
+pictures_are_alike file one other pb pa mb ma whole all are a b =
+    let same : b.held ≡ a.held = one_text b.held a.held file b.file.well_formed a.file.well_formed b.file.fits.record' a.file.fits.record'
+    (b.file.version, b.file.fits.stated, b.file.text) (a.file.version, a.file.fits.stated, a.file.text) in
+    let shown = subst (λ (h : Contents). ShowsHolding h b.shown) same b.picture in
+    let alike = profile_is_shown_alike a.held a.shown b.shown a.file.well_formed a.file.taken a.picture shown in
+    let raw : one ≡ flat_map (λ plane. plane) (planes_of a.shown.frame) = a.samples ∙ raw_planes a.shown.frame.planes.items in
+    let bytes = bytes_of_planes b.shown.samples.depth b.shown.samples.planes.items
+    ∙ ap (λ depth. flat_map (plane_bytes depth) (planes_of_samples b.shown.samples)) alike.0
+    ∙ ap (flat_map (plane_bytes 8)) alike.1 ∙ planes_joined (planes_of a.shown.frame) in
+    sym (b.samples ∙ bytes ∙ ap (plane_bytes 8) (sym raw) ∙ bytes_kept one are)

@@ -1,6 +1,7 @@
 -- What `picture --any` shows of a file that commands made of copies of an original: just the original's slices.
-use Rattle.std.specs.Prelude.{ℕ, ◌≡◌, ◌↔◌, Bool, true, IsTrue, All, List, Option, None, Some}
+use Rattle.std.specs.Prelude.{ℕ, ◌≡◌, ◌↔◌, Bool, true, IsTrue, All, List, [], Option, None, Some}
 use Rattle.std.specs.Io.KnownBytes.{Appends}
+use Rattle.ffv1_bits.specs.Parity.{AreBytes}
 use Rattle.ffv1_range.specs.Setup.{RecordingValue, IsRecordingOf}
 use Rattle.ffv1_slice.specs.Slices.{IsOriginal}
 use Rattle.ffv1_holding.specs.Reels.{Reel}
@@ -13,6 +14,7 @@ use Rattle.ffv1_player.specs.Written.{samples_bytes}
 use Rattle.ffv1_player.specs.declared.samples.Samples.{Samples}
 use Rattle.ffv1_player.specs.declared.shown.Shown.{Shown}
 use Rattle.ffv1_commands.specs.AnyPictureText.{shown_samples, IsWholeShown, ShowsAnyFile, AnyPictureStops}
+use Rattle.ffv1_commands.specs.PictureText.{ShowsFile}
 use Rattle.ffv1_commands.specs.Commands.{IsMadeOf, IsNoFaultOfBytes}
 use Rattle.ffv1_commands.specs.declared.fault.CliFault.{CliFault}
 
@@ -56,3 +58,10 @@ AnyPictureShowsTheKeyframe =
     → (out_before out_after printed_before printed_after : Option (List ℕ)) (whole : Bool)
     → ShowsAnyFile (Some file) out_before out_after printed_before printed_after whole
     → Appends out_before out_after (samples_bytes frame) × (IsTrue whole ↔ All (λ end. end.is_clean ≡ true) frame.slices.items)
+
+-- Of one holding file of the profile `picture` and `picture --any` write the same bytes.
+abbrev pub PicturesAreAlike : Type 0
+PicturesAreAlike =
+    (file one other : List ℕ) (printed_before printed_after more_before more_after : Option (List ℕ)) (whole all : Bool) → AreBytes one
+    → ShowsFile (Some file) (Some []) (Some one) printed_before printed_after whole
+    → ShowsAnyFile (Some file) (Some []) (Some other) more_before more_after all → one ≡ other

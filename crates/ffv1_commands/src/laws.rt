@@ -1,6 +1,6 @@
 //! The way from copies to a frame or a file by commands, whatever their order (own), as contracts of functions that do nothing.
 ghost use Rattle.ffv1_commands.specs.Commands.{MadeOfCopies, SameCopiesMakeOneFile, SameCopiesMakeOneHolding, SameCopiesMakeOneReport, CommandsRestoreTheOriginal, CommandsRestoreNearCopies, CommandsShowTheOriginal, CommandsShowNearCopies};
-ghost use Rattle.ffv1_commands.specs.AnyPictureLaws.{AnyPictureShowsTheOriginal, AnyPictureShowsNearCopies, AnyPictureShowsTheKeyframe};
+ghost use Rattle.ffv1_commands.specs.AnyPictureLaws.{AnyPictureShowsTheOriginal, AnyPictureShowsNearCopies, AnyPictureShowsTheKeyframe, PicturesAreAlike};
 ghost use Rattle.ffv1_commands.specs.SmallCommands.{CommandsRestoreByAFunction};
 ghost use Rattle.ffv1_commands.specs.MendLaws.{ListedIsMade, AnyOrderMakesOneFile, TrueIsVouched, MendGivesTheOriginal};
 ghost use Rattle.ffv1_commands.specs.UnreadLaws.{UnreadIsGivenUp, LongCopyIsGivenUp};
@@ -39,6 +39,11 @@ pub fn any_picture_shows_the_original()
     ensures original { AnyPictureShowsTheOriginal }
     ensures near { AnyPictureShowsNearCopies }
     ensures keyframe { AnyPictureShowsTheKeyframe }
+{}
+
+/// Of one holding file of the profile `picture` and `picture --any` write the same bytes: each tile that the one shows the other shows too.
+pub fn pictures_are_alike()
+    ensures { PicturesAreAlike }
 {}
 
 /// Of a record and a size some function gives contents their tiles, and there is a number of tiles, such that whatever trees of `take`, `join`

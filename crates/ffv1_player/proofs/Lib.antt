@@ -13,4 +13,5 @@ pub mod ProfileFrames
 pub mod Showing
 pub mod OneShown
 pub mod ShownSlices
+pub mod ProfilePictures
 pub mod PlayedSlices

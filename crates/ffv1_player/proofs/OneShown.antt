@@ -39,12 +39,12 @@ module _ (r : RecordingValue) (version : IsInVersion3 r) (tile : ℕ) where
   shown_slice false slice NoKeyframe None shown = refl
   shown_slice key slice outcome picture shown = absurd shown
 
-  shown_picture : (key : Bool) (state : StateOfTile) (outcome : ShownTile) (picture : Option SlicePictureValue) → IsShownTile r key tile state outcome picture
+  pub picture_shown : (key : Bool) (state : StateOfTile) (outcome : ShownTile) (picture : Option SlicePictureValue) → IsShownTile r key tile state outcome picture
       → IsTilePicture r key tile state picture
-  shown_picture key missing Missing None shown = refl
-  shown_picture key (settled slice) outcome picture shown = shown_slice key slice outcome picture shown
-  shown_picture key (disputed n) (Disputed slices) None shown = refl
-  shown_picture key state outcome picture shown = absurd shown
+  picture_shown key missing Missing None shown = refl
+  picture_shown key (settled slice) outcome picture shown = shown_slice key slice outcome picture shown
+  picture_shown key (disputed n) (Disputed slices) None shown = refl
+  picture_shown key state outcome picture shown = absurd shown
 
   same_of_slice : (slice : List ℕ) (a b : Option SlicePictureValue) → IsShownPicture r tile slice a → IsShownPicture r tile slice b → IsSameOption r a b
   same_of_slice slice (Some a) (Some b) one other =
@@ -147,7 +147,7 @@ module _ (h : Contents) (r : RecordingValue) (key : Bool) (pictures : List (Opti
       (λ tile less.
       let inside : tile < reel_tiles h.reel = omega (arith, less, shows.count) in
       one_picture r version tile key (tile_state h tile) _ _
-      (shown_picture r version tile key (tile_state h tile) (get_or outcomes tile Missing) (get_or shows.pictures tile None) (shows.each tile inside))
+      (picture_shown r version tile key (tile_state h tile) (get_or outcomes tile Missing) (get_or shows.pictures tile None) (shows.each tile inside))
       (are.each tile inside))
       frame shows.is_frame
 

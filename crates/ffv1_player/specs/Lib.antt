@@ -9,5 +9,6 @@ pub mod Alone
 pub mod ShownSlices
 pub mod PlayedSlices
 pub mod Profile
+pub mod ProfilePictures
 pub mod Laws
 pub mod Inner

@@ -9,6 +9,7 @@ ghost use Rattle.ffv1_player.specs.Frames.{planes_of_samples, slice_end_of, IsFr
 ghost use Rattle.ffv1_player.specs.Shown.{ShowsHolding, AreShownPictures, MayBeKeyframe, is_key_known, present};
 ghost use Rattle.ffv1_player.specs.Alone.{TilesAreShownAlone};
 ghost use Rattle.ffv1_player.specs.PlayedSlices.{KeyframeIsShown};
+ghost use Rattle.ffv1_player.specs.ProfilePictures.{ProfileIsShownAlike};
 ghost use Rattle.ffv1_player.specs.Inner.Drawing.{AreFramePlanes, AreSlicePlanes, IsInGrid};
 ghost use Rattle.ffv1_player.specs.Inner.Showing.{HeadSaysNoKeyframe, IsRecordingOfReel, Adds, ShowsSlice, ShowsOneTile};
 
@@ -67,6 +68,11 @@ pub fn show_holding<S: Recorded>(alloc: Global, holding: &Holding<S>) -> Result<
 /// outcome and one picture, whatever they hold of other tiles.
 pub fn tiles_are_shown_alone()
     ensures { TilesAreShownAlone }
+{}
+
+/// What is shown of a holding of the profile has the same samples as its picture by `Decoder::picture` of `ffv1_picture`.
+pub fn profile_is_shown_alike()
+    ensures { ProfileIsShownAlike }
 {}
 
 /// Where what is shown is of the slices of a payload, one of each tile in the order of the tiles, and the payload is a frame to a player after
