@@ -311,6 +311,25 @@ def add_pictures(cases):
         cases.add(f"picture-of-{name}", "picture --any hold OUT", hold, made, status, printed)
 
 
+# ---- slices that do not stand in the order of their tiles
+
+
+def add_orders(cases):
+    """Copies with two slices exchanged, and with one that stands there twice: said with --any, and held in the order of the tiles."""
+    for name, frame, sides in ((PROFILE, "frame-0", "48 32"), ("ya8-32x24-4-slices", "frame-0", "32 24")):
+        record, payload = ((TESTS / "real" / name / part).read_bytes() for part in ("record", frame))
+        first, second, third, last = (piece for _, piece in reversed(readings.links(payload)[0]))
+        size = tuple(map(int, sides.split()))
+        for order, pieces in (("exchanged", [first, third, second, last]), ("repeated", [first, second, second, third, last])):
+            text, lines = any_holdings.took(record, size, [b"".join(pieces), payload])
+            assert lines.decode().split("\n")[0].endswith(" unordered") and any_holdings.restored(text)[0] == payload
+            inputs = {"record": f"from real/{name}/record", "a": said(b"".join(pieces)), "b": f"from real/{name}/{frame}"}
+            cases.add(f"take-of-{name}-{order}", f"take --any record {sides} OUT a b", inputs, f"sha256 {hashlib.sha256(text).hexdigest()}", 3, lines)
+            if name == PROFILE:
+                cases.add(f"profile-take-{order}", f"take record {sides} OUT a b", inputs, f"sha256 {hashlib.sha256(text).hexdigest()}",
+                          stdout=any_holdings.took(record, size, [b"".join(pieces), payload], False)[1])
+
+
 # ---- what is refused
 
 
@@ -390,7 +409,7 @@ def made():
     cases = Cases()
     for name, frame in RECORDED:
         add_recorded(cases, name, frame)
-    for add in (add_without, add_profile, add_mixed, add_magics, add_entries, add_pictures, add_records, add_words):
+    for add in (add_without, add_profile, add_mixed, add_magics, add_entries, add_pictures, add_orders, add_records, add_words):
         add(cases)
     return {"cases/any": "\n".join(sorted(cases.text)).encode(), **cases.files}
 

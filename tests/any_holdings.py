@@ -51,6 +51,13 @@ def found_slices(recording, payload):
     return [each for each in found if each[0] is not None]
 
 
+# FORMAT: Slices of a payload
+def is_in_order(recording, payload):
+    """Whether the tiles of the slices found in a payload rise from its start, no two being one."""
+    tiles = [tile for tile, _ in reversed(found_slices(recording, payload))]
+    return all(one < next_one for one, next_one in zip(tiles, tiles[1:]))
+
+
 # FORMAT: Holdings
 def taken(recording, payload):
     """What a copy adds to a holding: the slices found in it, each with its tile and the copy's digest."""
@@ -96,9 +103,17 @@ def took(record, size, payloads, is_any=True):
     recording, held, lines = recording_of(record, size, is_any), {}, ""
     for number, payload in enumerate(payloads, 1):
         found = taken(recording, payload)
-        lines += f"copy {number} links {len(readings.links(payload)[0])} slices {len(found_slices(recording, payload))} new {len(set(found) - set(held))}\n"
+        word = " unordered" if is_any and not is_in_order(recording, payload) else ""
+        slices, new = len(found_slices(recording, payload)), len(set(found) - set(held))
+        lines += f"copy {number} links {len(readings.links(payload)[0])} slices {slices} new {new}{word}\n"
         held = readings.united(held, found)
     return holding_text(record, recording, held), lines.encode()
+
+
+# man page: take
+def take_status(printed):
+    """The status of `take`, by what it printed."""
+    return 3 if b" unordered\n" in printed else 0
 
 
 # man page: join

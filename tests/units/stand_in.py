@@ -60,7 +60,7 @@ def take(words: list[str]) -> int:
         made, printed = any_holdings.took(pathlib.Path(words[0]).read_bytes(), (int(words[1]), int(words[2])), payloads, is_any)
     except readings.Fault as fault:
         return end(b"", 1, f"setup fault {fault.args[0]}")
-    return written(words[3], made, printed)
+    return written(words[3], made, printed, any_holdings.take_status(printed))
 
 
 def join(words: list[str], prints: bool = True) -> int:

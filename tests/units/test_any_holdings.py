@@ -34,7 +34,8 @@ def called(words: list[str], files: dict[str, bytes]) -> Found:
     contents = [files[word] for word in given if word in files]
     try:
         if name == "take":
-            return *any_holdings.took(contents[0], (int(given[1]), int(given[2])), contents[1:], is_any), 0, ""
+            made, printed = any_holdings.took(contents[0], (int(given[1]), int(given[2])), contents[1:], is_any)
+            return made, printed, any_holdings.take_status(printed), ""
         if name in ("join", "merge"):
             made, printed = any_holdings.joined(contents, is_any)
             return made, printed if name == "join" else b"", 0, ""

@@ -99,6 +99,12 @@ class KeeperTest(unittest.TestCase):
         keeper.hold(self.held("frame-4"))
         self.assertEqual(keeper.notes, ["frame-3 is not kept: frame-3 can't be held: out of memory", "frame-4 is not kept: frame-4 can't be held: out of memory"])
 
+    def test_a_copy_that_is_unordered_is_held_with_a_note(self):
+        keeper = self.keeper(setup() + TAKE.replace("exit; fi", "exit 3; fi"), False)
+        keeper.hold(self.held())
+        self.assertEqual(keeper.notes, ["frame-3: a copy has its slices in another order than the tiles, in which restore puts them"])
+        self.assertIn("frame-3.hold", self.kept())
+
     def test_a_report_that_cannot_be_made_is_a_note(self):
         keeper = self.keeper(setup() + TAKE + '[ "$1" = report ] && { echo "ffv1restore: out of memory" >&2; exit 1; }')
         keeper.hold(self.held())

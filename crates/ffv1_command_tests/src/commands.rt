@@ -49,8 +49,8 @@ pub(crate) fn taken(
         &mut out,
         &mut output,
     ) {
-        Ok(()) => Some((out, output)),
-        Err(_) => None,
+        Ok(true) => Some((out, output)),
+        _ => None,
     }
 }
 

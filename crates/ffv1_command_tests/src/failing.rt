@@ -220,16 +220,11 @@ fn take_one<'a>(
     out: &mut Output,
     printed: &mut Output,
 ) -> Result<(), CliFault> {
-    run_take(
-        alloc,
-        Recordings::Profile,
-        record,
-        2,
-        1,
-        &mut [copy],
-        out,
-        printed,
-    )
+    let recordings = Recordings::Profile;
+    match run_take(alloc, recordings, record, 2, 1, &mut [copy], out, printed) {
+        Ok(_) => Ok(()),
+        Err(fault) => Err(fault),
+    }
 }
 
 /// Runs a command; the second input is left alone where it has one alone.

@@ -19,6 +19,12 @@ const AFTER_JUNK: [u8; 27] = [
     0x80, 0, 0, 3, 0, 0x56, 0x0F, 0xD7, 0x3B,
 ];
 
+/// The frame, in which the slice of tile 1 stands twice.
+const RIGHT_TWICE: [u8; 33] = [
+    0xFD, 0xF6, 0x80, 0, 0, 3, 0, 0x1C, 0x3E, 0xA0, 0x9B, 0x3F, 0x2B, 0x80, 0, 0, 3, 0, 0x56, 0x0F,
+    0xD7, 0x3B, 0x3F, 0x2B, 0x80, 0, 0, 3, 0, 0x56, 0x0F, 0xD7, 0x3B,
+];
+
 /// What is held of copies of a frame of this size, if they are taken.
 pub(crate) fn held_of(
     alloc: Global,
@@ -90,20 +96,27 @@ fn sets_that_differ_are_joined(rt: HostRuntime) {
     assert!(rt; are_joined(rt.alloc()));
 }
 
-/// Copies that are taken one after the other, and their links, slices and new slices.
-static TAKEN: [(&[u8], usize, usize, usize); 6] = [
-    (&[0; 8], 1, 0, 0),
-    (&RIGHT, 1, 0, 0),
-    (&AFTER_JUNK, 2, 1, 1),
-    (&LEFT_DAMAGED, 2, 1, 0),
-    (&RIGHT_DAMAGED, 2, 1, 1),
-    (&FRAME, 2, 2, 0),
+/// Copies that are taken one after the other, and their links, slices and new slices, and whether these are in order.
+static TAKEN: [(&[u8], usize, usize, usize, bool); 7] = [
+    (&[0; 8], 1, 0, 0, true),
+    (&RIGHT, 1, 0, 0, true),
+    (&AFTER_JUNK, 2, 1, 1, true),
+    (&LEFT_DAMAGED, 2, 1, 0, true),
+    (&RIGHT_DAMAGED, 2, 1, 1, true),
+    (&FRAME, 2, 2, 0, true),
+    (&RIGHT_TWICE, 3, 3, 0, false),
 ];
 
 /// Whether a holding takes those copies, and reports that of each.
 fn takes_each(holding: &mut Holding) -> bool {
-    for &(copy, links, slices, new) in &TAKEN {
-        if holding.take(copy) != Ok(Taken { links, slices, new }) {
+    for &(copy, links, slices, new, in_order) in &TAKEN {
+        let taken = Taken {
+            links,
+            slices,
+            new,
+            in_order,
+        };
+        if holding.take(copy) != Ok(taken) {
             return false;
         }
     }

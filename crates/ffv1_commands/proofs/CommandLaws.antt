@@ -1,5 +1,5 @@
 -- What commands make of copies is the file of their holding, whatever tree of commands leads there.
-use Rattle.std.proofs.Common.{◌≡◌, ℕ, suc, ◌<◌, ◌≤◌, List, [], ◌∷◌, ◌++◌, length, map, get_or, Option, Some, None, refl, sym, ap, ◌∙◌, subst, arith, append_assoc, append-nil}
+use Rattle.std.proofs.Common.{◌≡◌, ℕ, suc, ◌<◌, ◌≤◌, Bool, List, [], ◌∷◌, ◌++◌, length, map, get_or, Option, Some, None, refl, sym, ap, ◌∙◌, subst, arith, append_assoc, append-nil}
 use Rattle.std.specs.List.{flat_map}
 use Rattle.std.specs.Io.KnownBytes.{Appends}
 use Rattle.ffv1_bits.specs.Limits.{payload_limit}
@@ -73,9 +73,10 @@ one_holding recordings g h file is text has = one_text g h file is.well_formed h
 -- ---- a tree of commands
 
 module _ (recordings : Recordings) (config : List ℕ) (width height : ℕ) where
-  of_take : (copies : List (List ℕ)) (file : List ℕ) (before after : Option (List ℕ))
-      → TakesCopies recordings (Some config) width height (map Some copies) (Some []) (Some file) before after → IsFileOf recordings config width height copies file
-  of_take copies file before after takes =
+  of_take : (copies : List (List ℕ)) (file : List ℕ) (before after : Option (List ℕ)) (in_order : Bool)
+      → TakesCopies recordings (Some config) width height (map Some copies) (Some []) (Some file) before after in_order
+      → IsFileOf recordings config width height copies file
+  of_take copies file before after in_order takes =
       let same : copies ≡ takes.copies = whole_inputs copies takes.copies takes.read in
       let reported : config ≡ takes.reel.config = takes.of_record.read.reported in
       record {
@@ -153,7 +154,7 @@ module _ (recordings : Recordings) (config : List ℕ) (width height : ℕ) wher
       }
 
   pub made : (copies : List (List ℕ)) (file : List ℕ) → IsMadeOf recordings config width height copies file → IsFileOf recordings config width height copies file
-  made _ _ (by_take copies file before after takes) = of_take copies file before after takes
+  made _ _ (by_take copies file before after in_order takes) = of_take copies file before after in_order takes
   made _ _ (by_join parts files file before after l each joins) =
       of_join parts files file before after l (λ i lt. made (get_or parts i []) (get_or files i []) (each i lt)) joins
   made _ _ (by_merge lefts rights left right file one other merges) =
@@ -357,7 +358,7 @@ taken : (recordings : Recordings) (config : List ℕ) (width height : ℕ) (reel
     → IsMadeOf recordings config width height copies (holding_text (holding_of reel copies))
 taken recordings config width height reel copies is short few has =
     let same : config ≡ reel.config = sym (ap (λ (r : Reel). r.config) is.2) in
-    by_take copies (holding_text (holding_of reel copies)) None None (record {
+    by_take copies (holding_text (holding_of reel copies)) None None _ (record {
       reel = reel;
       of_record = record {
         read = record { reported = same; few = omega (arith, ap length same) };
@@ -368,4 +369,5 @@ taken recordings config width height reel copies is short few has =
       has_file = has;
       file = refl;
       printed = tt;
+      order = refl;
     })

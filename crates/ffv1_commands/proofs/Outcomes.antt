@@ -1,11 +1,11 @@
 -- Lines of numbers, by the texts that are written one after the other: those of tiles, of a frame, of copies and of holding files.
-use Rattle.std.proofs.Common.{◌≡◌, ℕ, ◌++◌, List, ◌∙◌, append_assoc}
+use Rattle.std.proofs.Common.{◌≡◌, ℕ, ◌++◌, Bool, List, ◌∙◌, append_assoc}
 use Rattle.std.specs.Prelude.{codes}
 use Rattle.std.specs.Fmt.{decimal}
 use Rattle.ffv1_commands.specs.PictureText.{stuck_line}
 use Rattle.ffv1_commands.specs.AnyPictureText.{unclean_tile_line}
 use Rattle.ffv1_commands.specs.FrameText.{decoded_line}
-use Rattle.ffv1_commands.specs.TakeText.{copy_line}
+use Rattle.ffv1_commands.specs.TakeText.{order_word, copy_line}
 use Rattle.ffv1_commands.specs.JoinText.{file_line}
 use Rattle.ffv1_commands.specs.RestoreText.{restored_line}
 
@@ -27,12 +27,14 @@ append-seven a b c d e f g =
 append-five : (a b c d e : List ℕ) → a ++ b ++ c ++ d ++ e ≡ a ++ (b ++ (c ++ (d ++ e)))
 append-five a b c d e = append_assoc (a ++ b ++ c) d e ∙ append_assoc (a ++ b) c (d ++ e) ∙ append_assoc a b (c ++ (d ++ e))
 
-pub copy_line-fragments : (number links slices new : ℕ) → copy_line number links slices new
+pub copy_line-fragments : (number links slices new : ℕ) (in_order : Bool) → copy_line number links slices new in_order
     ≡ codes "copy " ++ (decimal number ++ (codes " links " ++ (decimal links ++
-    (codes " slices " ++ (decimal slices ++ (codes " new " ++ (decimal new ++ codes "\n")))))))
-copy_line-fragments number links slices new =
-    append-nine (codes "copy ") (decimal number) (codes " links ") (decimal links) (codes " slices ") (decimal slices) (codes " new ") (decimal new)
-    (codes "\n")
+    (codes " slices " ++ (decimal slices ++ (codes " new " ++ (decimal new ++ (order_word in_order ++ codes "\n"))))))))
+copy_line-fragments number links slices new in_order =
+    append_assoc (codes "copy " ++ decimal number ++ codes " links " ++ decimal links ++ codes " slices " ++ decimal slices ++ codes " new " ++ decimal new)
+    (order_word in_order) (codes "\n")
+    ∙ append-nine (codes "copy ") (decimal number) (codes " links ") (decimal links) (codes " slices ") (decimal slices) (codes " new ") (decimal new)
+    (order_word in_order ++ codes "\n")
 
 pub file_line-fragments : (number new : ℕ) → file_line number new
     ≡ codes "file " ++ (decimal number ++ (codes " new " ++ (decimal new ++ codes "\n")))

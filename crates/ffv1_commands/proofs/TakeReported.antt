@@ -1,5 +1,5 @@
 -- What taking copies says of the record, the copies and the outputs.
-use Rattle.std.proofs.Common.{◌≡◌, ℕ, ◌+◌, ◌<◌, List, length, map, take, Option, Result, Ok, Err, OnOk, IfErr, refl, sym, ap, subst, inl, inr, arith}
+use Rattle.std.proofs.Common.{◌≡◌, ℕ, ◌+◌, ◌<◌, Bool, List, length, map, take, Option, Result, Ok, Err, IfOk, IfErr, refl, sym, ap, subst, inl, inr, arith}
 use Rattle.std.specs.Io.KnownBytes.{Appends}
 use Rattle.std.proofs.lemmas.List.{length-map}
 use Rattle.ffv1_bits.specs.Limits.{payload_limit}
@@ -18,7 +18,7 @@ use Rattle.ffv1_commands.specs.RecordInputs.{IsReelInput, TakesReel, ReelStops}
 use Rattle.ffv1_commands.specs.Fault.{NamesPath, of_hold}
 use Rattle.ffv1_commands.specs.Paths.{IsTakePath}
 use Rattle.ffv1_commands.specs.Holdings.{HasFile, IsFileFault}
-use Rattle.ffv1_commands.specs.Inner.Holdings.{MadeStops, WritesMade}
+use Rattle.ffv1_commands.specs.Inner.Holdings.{MadeStops}
 use Rattle.ffv1_commands.specs.TakeText.{TakesEach, TakesCopies, IsFaultOfInputs, FaultKeepsLater, LaterKept, TakeStops, TakesAll, ReportsTake}
 use Rattle.ffv1_commands.specs.declared.fault.CliFault.{CliFault}
 use Rattle.ffv1_commands.specs.declared.fault.CliFault.TheVariants as faults
@@ -85,13 +85,6 @@ pub copies-unwritten : {C : Type 0} (reports : C → Option (List ℕ)) (old new
 copies-unwritten reports old new fault stops =
     CopyStops-says IsUnwritten (paths.Copy stops.index) fault _ stops.stopped.0 tt (λ bytes took more. tt) tt stops.stopped.1
 
--- the file and the lines were written once all was taken, or were not
-pub made_reported : {T C : Type 0} (recordings : Recordings) (reports : C → Option (List ℕ)) (width height : ℕ) (a b : ReadLog) (old new : List C) (out out' output output' : WriteLog)
-    (held : Contents) (text : List ℕ) → TakesAll recordings width height (map reports old) a b held text → (r : Result T CliFault)
-    → WritesMade r held text out out' output output' → ReportsTake recordings r reports width height a b old new out out' output output'
-made_reported recordings reports width height a b old new out out' output output' held text all (Ok x) made = (held, text, all, made)
-made_reported recordings reports width height a b old new out out' output output' held text all (Err fault) breaks = inr (inr (held, text, all, breaks))
-
 -- no fault of the record says that a copy was not read
 pub record_read : {X : Type 0} (recordings : Recordings) (Went : X → X → Type 0) (old new : List X) (width height : ℕ) (a b : ReadLog) (fault : CliFault)
     → ReelStops recordings width height a b fault → IfCopyUnread Went old new fault
@@ -108,7 +101,7 @@ module _ (recordings : Recordings) (record' : Option (List ℕ)) (width height :
   copies_refused faults.Memory stops = tt
   copies_refused fault (i, (lt, before, stops)) = absurd stops
 
-  module _ (held : Contents) (lines : List ℕ) (each : TakesEach inputs reel held lines) where
+  module _ (held : Contents) (lines : List ℕ) (in_order : Bool) (each : TakesEach recordings inputs reel held lines in_order) where
     text : holding_text held ≡ holding_text (holding_of reel each.copies)
     text = ap holding_text each.held
 
@@ -146,9 +139,9 @@ later_kept reports old new (faults.Read path) (i, (lt, before, same), later) =
 later_kept reports old new (faults.Hold fault) stops = stops
 later_kept reports old new fault stops = tt
 
-pub record TakeOfBytes {T C : Type 0} (recordings : Recordings) (r : Result T CliFault) (reports : C → Option (List ℕ)) (record' : Option (List ℕ)) (width height : ℕ) (old new : List C)
+pub record TakeOfBytes {C : Type 0} (recordings : Recordings) (r : Result Bool CliFault) (reports : C → Option (List ℕ)) (record' : Option (List ℕ)) (width height : ℕ) (old new : List C)
     (ob oa pb pa : Option (List ℕ)) : Type 0 where
-  pub ok : OnOk r (TakesCopies recordings record' width height (map reports old) ob oa pb pa)
+  pub ok : IfOk r (TakesCopies recordings record' width height (map reports old) ob oa pb pa)
   pub err : IfErr r (TakeStops recordings record' width height (map reports old) ob oa pb pa)
   pub in_turn : IfErr r (λ fault. IfOfRecord fault (new ≡ old))
   pub later : IfErr r (LaterKept reports old new)
@@ -161,11 +154,11 @@ module _ {C : Type 0} (recordings : Recordings) (reports : C → Option (List �
     of_record = read.of_record;
   }
 
-  abbrev of_bytes : {T : Type 0} → Result T CliFault → Type 0
+  abbrev of_bytes : Result Bool CliFault → Type 0
   of_bytes r = TakeOfBytes recordings r reports a.remaining width height old new out.contents out'.contents output.contents output'.contents
 
-  pub take_of_bytes : {T : Type 0} (r : Result T CliFault) → ReportsTake recordings r reports width height a b old new out out' output output' → of_bytes r
-  take_of_bytes (Ok x) (held, lines, all, made) = record {
+  pub take_of_bytes : (r : Result Bool CliFault) → ReportsTake recordings r reports width height a b old new out out' output output' → of_bytes r
+  take_of_bytes (Ok in_order) (held, lines, all, made) = record {
     ok = record {
       reel = all.reel;
       of_record = reel_input all.reel all.of_record;
@@ -174,6 +167,7 @@ module _ {C : Type 0} (recordings : Recordings) (reports : C → Option (List �
       has_file = subst HasFile all.each.held made.has_file;
       file = subst (Appends out.contents out'.contents) (ap holding_text all.each.held) made.file.bytes';
       printed = subst (Appends output.contents output'.contents) all.each.lines made.printed.bytes';
+      order = all.each.order;
     };
     err = tt;
     in_turn = tt;
@@ -199,10 +193,10 @@ module _ {C : Type 0} (recordings : Recordings) (reports : C → Option (List �
         later = later_kept reports old new fault (i, at, later);
         names = copies_name (map reports old) (length old) (length-map old reports) fault (i, at);
       }
-  take_of_bytes (Err fault) (inr (inr (held, lines, all, breaks))) = record {
+  take_of_bytes (Err fault) (inr (inr (held, lines, in_order, all, breaks))) = record {
     ok = tt;
     err = made_refused recordings a.remaining width height (map reports old) out.contents out'.contents output.contents output'.contents all.reel
-        (reel_input all.reel all.of_record) held lines all.each fault (made_bytes held lines out out' output output' fault breaks);
+        (reel_input all.reel all.of_record) held lines in_order all.each fault (made_bytes held lines out out' output output' fault breaks);
     in_turn = made_says held lines out out' output output' (λ f. IfOfRecord f (new ≡ old)) (λ file. tt) tt tt fault breaks;
     later = made_says held lines out out' output output' (LaterKept reports old new) (λ file. tt) tt tt fault breaks;
     names = made_says held lines out out' output output' (NamesPath (IsTakePath (length old))) (λ file. tt) tt tt fault breaks;

@@ -28,8 +28,8 @@ use Rattle.ffv1_commands.specs.declared.fault.CliFault.TheVariants as faults
 -- The file is what commands make of the copies, for one record and size: `take` made it of the copies themselves, or `join` or `merge` of
 -- files that are each made of a part of them. The bytes of the readers are known, and those that are written, into a file that was empty.
 pub data IsMadeOf (recordings : Recordings) (config : List ℕ) (width height : ℕ) : List (List ℕ) → List ℕ → Type 0 where
-  by_take : (copies : List (List ℕ)) (file : List ℕ) (printed_before printed_after : Option (List ℕ))
-      → TakesCopies recordings (Some config) width height (map Some copies) (Some []) (Some file) printed_before printed_after
+  by_take : (copies : List (List ℕ)) (file : List ℕ) (printed_before printed_after : Option (List ℕ)) (in_order : Bool)
+      → TakesCopies recordings (Some config) width height (map Some copies) (Some []) (Some file) printed_before printed_after in_order
       → IsMadeOf recordings config width height copies file
   by_join : (parts : List (List (List ℕ))) (files : List (List ℕ)) (file : List ℕ) (printed_before printed_after : Option (List ℕ))
       → length parts ≡ length files

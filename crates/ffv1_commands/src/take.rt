@@ -8,7 +8,7 @@ ghost use Rattle.ffv1_commands.specs.Devices.{IfOfRecord, GivesUpWithin, CopySto
 ghost use Rattle.ffv1_commands.specs.InTurn.{StopsAtCopy, IfCopyUnread};
 ghost use Rattle.ffv1_commands.specs.Inner.Inputs.{Goes};
 ghost use Rattle.ffv1_commands.specs.RecordInputs.{TakesReel, ReelStops};
-ghost use Rattle.ffv1_commands.specs.TakeText.{copy_line, TakesEach, TakesCopies, LaterKept, TakeStops, ReportsTake};
+ghost use Rattle.ffv1_commands.specs.TakeText.{order_reported, order_word, copy_line, TakesEach, TakesCopies, LaterKept, TakeStops, ReportsTake};
 ghost use Rattle.ffv1_commands.specs.Inner.TakeText.{TakesCopy};
 
 use crate::devices::read_file;
@@ -24,7 +24,9 @@ use std::io::{Read, Write};
 
 /// Takes copies of a frame, one after the other, into an empty holding for a configuration record, which is one of these recordings, and
 /// the size of the frame in samples; writes the holding's file to `out`, and then prints a line for each copy, as
-/// `copy 1 links 2 slices 1 new 1`: its links, those that are slices, and the slices that no earlier copy gave.
+/// `copy 1 links 2 slices 1 new 1`: its links, those that are slices, and the slices that no earlier copy gave. Of any recording the line
+/// ends in ` unordered` where the slices found in the copy do not stand in the order of their tiles, each tile once: what is restored
+/// is in that order, and so is not what was recorded. Returns whether no line ends so.
 ///
 /// The record is judged before the first copy is read, and each copy is taken before the next is read: at a fault of one
 /// those after it are as they were. Returns `Read` if the record or a copy can't be read, or the record is longer than
@@ -43,9 +45,9 @@ pub fn run_take<R: Read, C: Read, O: Write, W: Write>(
     copies: &mut [C],
     out: &mut O,
     output: &mut W,
-) -> Result<(), CliFault>
+) -> Result<bool, CliFault>
     requires { length copies.old < 2 ^ 63 }
-    ensures ok { OnOk result (TakesCopies recordings (R.remaining configuration.old) width height (map C.remaining copies.old)
+    ensures ok { IfOk result (TakesCopies recordings (R.remaining configuration.old) width height (map C.remaining copies.old)
         (O.contents out.old) (O.contents out.new) (W.contents output.old) (W.contents output.new)) }
     ensures err { IfErr result (TakeStops recordings (R.remaining configuration.old) width height (map C.remaining copies.old)
         (O.contents out.old) (O.contents out.new) (W.contents output.old) (W.contents output.new)) }
@@ -78,7 +80,7 @@ pub fn take_of<R: Source, C: Source, O: Sink, W: Sink>(
     copies: &mut [C],
     out: &mut O,
     output: &mut W,
-) -> Result<(), CliFault>
+) -> Result<bool, CliFault>
     requires { length copies.old < 2 ^ 63 }
     ensures reported { ReportsTake recordings result (λ copy. (C.log copy).remaining) width height (R.log configuration.old) (R.log configuration.new) copies.old copies.new
         (O.log out.old) (O.log out.new) (W.log output.old) (W.log output.new) }
@@ -107,7 +109,7 @@ fn take_by<R: Source, I: Inputs<C>, C, O: Sink, W: Sink>(
     copies: &mut [C],
     out: &mut O,
     output: &mut W,
-) -> Result<(), CliFault>
+) -> Result<bool, CliFault>
     requires { length copies.old < 2 ^ 63 }
     ensures reported { ReportsTake recordings result I.remaining width height (R.log configuration.old) (R.log configuration.new) copies.old copies.new
         (O.log out.old) (O.log out.new) (W.log output.old) (W.log output.new) }
@@ -115,8 +117,9 @@ fn take_by<R: Source, I: Inputs<C>, C, O: Sink, W: Sink>(
     ensures untouched { IfErr result (λ fault. UnlessWriting fault ((out.new ≡ out.old) × (output.new ≡ output.old))) }
 {
     let mut holding = empty_holding(alloc, recordings, configuration, width, height)?;
-    let lines = take_inputs::<I, _>(alloc, &mut holding, copies)?;
-    write_made(out, &holding, output, lines.as_str())
+    let (lines, in_order) = take_inputs::<I, _>(alloc, recordings, &mut holding, copies)?;
+    write_made(out, &holding, output, lines.as_str())?;
+    Ok(in_order)
 }
 
 /// An empty holding for a record, which is read whole, and frames of this size.
@@ -135,51 +138,79 @@ fn empty_holding<R: Source>(
     Ok(Holding::of_record(alloc, recordings, config.as_slice(), width, height)?)
 }
 
-/// Takes copies into an empty holding, and adds a line for each.
+/// Takes copies into an empty holding. Returns a line for each, and whether all are in order, as far as that is reported.
 fn take_inputs<I: Inputs<C>, C>(
     alloc: Global,
+    recordings: Recordings,
     holding: &mut Holding<Recording>,
     copies: &mut [C],
-) -> Result<String, CliFault>
+) -> Result<(String, bool), CliFault>
     requires empty { holding.old ≡ no_slices holding.old.reel }
     requires few { length copies.old < 2 ^ 63 }
-    ensures ok { IfOk result (λ lines. TakesEach (map I.remaining copies.old) holding.old.reel holding.new (string_bytes lines)) }
+    ensures ok { IfOk result (λ taken. TakesEach recordings (map I.remaining copies.old) holding.old.reel holding.new (string_bytes taken.0) taken.1) }
     ensures reel { holding.new.reel ≡ holding.old.reel }
     ensures err { IfErr result (StopsAtCopy CopyStops I.remaining copies.old copies.new) }
     ensures unread { IfErr result (IfCopyUnread (Goes I.went GivesUpWithin) copies.old copies.new) }
 {
     let mut lines = String::new(alloc);
+    let mut in_order = true;
     for index in 0..copies.len() {
-        take_copy::<I, _>(alloc, holding, &mut copies[index], index, &mut lines)?;
+        let copy = &mut copies[index];
+        in_order &= take_copy::<I, _>(alloc, recordings, holding, copy, index, &mut lines)?;
     }
-    Ok(lines)
+    Ok((lines, in_order))
 }
 
-/// Takes a copy, before which stand so many others, and adds a line for it.
+/// Takes a copy, before which stand so many others, and adds a line for it. Returns whether it is in order, as far as that is reported.
 fn take_copy<I: Inputs<C>, C>(
     alloc: Global,
+    recordings: Recordings,
     holding: &mut Holding<Recording>,
     copy: &mut C,
     before: usize,
     lines: &mut String,
-) -> Result<(), CliFault>
+) -> Result<bool, CliFault>
     requires { before < 2 ^ 63 }
-    ensures reported { Goes I.went (TakesCopy result before holding.old holding.new (string_bytes lines.old) (string_bytes lines.new)) copy.old copy.new }
+    ensures reported { Goes I.went (TakesCopy recordings result before holding.old holding.new (string_bytes lines.old) (string_bytes lines.new)) copy.old copy.new }
     ensures reel { holding.new.reel ≡ holding.old.reel }
 {
     let payload = I::copy(alloc, copy, CommandPath::Copy(before))?;
     let taken = holding.take(payload.as_slice())?;
-    push_taken(lines, before + 1, taken)?;
-    Ok(())
+    let in_order = order_reported(recordings, taken.in_order);
+    push_taken(lines, before + 1, taken, in_order)?;
+    Ok(in_order)
+}
+
+/// Whether a copy is in order, as far as that is reported of these recordings.
+fn order_reported(recordings: Recordings, in_order: bool) -> bool
+    ensures { result ≡ order_reported recordings in_order }
+{
+    match recordings {
+        Recordings::Profile => true,
+        Recordings::Any => in_order,
+    }
+}
+
+/// What ends the line of a copy.
+fn order_word(in_order: bool) -> &'static str
+    ensures { result.now ≡ order_word in_order }
+{
+    if in_order { "" } else { " unordered" }
 }
 
 /// Adds the line of a copy.
-fn push_taken(text: &mut String, number: usize, taken: Taken) -> Result<(), AllocError>
-    ensures { OnOk result (string_bytes text.new ≡ string_bytes text.old ++ copy_line number taken.links taken.slices taken.new) }
+fn push_taken(
+    text: &mut String,
+    number: usize,
+    taken: Taken,
+    in_order: bool,
+) -> Result<(), AllocError>
+    ensures { OnOk result (string_bytes text.new ≡ string_bytes text.old ++ copy_line number taken.links taken.slices taken.new in_order) }
 {
     let (links, slices, new) = (taken.links, taken.slices, taken.new);
+    let order = order_word(in_order);
     writeln!(
         text,
-        "copy {number} links {links} slices {slices} new {new}"
+        "copy {number} links {links} slices {slices} new {new}{order}"
     )
 }

@@ -56,11 +56,12 @@ Exit statuses
      written, OUT is unchanged.
   2  The words were refused.
   3  picture wrote OUT, and some tile has no samples, or with --any its slice is
-     unclean; or splice wrote OUT, and some place is neither settled nor woven,
-     or the end is broken; or mend wrote OUT, and some stretch is missing,
-     disputed, open or alone; or samples wrote all frames, and some slice is
-     unclean; or scan found a range that is not whole, has no slice, or has one
-     that fails; or check found a file that is not whole.
+     unclean; or take --any wrote OUT, and a copy is unordered; or splice wrote
+     OUT, and some place is neither settled nor woven, or the end is broken; or
+     mend wrote OUT, and some stretch is missing, disputed, open or alone; or
+     samples wrote all frames, and some slice is unclean; or scan found a range
+     that is not whole, has no slice, or has one that fails; or check found a
+     file that is not whole.
 
 Faults
   cannot read PATH

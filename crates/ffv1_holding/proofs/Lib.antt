@@ -34,6 +34,7 @@ pub mod TileStatesOf
 pub mod TileUnions
 pub mod HoldingSteps
 pub mod Found
+pub mod TileOrders
 pub mod TileReads
 pub mod Restored
 pub mod ExactlyHeld

@@ -9,6 +9,7 @@ pub mod Contents
 pub mod ContentsLaws
 pub mod HoldingParts
 pub mod TakeFaults
+pub mod TileOrder
 pub mod TileState
 pub mod TileStates
 pub mod Refusals

@@ -10,6 +10,7 @@ ghost use Rattle.ffv1_holding.specs.Contents.{with_found, with_copies, with_entr
 ghost use Rattle.ffv1_holding.specs.SliceOrder.{entry_cmp};
 ghost use Rattle.ffv1_holding.specs.Inner.PoolEntries.{entry_in, AreEntriesIn, IsPool};
 ghost use Rattle.ffv1_holding.specs.TakeFaults.{IsTakeFault, AreShort};
+ghost use Rattle.ffv1_holding.specs.TileOrder.{fall, is_in_tile_order};
 
 use crate::fault::HoldFault;
 use crate::holding::Holding;
@@ -28,6 +29,8 @@ pub struct Taken {
     pub slices: usize,
     /// The slices that were not held before.
     pub new: usize,
+    /// Whether its slices stand in the order of their tiles, no two of one tile.
+    pub in_order: bool,
 }
 
 /// Which of many copies was not taken, and why.
@@ -50,6 +53,7 @@ impl<S: Recorded> Holding<S> {
         ensures links { IfOk result (λ taken. taken.links ≡ length (links_of payload.now)) }
         ensures slices { IfOk result (λ taken. taken.slices ≡ length (found_slices self.old.reel.rules payload.now)) }
         ensures new { IfOk result (λ taken. set.size self.new.slices ≡ set.size self.old.slices + taken.new) }
+        ensures order { IfOk result (λ taken. taken.in_order ≡ is_in_tile_order self.old.reel.rules payload.now) }
 
         ensures fault { IfErr result (IsTakeFault payload.now) }
         ensures err { OnErr result (self.new ≡ self.old) }
@@ -60,11 +64,17 @@ impl<S: Recorded> Holding<S> {
         let mut found = Vec::new(self.held.alloc());
         let links = list_found(self.reel.recording(), payload, &mut found)?;
         let slices = found.len();
+        let in_order = is_in_order(found.as_slice());
         put_in_order(payload, &mut found)?;
         let before = self.held.size();
         self.held.insert_copy(payload, &found)?;
         let new = self.held.size() - before;
-        Ok(Taken { links, slices, new })
+        Ok(Taken {
+            links,
+            slices,
+            new,
+            in_order,
+        })
     }
 
     /// Adds one slice with its footer, which must be a slice of its tile, and to its origins these digests of copies,
@@ -135,6 +145,18 @@ fn list_found(
         }
     }
     Ok(links)
+}
+
+/// Whether the slices of entries, which are listed from a copy's end, stand in it in the order of their tiles, no two of one tile.
+fn is_in_order(found: &[PoolEntry]) -> bool
+    ensures { result ≡ fall (map (λ entry. entry.tile) found.now) }
+{
+    for index in 1..found.len() {
+        if found[index].tile >= found[index - 1].tile {
+            return false;
+        }
+    }
+    true
 }
 
 /// Puts entries that lie in `bytes` into their order, each slice once. After a refusal they stand as they stood.

@@ -154,7 +154,7 @@ fn take_both(alloc: Global, made: &mut Buffer, printed: &mut Buffer) -> Result<(
     let (one, other) = (first_copy(), second_copy());
     let mut record = RECORDED_RECORD.as_slice();
     let mut copies = [one.as_slice(), other.as_slice()];
-    run_take(
+    unit(run_take(
         alloc,
         Recordings::Profile,
         &mut record,
@@ -163,7 +163,7 @@ fn take_both(alloc: Global, made: &mut Buffer, printed: &mut Buffer) -> Result<(
         &mut copies,
         made,
         printed,
-    )
+    ))
 }
 
 /// `run_splice` of both damaged copies.

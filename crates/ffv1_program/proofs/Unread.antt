@@ -159,7 +159,7 @@ module _ {Device : Type 0} (is_at : List ℕ → Device → Type 0) (log : Devic
     abbrev Untaken : CommandPath → Type 0
     Untaken = IsUntaken (SomeSource is_at log) word (words_of words)
 
-    pub take_unread : {T : Type 0} (recordings : Recordings) (remaining : Device → Option (List ℕ)) (width height : ℕ) (o o' x y : WriteLog) (r : Result T CliFault)
+    pub take_unread : (recordings : Recordings) (remaining : Device → Option (List ℕ)) (width height : ℕ) (o o' x y : WriteLog) (r : Result Bool CliFault)
         → ReportsTake recordings r remaining width height (log a) (log b) old new o o' x y → IfErr r (IfCopyUnread GivesUpWithin (map log old) (map log new))
         → IfErr r (IfUnread Untaken)
     take_unread recordings remaining width height o o' x y (Ok value) reported unread = tt
@@ -168,8 +168,8 @@ module _ {Device : Type 0} (is_at : List ℕ → Device → Type 0) (log : Devic
         let same : path ≡ paths.Copy stops.index = stops.stopped.1.0 in
         subst Untaken (sym same) (went_held is_at log GivesUpWithin stops.index words old new all
         (subst (λ p. IfCopyUnread GivesUpWithin (map log old) (map log new) (faults.Read p)) same unread))
-    take_unread recordings remaining width height o o' x y (Err (faults.Read path)) (inr (inr (held, text, taken, inl (breaks, kept)))) unread = absurd breaks
-    take_unread recordings remaining width height o o' x y (Err (faults.Read path)) (inr (inr (held, text, taken, inr (is, has, wrote, printed)))) unread = absurd (cc)
+    take_unread recordings remaining width height o o' x y (Err (faults.Read path)) (inr (inr (held, text, in_order, taken, inl (breaks, kept)))) unread = absurd breaks
+    take_unread recordings remaining width height o o' x y (Err (faults.Read path)) (inr (inr (held, text, in_order, taken, inr (is, has, wrote, printed)))) unread = absurd (cc)
     take_unread recordings remaining width height o o' x y (Err fault) reported unread = tt
 
     abbrev Unplayed : CommandPath → Type 0

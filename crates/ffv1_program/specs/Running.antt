@@ -181,7 +181,7 @@ promise_of files made printed (Setup recording) =
     (SetupStops recording.width recording.height (files.bytes_at recording.record.now) printed.before printed.after)
     (λ fault. UnlessWriting fault printed.IsKept) (IfUnread (λ _. files.SourceWent IsUnread recording.record.now))
 promise_of files made printed (Take recording out copies) =
-    makes made printed (if_done (TakesCopies files.recordings (files.bytes_at recording.record.now) recording.width recording.height (bytes_of_all files.bytes_at copies.items) made.before made.after printed.before printed.after))
+    makes made printed (TakesCopies files.recordings (files.bytes_at recording.record.now) recording.width recording.height (bytes_of_all files.bytes_at copies.items) made.before made.after printed.before printed.after)
     (TakeStops files.recordings (files.bytes_at recording.record.now) recording.width recording.height (bytes_of_all files.bytes_at copies.items) made.before made.after printed.before printed.after)
     (IfUnread (IsUntaken files.SourceWent recording.record.now (words_of copies.items)))
 promise_of files made printed (Join out first others) =

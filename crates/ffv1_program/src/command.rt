@@ -59,6 +59,7 @@ fn all_printed(printed: Result<(), WriteFailed>) -> Result<bool, CliFault>
 ///
 /// Returns `false` where the command did its work, and not all is there or as it was recorded:
 ///
+/// - `take`, of any recording: a copy's slices do not stand in the order of their tiles;
 /// - `picture`: some tile has no samples; or, of any recording, a slice does not end as an encoder ends it;
 /// - `splice`: not all of the frame is given back;
 /// - `mend`: a stretch is missing, disputed, open or alone;
@@ -90,7 +91,7 @@ pub fn run<'a, F: FileSystem<'a>, O: MakeFile, W: Write>(
             recording,
             copies,
             ..
-        } => all_done(take_files(alloc, recordings, files, recording, copies, made, output)),
+        } => take_files(alloc, recordings, files, recording, copies, made, output),
         Words::Join { first, others, .. } => {
             all_done(join_files(alloc, recordings, files, first, others, made, output))
         }

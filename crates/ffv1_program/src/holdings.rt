@@ -15,7 +15,7 @@ use ffv1_words::RecordingWords;
 use std::alloc::Global;
 use std::io::Write;
 
-/// Takes the copies of these paths into the file that is made.
+/// Takes the copies of these paths into the file that is made. Returns what `take_of` does.
 ///
 /// It stops where `take_of` does, and with `Memory` if memory for the copies can't be allocated. After a fault that is not `Write` nothing
 /// was written or printed.
@@ -27,11 +27,11 @@ pub(crate) fn take_files<'a, F: FileSystem<'a>, O: MakeFile, W: Write>(
     copies: &Vec<&'a str>,
     made: &mut O,
     output: &mut W,
-) -> Result<(), CliFault>
+) -> Result<bool, CliFault>
     ensures { (out : Bor (List ℕ)) → KeepsPromise
         (files_of recordings (F.files files.now) F.Device.log F.Buffered.log)
         (made_by O.contents O.is_made O.cannot_make made.old made.new) (printed_by W.contents output.old output.new)
-        (Take recording.now out copies.now) (all_done result) }
+        (Take recording.now out copies.now) result }
 {
     let mut copies = sources_of(alloc, files, copies.as_slice())?;
     take_of(

@@ -16,7 +16,7 @@ from ..model import Copy, Fault, Track
 from ..reports.pictures import LONGEST, Drawn, Shape, Tiles, blank, picture, shape_of, tiles_of
 from .output_files import in_one_line, is_recording, is_same
 
-# The word by which ffv1restore holds frames of any recording with parities, and the statuses with which it has written a picture.
+# The word by which ffv1restore holds frames of any recording with parities, and the statuses with which it has written a holding or a picture.
 ANY, SHOWN = "--any", (0, 3)
 # The names of the files that are kept.
 KEPT = re.compile(r"list|copies|frames-of-copy-\d+|(?:track-\d+-)?frame-\d+\.(?:hold|report|png)")
@@ -120,8 +120,10 @@ class Keeper:
             path.write_bytes(piece)
         size = str(frame.track.width), str(frame.track.height)
         done = run(self.program, "take", ANY, self.work / f"record.{frame.track.number}", *size, folder / "hold", *paths.values())
-        if done.returncode:
+        if done.returncode not in SHOWN:
             raise Fault(f"{frame.name} can't be held: {last_line(done.stderr, done.returncode)}")
+        if done.returncode:
+            self.notes.append(f"{frame.name}: a copy has its slices in another order than the tiles, in which restore puts them")
         return folder / "hold"
 
     def report(self, frame: Held, hold: pathlib.Path) -> None:

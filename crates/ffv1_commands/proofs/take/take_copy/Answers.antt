@@ -26,4 +26,4 @@ returns-in_err-push_taken-clause-reported g c =
 pub returns-clause-reported : goal.returns-clause-reported
 returns-clause-reported g c =
     let (a, b, so, took) = c.in_ok-payload.ensures in
-    (a, b, so, record { copy = c.in_ok-payload.payload.items; read = took; held = search rules; line = search rules })
+    (a, b, so, record { copy = c.in_ok-payload.payload.items; read = took; held = search rules; line = search rules; order = search rules })

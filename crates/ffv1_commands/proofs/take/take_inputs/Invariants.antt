@@ -7,6 +7,6 @@ use Rattle.ffv1_commands.proofs.take.take_inputs.Given as goal
 -- The copies so far were taken, and the others are as they were.
 abbrev pub invariant-loop-index : goal.invariant-loop-index
 invariant-loop-index g l = record {
-  taken : TakesEach (take l.index (map g.I.Inputs.remaining l.initial.copies)) l.initial.holding.reel l.holding (string_bytes l.lines);
+  taken : TakesEach l.recordings (take l.index (map g.I.Inputs.remaining l.initial.copies)) l.initial.holding.reel l.holding (string_bytes l.lines) l.in_order;
   others : AreKeptFrom l.index l.initial.copies l.copies;
 }

@@ -18,7 +18,7 @@ pub returns-in-Setup : goal.returns-in-Setup
 returns-in-Setup g c = record { promise = rw (c.in-Setup.is, c.all_done-in-Setup.ensures) (c.setup_record.ensures c.args.recordings); untouched = rw c.in-Setup.is refl }
 
 pub returns-in-Take : goal.returns-in-Take
-returns-in-Take g c = record { promise = rw (c.in-Take.is, c.all_done-in-Take.ensures) (c.take_files.ensures c.in-Take.out); untouched = rw c.in-Take.is tt }
+returns-in-Take g c = record { promise = rw c.in-Take.is (c.take_files.ensures c.in-Take.out); untouched = rw c.in-Take.is tt }
 
 pub returns-in-Join : goal.returns-in-Join
 returns-in-Join g c = record { promise = rw (c.in-Join.is, c.all_done-in-Join.ensures) (c.join_files.ensures c.in-Join.out); untouched = rw c.in-Join.is tt }

@@ -1,3 +1,4 @@
+use mathlib.Core.List.{map-map}
 use Rattle.std.proofs.Common.{◌≡◌, List, ℕ, map, ap, sym, ◌∙◌, subst, refl, arith}
 use Rattle.std.proofs.lemmas.Result.{err_from_is_err_and}
 use Rattle.sha2.specs.Sha256.{sha256}
@@ -9,6 +10,7 @@ use Rattle.ffv1_holding.specs.Inner.TileSets.{TileSlices, with_more}
 use Rattle.ffv1_holding.specs.Inner.PoolEntries.{entry_in, IsPool}
 use Rattle.ffv1_holding.specs.declared.pool_entry.PoolEntry.{PoolEntry}
 use Rattle.ffv1_holding.specs.Contents.{Contents, AreEntriesOf, origins_of_copy, with_facts, with_found}
+use Rattle.ffv1_holding.specs.TileOrder.{fall, is_in_tile_order}
 use Rattle.ffv1_holding.proofs.Errors.{error_is}
 use Rattle.ffv1_holding.proofs.Digests.{length-sha256}
 use Rattle.ffv1_holding.proofs.OriginSteps.{held_marked, whole_marked, marked_same}
@@ -18,18 +20,18 @@ use Rattle.ffv1_holding.proofs.holding.Holding.take.Given.{Over}
 use Rattle.ffv1_holding.proofs.holding.Holding.take.Goals as goal
 
 pub returns-then-payload-gt-PAYLOAD_LIMIT : goal.returns-then-payload-gt-PAYLOAD_LIMIT
-returns-then-payload-gt-PAYLOAD_LIMIT g c = record { ok = tt; short = tt; links = tt; slices = tt; new = tt; fault = omega arith; err = refl }
+returns-then-payload-gt-PAYLOAD_LIMIT g c = record { ok = tt; short = tt; links = tt; slices = tt; new = tt; order = tt; fault = omega arith; err = refl }
 
 pub returns-in_err-links : goal.returns-in_err-links
 returns-in_err-links g c =
     let p = err_from_is_err_and c.from_residual.result c.from_residual.ensures.1 in
     let memory = error_is c.in_err-links.ensures.memory in
-    rw (p.1, p.2, memory) (record { ok = tt; short = tt; links = tt; slices = tt; new = tt; fault = omega arith; err = refl })
+    rw (p.1, p.2, memory) (record { ok = tt; short = tt; links = tt; slices = tt; new = tt; order = tt; fault = omega arith; err = refl })
 
 pub returns-in_err-put_in_order : goal.returns-in_err-put_in_order
 returns-in_err-put_in_order g c =
     let p = err_from_is_err_and c.from_residual-in_err-put_in_order.result c.from_residual-in_err-put_in_order.ensures.1 in
-    rw (p.1, p.2) (record { ok = tt; short = tt; links = tt; slices = tt; new = tt; fault = omega arith; err = refl })
+    rw (p.1, p.2) (record { ok = tt; short = tt; links = tt; slices = tt; new = tt; order = tt; fault = omega arith; err = refl })
 
 pub insert_copy-requires : goal.insert_copy-requires
 insert_copy-requires g c = subst (IsPool c.args.payload.now) (sym c.deref.ensures.value) c.in_ok-put_in_order.ensures.ok
@@ -46,6 +48,7 @@ returns-in_err-insert_copy g c =
       links = tt;
       slices = tt;
       new = tt;
+      order = tt;
       fault = omega arith;
       err = shown c.self.inside c.insert_copy.new.self c.self.inside.held _ c.in_err-insert_copy.ensures.err c.self.view_is;
     })
@@ -116,6 +119,19 @@ returns-clause-links g c = c.in_ok-links.ensures.links
 
 pub returns-clause-short : goal.returns-clause-short
 returns-clause-short g c = omega arith
+
+-- the tiles of entries are those of the slices that they are
+tiles_found : (rules : TileRules) (copy : List ℕ) (found : List PoolEntry) → map (entry_in copy) found ≡ found_slices rules copy
+    → fall (map (λ e. e.tile) found) ≡ is_in_tile_order rules copy
+tiles_found rules copy found is = ap fall (sym (map-map (λ s. s.0) (entry_in copy) found) ∙ ap (map (λ s. s.0)) is)
+
+pub returns-clause-order : goal.returns-clause-order
+returns-clause-order g c =
+    let rules = rules_of c.recording.result.now in
+    c.is_in_order-in_order.ensures ∙ ap (λ (es : List PoolEntry). fall (map (λ e. e.tile) es)) c.as_slice.ensures.value
+    ∙ tiles_found rules c.args.payload.now _ c.in_ok-links.ensures.found
+    ∙ ap (λ (r : TileRules). is_in_tile_order r c.args.payload.now) c.recording.ensures.rules
+    ∙ ap (λ (h : Contents). is_in_tile_order h.reel.rules c.args.payload.now) c.self.view_is
 
 pub returns-clause-fault : goal.returns-clause-fault
 returns-clause-fault g c = tt
