@@ -34,5 +34,8 @@ pub mod NearCopies
 pub mod WholeFrames
 pub mod Narrowed
 pub mod NarrowedOriginal
+pub mod StandingSlices
+pub mod SmallSplices
+pub mod SmallNear
 pub mod Vectors
 pub mod SeveralVectors

@@ -1,0 +1,12 @@
+//! What `splice` gives where it gives all of a frame back, and when that is the original, as contracts of functions that do nothing.
+ghost use Rattle.ffv1_splice.specs.Small.{SplicedIsTheOriginal, SplicedOfNearIsTheOriginal, NearCopiesSettle, SettledIsSpliced};
+
+/// What is spliced from copies is the original, if each of its slices passes, its start is claimed, it is among what is tried there, and no
+/// piece that begins where it does, or ends where it does, is another. So it is of near copies. If besides each of its slices is a
+/// piece, the original is settled; and what is settled is spliced.
+pub fn true_splices_are_the_original()
+    ensures original { SplicedIsTheOriginal }
+    ensures near { SplicedOfNearIsTheOriginal }
+    ensures settled { NearCopiesSettle }
+    ensures spliced { SettledIsSpliced }
+{}
