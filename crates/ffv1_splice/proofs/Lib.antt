@@ -37,5 +37,9 @@ pub mod NarrowedOriginal
 pub mod StandingSlices
 pub mod SmallSplices
 pub mod SmallNear
+pub mod SmallClaims
+pub mod SmallWoven
+pub mod SmallPlaces
+pub mod SmallSettled
 pub mod Vectors
 pub mod SeveralVectors

@@ -25,11 +25,11 @@ joined_weaker P Q weaker copies payload is = record {
 
 -- ---- what a copy has where a footer ends
 
-length_there : (copy : List ℕ) (start end : ℕ) → length (slice_range copy start end) ≡ min (end - start) (length copy - start)
+pub length_there : (copy : List ℕ) (start end : ℕ) → length (slice_range copy start end) ≡ min (end - start) (length copy - start)
 length_there copy start end = length-take (end - start) (drop start copy) ∙ ap (min (end - start)) (length-drop start copy)
 
 -- a slice by its footer gives its size there
-size_there : (copy : List ℕ) (start end : ℕ) → end ≤ length copy → IsFramed (slice_range copy start end) → 8 < length (slice_range copy start end)
+pub size_there : (copy : List ℕ) (start end : ℕ) → end ≤ length copy → IsFramed (slice_range copy start end) → 8 < length (slice_range copy start end)
     → start + (size_before copy end + 8) ≡ end
 size_there copy start end within framed content =
     let long = length_there copy start end in

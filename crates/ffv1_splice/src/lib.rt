@@ -27,6 +27,6 @@ pub use laws::{
     woven_is_original,
 };
 pub use place::{Place, Standing};
-pub use small::true_splices_are_the_original;
+pub use small::{notions_are_of_splices, true_splices_are_the_original};
 pub use splicing::{SpliceFault, Spliced, splice};
 pub use text::{push_front, push_place};

@@ -1,5 +1,6 @@
 //! What `splice` gives where it gives all of a frame back, and when that is the original, as contracts of functions that do nothing.
 ghost use Rattle.ffv1_splice.specs.Small.{SplicedIsTheOriginal, SplicedOfNearIsTheOriginal, NearCopiesSettle, SettledIsSpliced};
+ghost use Rattle.ffv1_splice.specs.SmallNotions.{GivenBackIsSpliced, SettledIsGivenBack};
 
 /// What is spliced from copies is the original, if each of its slices passes, its start is claimed, it is among what is tried there, and no
 /// piece that begins where it does, or ends where it does, is another. So it is of near copies. If besides each of its slices is a
@@ -9,4 +10,10 @@ pub fn true_splices_are_the_original()
     ensures near { SplicedOfNearIsTheOriginal }
     ensures settled { NearCopiesSettle }
     ensures spliced { SettledIsSpliced }
+{}
+
+/// A frame that is given back is spliced from the copies; and where an original is settled from the copies, it is given back.
+pub fn notions_are_of_splices()
+    ensures spliced { GivenBackIsSpliced }
+    ensures settled { SettledIsGivenBack }
 {}
