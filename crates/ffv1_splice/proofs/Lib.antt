@@ -41,5 +41,7 @@ pub mod SmallClaims
 pub mod SmallWoven
 pub mod SmallPlaces
 pub mod SmallSettled
+pub mod SmallPremises
 pub mod Vectors
 pub mod SeveralVectors
+mod SmallVectors
