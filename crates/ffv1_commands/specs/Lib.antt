@@ -29,6 +29,7 @@ pub mod MendText
 pub mod Commands
 pub mod AnyPictureLaws
 pub mod SmallCommands
+pub mod SmallSplices
 pub mod SpliceLaws
 pub mod MendLaws
 pub mod UnreadLaws

@@ -2,6 +2,7 @@
 ghost use Rattle.ffv1_commands.specs.Commands.{MadeOfCopies, SameCopiesMakeOneFile, SameCopiesMakeOneHolding, SameCopiesMakeOneReport, CommandsRestoreTheOriginal, CommandsRestoreNearCopies, CommandsShowTheOriginal, CommandsShowNearCopies};
 ghost use Rattle.ffv1_commands.specs.AnyPictureLaws.{AnyPictureShowsTheOriginal, AnyPictureShowsNearCopies, AnyPictureShowsTheKeyframe};
 ghost use Rattle.ffv1_commands.specs.SmallCommands.{CommandsRestoreByAFunction};
+ghost use Rattle.ffv1_commands.specs.SmallSplices.{TrueIsSpliced, SettledIsMade};
 ghost use Rattle.ffv1_commands.specs.MendLaws.{ListedIsMade, AnyOrderMakesOneFile, TrueIsVouched, MendGivesTheOriginal};
 ghost use Rattle.ffv1_commands.specs.UnreadLaws.{UnreadIsGivenUp, LongCopyIsGivenUp};
 ghost use Rattle.ffv1_commands.specs.SpliceLaws.{SameCopiesMakeOneSplice, SpliceGivesTheOriginal, SpliceGivesNearCopies, SpliceGivesWovenCopies, SpliceGivesNearWovenCopies, TrueIsWhole};
@@ -78,6 +79,14 @@ pub fn splice_weaves_the_original()
 /// slices has content and passes its parity.
 pub fn splice_reports_whole_frames()
     ensures { TrueIsWhole }
+{}
+
+/// Where `splice` returns `true`, what it wrote is spliced from the copies, as the small definitions have it; and where an original is settled
+/// from the copies, `splice` writes it byte for byte and returns `true`. By `true_splices_are_the_original` what is spliced is the
+/// original where no piece contradicts it and each of its slices is within reach, and near copies settle it where each is a piece.
+pub fn splice_makes_what_is_spliced()
+    ensures spliced { TrueIsSpliced }
+    ensures settled { SettledIsMade }
 {}
 
 /// What `mend` makes is what becomes of the stretches that the list lists, and nothing else: OUT is their bytes, one after the other, the
