@@ -3,6 +3,7 @@ ghost use Rattle.ffv1_commands.specs.Commands.{MadeOfCopies, SameCopiesMakeOneFi
 ghost use Rattle.ffv1_commands.specs.AnyPictureLaws.{AnyPictureShowsTheOriginal, AnyPictureShowsNearCopies, AnyPictureShowsTheKeyframe};
 ghost use Rattle.ffv1_commands.specs.SmallCommands.{CommandsRestoreByAFunction};
 ghost use Rattle.ffv1_commands.specs.SmallSplices.{TrueIsSpliced, SettledIsMade};
+ghost use Rattle.ffv1_commands.specs.SmallMends.{TrueIsGood};
 ghost use Rattle.ffv1_commands.specs.MendLaws.{ListedIsMade, AnyOrderMakesOneFile, TrueIsVouched, MendGivesTheOriginal};
 ghost use Rattle.ffv1_commands.specs.UnreadLaws.{UnreadIsGivenUp, LongCopyIsGivenUp};
 ghost use Rattle.ffv1_commands.specs.SpliceLaws.{SameCopiesMakeOneSplice, SpliceGivesTheOriginal, SpliceGivesNearCopies, SpliceGivesWovenCopies, SpliceGivesNearWovenCopies, TrueIsWhole};
@@ -117,6 +118,12 @@ pub fn mend_claims_what_is_vouched()
 /// them.
 pub fn mend_gives_the_original()
     ensures { MendGivesTheOriginal }
+{}
+
+/// Where `mend` returns `true`, what it wrote is the bytes of the stretches, one after the other, and each is good as the small definitions
+/// have it. By `good_is_the_original` such a stretch is the original that is known again.
+pub fn mend_makes_what_is_good()
+    ensures { TrueIsGood }
 {}
 
 /// An input of at most 2^30 bytes that is read whole, as a record, a list, a copy for `splice` or a frame of `samples`, is reported as unread
