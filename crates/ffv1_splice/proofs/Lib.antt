@@ -34,5 +34,14 @@ pub mod NearCopies
 pub mod WholeFrames
 pub mod Narrowed
 pub mod NarrowedOriginal
+pub mod StandingSlices
+pub mod SmallSplices
+pub mod SmallNear
+pub mod SmallClaims
+pub mod SmallWoven
+pub mod SmallPlaces
+pub mod SmallSettled
+pub mod SmallPremises
 pub mod Vectors
 pub mod SeveralVectors
+mod SmallVectors

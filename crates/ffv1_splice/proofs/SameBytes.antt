@@ -7,7 +7,7 @@ module _ (a b : List ℕ) where
   abbrev pub IsSameAt : Place → Type 0
   IsSameAt place = slice_range a place.start place.end ≡ slice_range b place.start place.end
 
-  take_on : (bytes : List ℕ) (start end : ℕ) → start ≤ end → take end bytes ≡ take start bytes ++ slice_range bytes start end
+  pub take_on : (bytes : List ℕ) (start end : ℕ) → start ≤ end → take end bytes ≡ take start bytes ++ slice_range bytes start end
   take_on bytes start end h =
       let on : end ≡ start + (end - start) = omega arith in
       ap (λ n. take n bytes) on ∙ take-add start (end - start) bytes

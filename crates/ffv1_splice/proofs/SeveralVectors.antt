@@ -140,7 +140,7 @@ missing_of_later = (λ bytes valid. later_fails (subst PassesParity (twice_one l
 
 -- ---- from both
 
-bytes_by : (xs : List ℕ) → list_all (λ b. ltb b 256) xs ≡ true → AreBytes xs
+pub bytes_by : (xs : List ℕ) → list_all (λ b. ltb b 256) xs ≡ true → AreBytes xs
 bytes_by [] h i = omega arith
 bytes_by (x ∷ xs) h zero = ltb-true x 256 (and_parts (ltb x 256) (list_all (λ b. ltb b 256) xs) h).0
 bytes_by (x ∷ xs) h (suc i) = bytes_by xs (and_parts (ltb x 256) (list_all (λ b. ltb b 256) xs) h).1 i

@@ -39,7 +39,7 @@ module _ (copies : List (List ℕ)) (spliced : SplicedValue) (is : IsSpliceOf co
       (All-append P (map (moved_by is.start) is.hole.places) (undivided_places is.start is.hole.front)
       (All-map P (moved_by is.start) is.hole.places hole) undivided) (All-reverse P (lower copies spliced is) below)))
 
-  after_above : All P spliced.places → All P (hole_places is.start is.hole ++ reverse (lower copies spliced is))
+  pub after_above : All P spliced.places → All P (hole_places is.start is.hole ++ reverse (lower copies spliced is))
   after_above all = All-right P is.above (hole_places is.start is.hole ++ reverse (lower copies spliced is)) (subst (All P) is.places all)
 
   all_hole_places : All P spliced.places → All P (hole_places is.start is.hole)

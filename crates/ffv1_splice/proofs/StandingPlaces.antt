@@ -56,7 +56,7 @@ module _ (copies : List (List ℕ)) (spliced : SplicedValue) (is : IsSpliceOf co
 
   -- ---- where a place stands
 
-  between_hole : (place : Place) → Contains is.hole.places place → StandsBetween copies spliced.payload (moved_by is.start place)
+  unfoldable pub between_hole : (place : Place) → Contains is.hole.places place → StandsBetween copies spliced.payload (moved_by is.start place)
   between_hole place there =
       let inside = end_within copies spliced is in
       record {
@@ -72,7 +72,7 @@ module _ (copies : List (List ℕ)) (spliced : SplicedValue) (is : IsSpliceOf co
             (slice_range spliced.payload (is.start + place.start) (is.start + place.end)) place.standing) is.hole.places place hole_stands there;
       }
 
-  pub between_crossed : (place : Place) → IsCrossed copies is.bound spliced.payload place → StandsBetween copies spliced.payload place
+  unfoldable pub between_crossed : (place : Place) → IsCrossed copies is.bound spliced.payload place → StandsBetween copies spliced.payload place
   between_crossed place crossed =
       let inside = end_within copies spliced is in
       let below = bound_within copies is.end is.bound is.room in

@@ -113,7 +113,7 @@ module _ (copies : List (List ℕ)) (spliced : SplicedValue) (is : IsSpliceOf co
   place_slice place within right (undivided stands) = absurd (subst IsSettledOrWoven stands right)
   place_slice place within right (below settled) = slice_there place within settled.only.there
 
-  all_slices : All IsSliceThere spliced.places
+  pub all_slices : All IsSliceThere spliced.places
   all_slices k d lt =
       let place : Place = get_or spliced.places k d in
       place_slice place (places_within copies spliced is k d lt).1 (given.1 k d lt)

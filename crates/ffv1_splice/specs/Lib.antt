@@ -5,6 +5,8 @@ pub mod Faults
 pub mod Originals
 pub mod Laws
 pub mod Whole
+pub mod Small
+pub mod SmallNotions
 pub mod Text
 pub mod Inner
 -- what the clauses cite of the crates below

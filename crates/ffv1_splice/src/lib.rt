@@ -14,6 +14,7 @@ mod settling;
 mod several;
 mod shortest;
 mod sized;
+mod small;
 mod splicing;
 mod tally;
 mod text;
@@ -26,5 +27,6 @@ pub use laws::{
     woven_is_original,
 };
 pub use place::{Place, Standing};
+pub use small::{notions_are_of_splices, true_splices_are_the_original};
 pub use splicing::{SpliceFault, Spliced, splice};
 pub use text::{push_front, push_place};

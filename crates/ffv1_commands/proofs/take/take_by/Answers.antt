@@ -40,7 +40,7 @@ returns-in_err-write_made g c =
     let reel = c.in_ok-holding.holding.reel in
     let inputs = map g.I.Inputs.remaining c.args.copies.now in
     let each = subst (λ (lines : List ℕ). TakesEach c.args.recordings inputs reel c.take_inputs.new.holding lines c.in_ok-lines.in_order)
-        (sym c.as_str.ensures.value) c.in_ok-lines.ensures.ok in
+    (sym c.as_str.ensures.value) c.in_ok-lines.ensures.ok in
     rw (p.1, p.2) (record {
       reported = inr (inr (
         c.take_inputs.new.holding,
@@ -59,7 +59,7 @@ returns g c =
     let reel = c.in_ok-holding.holding.reel in
     let inputs = map g.I.Inputs.remaining c.args.copies.now in
     let each = subst (λ (lines : List ℕ). TakesEach c.args.recordings inputs reel c.take_inputs.new.holding lines c.in_ok-lines.in_order)
-        (sym c.as_str.ensures.value) c.in_ok-lines.ensures.ok in
+    (sym c.as_str.ensures.value) c.in_ok-lines.ensures.ok in
     record {
       reported = (
         c.take_inputs.new.holding,
