@@ -2,7 +2,8 @@
 use Rattle.std.proofs.Common.{◌≡◌, ℕ, ◌<◌, ◌≤◌, List, [], ◌∷◌, ◌++◌, length, map, reverse, refl, sym, ap, subst, ◌∙◌, append_assoc, length-append, arith}
 use Rattle.std.specs.List.{slice_range}
 use Rattle.std.proofs.lemmas.List.{append-nil, map-append, reverse-append, length-reverse}
-use Rattle.ffv1_layout.specs.Cuts.{FooterLeads, AreCutAt}
+use Rattle.ffv1_slice.specs.Chain.{FooterLeads}
+use Rattle.ffv1_layout.specs.Cuts.{AreCutAt}
 use Rattle.ffv1_layout.specs.Cuts.AreCutAt.{no_slice, one_slice}
 use Rattle.ffv1_layout.specs.Inner.Cutting.{AreCutAfter}
 

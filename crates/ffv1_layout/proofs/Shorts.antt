@@ -5,7 +5,8 @@ use Rattle.std.proofs.lemmas.Bool.{cases_lt, cases_order}
 use Rattle.std.proofs.lemmas.List.{get_or_append_left, get_or-append_right, get_or_past, get_or-take, get_or-drop, length-append, length-map, length-take}
 use Rattle.ffv1_bits.specs.Limits.{slice_limit}
 use Rattle.ffv1_range.specs.Setup.{RecordingValue}
-use Rattle.ffv1_layout.specs.Cuts.{footer_length, FooterLeads, size_of_footer, AreCutAt, FitFooters, AreSlicesOf}
+use Rattle.ffv1_slice.specs.Chain.{FooterLeads, size_of_footer}
+use Rattle.ffv1_layout.specs.Cuts.{footer_length, AreCutAt, FitFooters, AreSlicesOf}
 use Rattle.ffv1_layout.specs.Cuts.AreCutAt.{no_slice, one_slice}
 use Rattle.ffv1_layout.specs.Layout.{listed_slice, contents_of}
 use Rattle.ffv1_layout.specs.Inner.Placing.{ArePlaced}

@@ -1,22 +1,14 @@
 -- How a payload of any recording is cut into slices (RFC 9043, section 4.9): each ends with its footer, which gives the number of bytes
 -- before it.
-use Rattle.std.specs.Prelude.{◌≡◌, ℕ, ◌+◌, ◌-◌, ◌≤◌, ◌==◌, List, [], ◌∷◌, ◌++◌, length, take, slice_range, slice_index_or, if◌then◌else◌}
-use Rattle.byteorder.specs.Endian.{big_number}
+use Rattle.std.specs.Prelude.{◌≡◌, ℕ, ◌-◌, ◌≤◌, ◌==◌, List, [], ◌∷◌, ◌++◌, length, take, slice_range, slice_index_or, if◌then◌else◌}
 use Rattle.ffv1_bits.specs.Limits.{slice_limit}
 use Rattle.ffv1_range.specs.Setup.{RecordingValue}
 use Rattle.ffv1_range.specs.Tiles.{grid_of, tile_count}
+use Rattle.ffv1_slice.specs.Chain.{FooterLeads}
 
 -- the bytes of a footer: 3 of size, and with ec 1 one of error status and 4 of parity (sections 4.9.1 to 4.9.3)
 abbrev pub footer_length : ℕ → ℕ
 footer_length ec = if ec == 0 then 3 else 8
-
--- the size that a footer of so many bytes gives, which ends at place q
-abbrev pub size_of_footer : ℕ → List ℕ → ℕ → ℕ
-size_of_footer footer payload q = big_number 3 (slice_range payload (q - footer) q)
-
--- The slice whose footer ends at q begins at p.
-abbrev pub FooterLeads : ℕ → List ℕ → ℕ → ℕ → Type 0
-FooterLeads footer payload p q = p + size_of_footer footer payload q + footer ≡ q
 
 -- The first q bytes of a payload are these slices, from its front.
 pub data AreCutAt (footer : ℕ) (payload : List ℕ) : ℕ → List (List ℕ) → Type 0 where

@@ -1,12 +1,12 @@
 //! A payload cut into its slices, from its end (RFC 9043, section 4.9).
-ghost use Rattle.std.specs.Prelude.{◌≡◌, ◌<◌, ◌≤◌, ◌⊎◌, ℕ, List, length, map, IfOk, IfErr, IfSome, MatchOption};
+ghost use Rattle.std.specs.Prelude.{◌≡◌, ◌≤◌, ◌⊎◌, ℕ, List, map, IfOk, IfErr};
 ghost use Rattle.ffv1_range.specs.Setup.{RecordingValue};
-ghost use Rattle.ffv1_layout.specs.Cuts.{footer_length, FooterLeads, AreSlicesOf};
+ghost use Rattle.ffv1_layout.specs.Cuts.{footer_length, AreSlicesOf};
 ghost use Rattle.ffv1_layout.specs.declared.fault.LayoutFault.TheVariants.{Chain, Memory};
 
 use crate::fault::LayoutFault;
-use byteorder::{BigEndian, ByteOrder};
 use ffv1_range::Recording;
+use ffv1_slice::slice_start_by;
 use std::alloc::Global;
 
 /// How many bytes a footer has: 8 where the slices have parities, and 3 where they have none (RFC 9043, sections 4.2.16 and 4.9).
@@ -15,19 +15,6 @@ pub(crate) fn footer_length(recording: &Recording) -> usize
     ensures some { 3 ≤ result }
 {
     if recording.ec() == 0 { 3 } else { 8 }
-}
-
-/// Where the slice begins whose footer of so many bytes ends at this place; `None` where fewer bytes stand before the place, or
-/// the footer gives a size that is more than there is. Places count bytes from the payload's start.
-fn slice_start(payload: &[u8], place: usize, footer: usize) -> Option<usize>
-    requires within { place ≤ length payload.now }
-    requires some { 3 ≤ footer }
-    ensures cut { MatchOption result ((p : ℕ) → FooterLeads footer payload.now p place → ⊥) (λ p. FooterLeads footer payload.now p place) }
-    ensures before { IfSome result (λ p. p < place) }
-{
-    let from = place.checked_sub(footer)?;
-    let size = BigEndian::read_u24(&payload[from..place]) as usize;
-    from.checked_sub(size)
 }
 
 /// The slices of a payload, from its front, with their footers. It takes 16 bytes a slice, of which there are no more than tiles.
@@ -46,7 +33,7 @@ pub(crate) fn cut_slices<'a>(
     let mut slices = Vec::new(alloc);
     let mut end = payload.len();
     while end > 0 {
-        let Some(start) = slice_start(payload, end, footer) else {
+        let Some(start) = slice_start_by(payload, end, footer) else {
             return Err(LayoutFault::Chain);
         };
         if slices.len() == most {

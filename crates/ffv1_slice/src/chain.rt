@@ -1,9 +1,9 @@
 //! The chain of a payload's slices, from its end (RFC 9043, section 4.9). A link that fails its parity is still a link,
 //! and its size is still followed.
-ghost use Rattle.std.specs.Prelude.{◌≡◌, ◌+◌, ◌-◌, ◌*◌, ◌≤◌, ℕ, [], ◌∷◌, length, MatchOption, IfSome, IfNone, ⊤};
+ghost use Rattle.std.specs.Prelude.{◌≡◌, ◌+◌, ◌-◌, ◌*◌, ◌^◌, ◌<◌, ◌≤◌, ℕ, [], ◌∷◌, length, MatchOption, IfSome, IfNone, ⊤};
 ghost use Rattle.std.specs.Iterator.{YieldsFirst, item_count, MakesProgress};
 ghost use Rattle.ffv1_bits.specs.Limits.{slice_limit};
-ghost use Rattle.ffv1_slice.specs.Chain.{FooterGives, AreLinksOf, IsEnd};
+ghost use Rattle.ffv1_slice.specs.Chain.{FooterGives, FooterLeads, AreLinksOf, IsEnd};
 ghost use Rattle.ffv1_slice.specs.Ending.{EndsAs};
 ghost use Rattle.ffv1_slice.specs.Walk.{links_of};
 
@@ -106,12 +106,21 @@ pub fn slice_start(payload: &[u8], place: usize) -> Option<usize>
     ensures cut { MatchOption result ((p : ℕ) → FooterGives payload.now p place → ⊥) (λ p. FooterGives payload.now p place) }
     ensures short { IfSome result (λ p. place ≤ p + slice_limit) }
 {
-    if place < FOOTER_LENGTH {
-        return None;
-    }
-    let footer = &payload[place - FOOTER_LENGTH..place];
-    let size = BigEndian::read_u24(footer) as usize;
-    (place - FOOTER_LENGTH).checked_sub(size)
+    slice_start_by(payload, place, FOOTER_LENGTH)
+}
+
+/// The same where a footer has so many bytes, and has no parity if they are 3 (RFC 9043, section 4.9); `None` where fewer stand before
+/// the place, or the footer there gives a size that is more than there is.
+pub fn slice_start_by(payload: &[u8], place: usize, footer: usize) -> Option<usize>
+    requires within { place ≤ length payload.now }
+    requires some { 3 ≤ footer }
+    ensures cut { MatchOption result ((p : ℕ) → FooterLeads footer payload.now p place → ⊥) (λ p. FooterLeads footer payload.now p place) }
+    ensures before { IfSome result (λ p. p < place) }
+    ensures short { IfSome result (λ p. place < p + footer + 2 ^ 24) }
+{
+    let from = place.checked_sub(footer)?;
+    let size = BigEndian::read_u24(&payload[from..place]) as usize;
+    from.checked_sub(size)
 }
 
 /// The end back from this one at which no slice ends.

@@ -8,7 +8,7 @@ mod found;
 mod link;
 mod slice;
 
-pub use chain::{Chain, ChainEnd, next_link, slice_start};
+pub use chain::{Chain, ChainEnd, next_link, slice_start, slice_start_by};
 pub use footer::{FOOTER_LENGTH, content_of, is_framed, status_of};
 pub use found::{found_slices_are_found, near_found, original_is_found};
 pub use link::Link;

@@ -13,8 +13,8 @@ bytes_of slice = slice.now
 pub loop-end-init : goal.loop-end-init
 loop-end-init c = rw c.new-slices.ensures.items (record { cut = after_end _ _; few = omega arith })
 
-pub slice_start-requires-clause-within : goal.slice_start-requires-clause-within
-slice_start-requires-clause-within c = c.loop-end.invariant.cut.within
+pub slice_start_by-requires-clause-within : goal.slice_start_by-requires-clause-within
+slice_start_by-requires-clause-within c = c.loop-end.invariant.cut.within
 
 pub returns-in_default-clause-err : goal.returns-in_default-clause-err
 returns-in_default-clause-err c =
