@@ -4,8 +4,10 @@ ghost use Rattle.ffv1_range.specs.Decoder.{AreStates};
 
 use crate::frames::{are_zeros, copies, is_made, setup_by};
 use crate::parity::with_parity;
-use ffv1_range::{HeadFault, RangeFault, Recording, Setup, SetupFault, read_slice_head};
-use ffv1_slice::{LinkFault, read_slice};
+use ffv1_range::{
+    Frames, HeadFault, RangeFault, Recording, Setup, SetupFault, read_frame_tile, read_slice_head,
+};
+use ffv1_slice::{Chain, LinkFault, content_of, frame_slice_of, read_frame_slice, read_slice};
 use ffv1_vectors::{MakeFault, RangeEncoder, RecordSpec, make_record, spell_record, spell_slice};
 use std::alloc::{AllocError, Global};
 
@@ -500,6 +502,34 @@ fn slices_are_read_by_their_fields(rt: HostRuntime) {
         let slice = spell_slice(rt.alloc(), *first, *key, fields, &[0x80], 0);
         assert!(rt; read_in_two(rt.alloc(), slice, *first) == Ok(*wanted));
     }
+}
+
+/// Whether a first slice with this keyframe bit is read so in these frames: as a slice, as a link, and its content alone.
+fn is_read_in(alloc: Global, frames: Frames, key: bool, wanted: Result<usize, HeadFault>) -> bool {
+    let slice = spell_slice(alloc, true, key, &fields_of(0), &[0x80], 0);
+    let (Ok(slice), Ok(setup)) = (slice, tiles_beside(alloc, 2)) else {
+        return false;
+    };
+    let Some(link) = Chain::new(&slice).next() else {
+        return false;
+    };
+    let tile = read_frame_tile(frames, setup.recording(), content_of(link.bytes()), true);
+    let read = match tile {
+        Ok(tile) => Ok(tile),
+        Err(fault) => Err(LinkFault::Head(fault)),
+    };
+    tile == wanted
+        && read_frame_slice(frames, &setup, &slice, true) == read
+        && frame_slice_of(frames, &setup, &link) == read
+}
+
+#[test]
+fn slices_of_any_frame_have_either_keyframe_bit(rt: HostRuntime) {
+    let alloc = rt.alloc();
+    assert!(rt; is_read_in(alloc, Frames::Ruled, true, Ok(0)));
+    assert!(rt; is_read_in(alloc, Frames::Ruled, false, Err(HeadFault::NotKey)));
+    assert!(rt; is_read_in(alloc, Frames::Any, true, Ok(0)));
+    assert!(rt; is_read_in(alloc, Frames::Any, false, Ok(0)));
 }
 
 #[test]

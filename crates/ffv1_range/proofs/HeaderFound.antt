@@ -99,7 +99,7 @@ refilled_shrinks closed range low rest d h =
     byte_shrinks true range low [] d h = omega (arith, ap (λ z. length z.rest) (same_ok (record { range = 256 * range; low = 256 * low; rest = [] }) d h))
     byte_shrinks false range low [] d h = absurd cc
 
-abbrev with_bit : Bool → Coder → Result (Bool × Coder) RangeFault
+abbrev pub with_bit : Bool → Coder → Result (Bool × Coder) RangeFault
 with_bit bit d = Ok (bit, d)
 
 cut_shrinks : (closed : Bool) (range low : ℕ) (rest : List ℕ) (given bit : Bool) (d : Coder)

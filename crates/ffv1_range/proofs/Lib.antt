@@ -11,6 +11,7 @@ pub mod HeaderFound
 pub mod SliceHeaderFound
 pub mod TileHeaderFound
 pub mod HeadTiles
+pub mod KeyLaws
 pub mod DeltaSteps
 pub mod SetupSteps
 pub mod TransitionSteps

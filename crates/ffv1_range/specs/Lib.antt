@@ -21,4 +21,5 @@ pub mod HeaderForms
 pub mod Header
 pub mod SliceHeader
 pub mod TileHeaders
+pub mod Frames
 pub mod Inner

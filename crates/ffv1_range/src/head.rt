@@ -9,6 +9,7 @@ ghost use Rattle.ffv1_range.specs.Forms.{ReadsForm, same_fault};
 ghost use Rattle.ffv1_range.specs.Header.{header_limits, head_read, head_judged, IsHeadOf};
 ghost use Rattle.ffv1_range.specs.HeaderForms.{header_fields, fields_form};
 ghost use Rattle.ffv1_range.specs.SliceHeader.{slice_mode, slice_bytes, field_count, table_indexes, slice_header_judged, slice_header_read, IsSliceHeaderOf};
+ghost use Rattle.ffv1_range.specs.Frames.{asks_keyframes, by_frames};
 ghost use Rattle.ffv1_range.specs.TileHeaders.{is_in_profile, scope_by, rules_of, IsTileContent, tile_judged, tile_read, HeadsTile};
 ghost use Rattle.ffv1_range.specs.Inner.Forms.{ReadsFormAs};
 ghost use Rattle.ffv1_range.specs.Inner.HeaderForms.{ReadsKey, ReadsHeader, IsAtPlace};
@@ -18,6 +19,7 @@ ghost use Rattle.ffv1_range.specs.declared.head.SliceHeader.{SliceHeader};
 ghost use Rattle.ffv1_range.specs.declared.head.SliceStart.{SliceStart};
 
 use crate::coding::{RangeDecoder, RangeFault};
+use crate::frames::Frames;
 use crate::recording::Recording;
 use crate::scope::Scope;
 use crate::setup::Setup;
@@ -183,9 +185,24 @@ pub fn read_tile(recording: &Recording, content: &[u8], first: bool) -> Result<u
     ensures only { (tile : ℕ) → IsTileContent (rules_of recording.now) content.now first tile → result ≡ Ok tile }
     ensures fault { result ≡ tile_read (rules_of recording.now) content.now first }
 {
+    read_frame_tile(Frames::Ruled, recording, content, first)
+}
+
+/// The same in these frames: `read_tile` reads those that the recording's rules allow. In any frame the keyframe bit is read as well, and
+/// `NotKey` is not returned.
+pub fn read_frame_tile(
+    frames: Frames,
+    recording: &Recording,
+    content: &[u8],
+    first: bool,
+) -> Result<usize, HeadFault>
+    ensures found { IfOk result (IsTileContent (by_frames frames (rules_of recording.now)) content.now first) }
+    ensures only { (tile : ℕ) → IsTileContent (by_frames frames (rules_of recording.now)) content.now first tile → result ≡ Ok tile }
+    ensures fault { result ≡ tile_read (by_frames frames (rules_of recording.now)) content.now first }
+{
     let mut decoder = slice_decoder(recording, content)?;
     let count = field_count(recording.has_alpha());
-    let header = read_header(scope_of(recording), &mut decoder, first, count)?;
+    let header = read_header(scope_of(frames, recording), &mut decoder, first, count)?;
     end_header(recording, decoder)?;
     judged_tile(recording, first, &header.fields)
 }
@@ -195,14 +212,13 @@ pub fn heads_tile()
     ensures { HeadsTile }
 {}
 
-/// Which keyframe bits a recording may have.
-fn scope_of(recording: &Recording) -> Scope
-    ensures { result ≡ scope_by (is_in_profile recording.now) }
+/// Which keyframe bits these frames of a recording may have.
+fn scope_of(frames: Frames, recording: &Recording) -> Scope
+    ensures { result ≡ scope_by (asks_keyframes frames (is_in_profile recording.now)) }
 {
-    if recording.is_in_profile() {
-        Scope::Profile
-    } else {
-        Scope::Version3
+    match frames {
+        Frames::Ruled if recording.is_in_profile() => Scope::Profile,
+        _ => Scope::Version3,
     }
 }
 

@@ -6,6 +6,7 @@ mod coding;
 mod deltas;
 mod fault;
 mod fields;
+mod frames;
 mod grid;
 mod head;
 mod recorded;
@@ -19,10 +20,11 @@ mod transitions;
 
 pub use coding::{RangeDecoder, RangeEnd, RangeFault};
 pub use fault::SetupFault;
+pub use frames::Frames;
 pub use grid::{Grid, TileRect, each_place_in_one_tile, each_tile_in_frame};
 pub use head::{
-    HEAD_FIELDS, HeadFault, SliceHead, SliceHeader, SliceStart, heads_tile, read_head,
-    read_head_fields, read_slice_head, read_tile,
+    HEAD_FIELDS, HeadFault, SliceHead, SliceHeader, SliceStart, heads_tile, read_frame_tile,
+    read_head, read_head_fields, read_slice_head, read_tile,
 };
 pub use recorded::Recorded;
 pub use recording::{

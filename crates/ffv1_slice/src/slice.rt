@@ -3,12 +3,13 @@
 ghost use Rattle.std.specs.Prelude.{◌≡◌, ◌==◌, ℕ, ◌≤◌, IfOk, Ok, Err, true, length};
 ghost use Rattle.ffv1_bits.specs.Parity.{PassesParity};
 ghost use Rattle.ffv1_range.specs.TileHeaders.{tile_read};
+ghost use Rattle.ffv1_range.specs.Frames.{by_frames};
 ghost use Rattle.ffv1_slice.specs.Slices.{IsSliceOf, content_of, link_tile, is_passing_slice, slice_read, SliceReadIsSlice};
 
 use crate::footer::{content_of, is_framed};
 use crate::link::Link;
 use ffv1_bits::passes;
-use ffv1_range::{HeadFault, Recorded, read_tile};
+use ffv1_range::{Frames, HeadFault, Recorded, read_frame_tile};
 
 /// Why a link is no slice.
 #[derive(Clone, Copy, Debug, PartialEq, Eq)]
@@ -32,7 +33,24 @@ pub fn slice_of<S: Recorded>(setup: &S, link: &Link<'_>) -> Result<usize, LinkFa
     ensures head { PassesParity link.now.bytes → result ≡ link_tile (tile_read (S.rules setup.now) (content_of link.now.bytes) (link.now.start == 0)) }
     ensures read { result ≡ slice_read (S.rules setup.now) link.now.bytes (link.now.start == 0) }
 {
-    read_slice(setup, link.bytes(), link.start() == 0)
+    frame_slice_of(Frames::Ruled, setup, link)
+}
+
+/// The same in these frames: `slice_of` judges by those that the record's rules allow. In any frame the keyframe bit may be 0.
+pub fn frame_slice_of<S: Recorded>(
+    frames: Frames,
+    setup: &S,
+    link: &Link<'_>,
+) -> Result<usize, LinkFault>
+    ensures found { IfOk result (λ tile. IsSliceOf (by_frames frames (S.rules setup.now)) link.now.bytes (link.now.start == 0) tile) }
+    ensures only { (tile : ℕ) → IsSliceOf (by_frames frames (S.rules setup.now)) link.now.bytes (link.now.start == 0) tile → result ≡ Ok tile }
+
+    ensures parity { (PassesParity link.now.bytes → ⊥) → result ≡ Err LinkFault.Parity }
+    ensures head { PassesParity link.now.bytes
+        → result ≡ link_tile (tile_read (by_frames frames (S.rules setup.now)) (content_of link.now.bytes) (link.now.start == 0)) }
+    ensures read { result ≡ slice_read (by_frames frames (S.rules setup.now)) link.now.bytes (link.now.start == 0) }
+{
+    read_frame_slice(frames, setup, link.bytes(), link.start() == 0)
 }
 
 /// The tile of which these bytes, footer and all, are a slice. They are read with the keyframe bit where they are `first`
@@ -45,18 +63,37 @@ pub fn read_slice<S: Recorded>(setup: &S, slice: &[u8], first: bool) -> Result<u
     ensures only { (tile : ℕ) → IsSliceOf (S.rules setup.now) slice.now first tile → result ≡ Ok tile }
     ensures read { result ≡ slice_read (S.rules setup.now) slice.now first }
 {
-    tile_read(setup, slice, first)
+    read_frame_slice(Frames::Ruled, setup, slice, first)
+}
+
+/// The same in these frames: `read_slice` judges by those that the record's rules allow. In any frame the keyframe bit may be 0.
+pub fn read_frame_slice<S: Recorded>(
+    frames: Frames,
+    setup: &S,
+    slice: &[u8],
+    first: bool,
+) -> Result<usize, LinkFault>
+    ensures found { IfOk result (λ tile. IsSliceOf (by_frames frames (S.rules setup.now)) slice.now first tile) }
+    ensures only { (tile : ℕ) → IsSliceOf (by_frames frames (S.rules setup.now)) slice.now first tile → result ≡ Ok tile }
+    ensures read { result ≡ slice_read (by_frames frames (S.rules setup.now)) slice.now first }
+{
+    tile_read(frames, setup, slice, first)
 }
 
 /// The tile of a slice, as it is read.
 #[tactic(auto, unfolding(crate::specs::Slices::slice_read))]
-fn tile_read<S: Recorded>(setup: &S, slice: &[u8], first: bool) -> Result<usize, LinkFault>
-    ensures { result ≡ slice_read (S.rules setup.now) slice.now first }
+fn tile_read<S: Recorded>(
+    frames: Frames,
+    setup: &S,
+    slice: &[u8],
+    first: bool,
+) -> Result<usize, LinkFault>
+    ensures { result ≡ slice_read (by_frames frames (S.rules setup.now)) slice.now first }
 {
     if !is_passing_slice(slice) {
         return Err(LinkFault::Parity);
     }
-    match read_tile(setup.recording(), content_of(slice), first) {
+    match read_frame_tile(frames, setup.recording(), content_of(slice), first) {
         Ok(tile) => Ok(tile),
         Err(fault) => Err(LinkFault::Head(fault)),
     }

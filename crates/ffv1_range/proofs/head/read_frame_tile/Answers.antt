@@ -1,6 +1,6 @@
 use Rattle.std.proofs.Common.{rules}
 use Rattle.ffv1_range.proofs.TileHeaderFound.{given}
-use Rattle.ffv1_range.proofs.head.read_tile.Goals as goal
+use Rattle.ffv1_range.proofs.head.read_frame_tile.Goals as goal
 
 pub returns-in_err-decoder : goal.returns-in_err-decoder
 returns-in_err-decoder c = given _ _ _ _ (search rules)

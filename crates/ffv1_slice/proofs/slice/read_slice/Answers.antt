@@ -1,9 +1,0 @@
-use Rattle.std.proofs.Common.{◌∙◌}
-use Rattle.ffv1_slice.proofs.SliceLaws.{slice_is_found, slice_run}
-use Rattle.ffv1_slice.proofs.slice.read_slice.Goals as goal
-
-pub returns-clause-found : goal.returns-clause-found
-returns-clause-found g c = slice_is_found (g.S.Recorded.rules c.args.setup.now) c.args.slice.now c.args.first c.tile_read.result c.tile_read.ensures
-
-pub returns-clause-only : goal.returns-clause-only
-returns-clause-only g c = λ tile h. c.tile_read.ensures ∙ slice_run (g.S.Recorded.rules c.args.setup.now) c.args.slice.now c.args.first tile h
