@@ -1,18 +1,19 @@
 -- Rows of samples drawn onto a plane, one after the other.
-use Rattle.std.proofs.Common.{◌≡◌, ℕ, zero, suc, ◌+◌, ◌-◌, ◌*◌, ◌/◌, ◌^◌, ◌<◌, ◌≤◌, ◌⊎◌, true, false, ◌&&◌, cond, nat_le, nat_lt, List, [], ◌++◌, length, get_or, get_or-set_same, get_or-set_other, take, drop, sym, ap, subst, ◌∙◌, inl, inr, arith}
+use Rattle.std.proofs.Common.{◌≡◌, ℕ, zero, suc, ◌+◌, ◌-◌, ◌*◌, ◌/◌, ◌^◌, ◌<◌, ◌≤◌, ◌⊎◌, true, false, ◌&&◌, cond, nat_le, nat_lt, List, [], ◌++◌, length, map, get_or, get_or-set_same, get_or-set_other, take, drop, Vec, Global, sym, ap, subst, ◌∙◌, inl, inr, arith}
 use Rattle.std.proofs.Math.ListN.{set}
 use Rattle.std.specs.Int.{div_ceil}
 use Rattle.std.proofs.lemmas.Grind.{div_ceil_times}
 use Rattle.std.proofs.lemmas.Nat.{div-add-mod', pow_pos}
 use Rattle.std.proofs.lemmas.Bool.{ltb-true, lt-ltb, le-ltb, le-leb, lt-leb, cases_lt, cases_order, and_from, and_right}
-use Rattle.std.proofs.lemmas.List.{length-take-le, length-drop, get_or-take, get_or-drop, get_or_append_left, get_or-append_right, length-append, length-set}
+use Rattle.std.proofs.lemmas.List.{length-take-le, length-drop, get_or-take, get_or-drop, get_or_append_left, get_or-append_right, get_or-map, length-append, length-set}
 use Rattle.std.proofs.Math.Nat.{mul-le-mul_right, lt_of_mul-lt-mul_right}
 use Rattle.std.specs.Cmp.{both_ways}
 use Rattle.ffv1_range.specs.declared.grid.TileRect.{TileRect}
 use Rattle.ffv1_range.specs.Tiles.{GridValue, IsGrid, tile_count, tile_rect, plane_rect, frame_rect}
 use Rattle.ffv1_range.proofs.TileLaws.{each_tile}
-use Rattle.ffv1_picture.specs.WholePicture.{Planes, covers, sample_in}
-use Rattle.ffv1_picture.specs.Inner.Drawing.{Draws, FitsIn, area, plane_at}
+use Rattle.ffv1_picture.specs.WholePicture.{Planes, covers}
+use Rattle.ffv1_picture.specs.Drawn.{Draws, FitsIn}
+use Rattle.ffv1_picture.specs.Inner.Drawing.{area, plane_at}
 
 -- the first rows of a rectangle
 abbrev pub first_rows : TileRect → ℕ → TileRect
@@ -20,8 +21,8 @@ first_rows r rows = record { x = r.x; y = r.y; w = r.w; h = rows }
 
 -- ---- items of a list in a row that are overwritten
 
-module _ (a w : ℕ) (old link : List ℕ) (fits : a + w ≤ length old) (long : length link ≡ w) where
-  abbrev with_link : List ℕ
+module _ {T : Type 0} (a w : ℕ) (old link : List T) (fits : a + w ≤ length old) (long : length link ≡ w) where
+  abbrev with_link : List T
   with_link = take a old ++ (link ++ drop w (drop a old))
 
   length-with_link : length with_link ≡ length old
@@ -37,22 +38,22 @@ module _ (a w : ℕ) (old link : List ℕ) (fits : a + w ≤ length old) (long :
         long,
       )
 
-  before_link : (k : ℕ) → k < a → get_or with_link k 0 ≡ get_or old k 0
-  before_link k lt =
-      get_or_append_left (take a old) (link ++ drop w (drop a old)) 0 k (omega (arith, length-take-le a old (omega arith)))
-      ∙ get_or-take a old k 0 lt
+  before_link : (k : ℕ) (d : T) → k < a → get_or with_link k d ≡ get_or old k d
+  before_link k d lt =
+      get_or_append_left (take a old) (link ++ drop w (drop a old)) d k (omega (arith, length-take-le a old (omega arith)))
+      ∙ get_or-take a old k d lt
 
-  from_start : (k : ℕ) → a ≤ k → get_or with_link k 0 ≡ get_or (link ++ drop w (drop a old)) (k - a) 0
-  from_start k le = get_or-append_right (take a old) (link ++ drop w (drop a old)) a k 0 (length-take-le a old (omega arith)) le
+  from_start : (k : ℕ) (d : T) → a ≤ k → get_or with_link k d ≡ get_or (link ++ drop w (drop a old)) (k - a) d
+  from_start k d le = get_or-append_right (take a old) (link ++ drop w (drop a old)) a k d (length-take-le a old (omega arith)) le
 
-  in_link : (k : ℕ) → a ≤ k → k < a + w → get_or with_link k 0 ≡ get_or link (k - a) 0
-  in_link k le lt = from_start k le ∙ get_or_append_left link (drop w (drop a old)) 0 (k - a) (omega (arith, long))
+  in_link : (k : ℕ) (d : T) → a ≤ k → k < a + w → get_or with_link k d ≡ get_or link (k - a) d
+  in_link k d le lt = from_start k d le ∙ get_or_append_left link (drop w (drop a old)) d (k - a) (omega (arith, long))
 
-  after_link : (k : ℕ) → a + w ≤ k → get_or with_link k 0 ≡ get_or old k 0
-  after_link k le =
-      from_start k (omega arith) ∙ get_or-append_right link (drop w (drop a old)) w (k - a) 0 long (omega arith)
-      ∙ get_or-drop w (drop a old) (k - a - w) 0 ∙ get_or-drop a old (w + (k - a - w)) 0
-      ∙ ap (λ i. get_or old i 0) {x = a + (w + (k - a - w))} {y = k} (omega arith)
+  after_link : (k : ℕ) (d : T) → a + w ≤ k → get_or with_link k d ≡ get_or old k d
+  after_link k d le =
+      from_start k d (omega arith) ∙ get_or-append_right link (drop w (drop a old)) w (k - a) d long (omega arith)
+      ∙ get_or-drop w (drop a old) (k - a - w) d ∙ get_or-drop a old (w + (k - a - w)) d
+      ∙ ap (λ i. get_or old i d) {x = a + (w + (k - a - w))} {y = k} (omega arith)
 
 -- ---- which places the rows cover
 
@@ -76,43 +77,45 @@ other_row r n x y other =
 
 -- ---- one row more
 
-module _ (width : ℕ) (r : TileRect) (n : ℕ) (samples old mid link : List ℕ) (in_width : r.x + r.w ≤ width)
+module _ {T : Type 0} (width : ℕ) (r : TileRect) (n : ℕ) (samples old mid link : List T) (in_width : r.x + r.w ≤ width)
     (in_height : (r.y + n) * width + width ≤ length old) (drawn : Draws width (first_rows r n) samples old mid)
-    (long : length link ≡ r.w) (is : (i : ℕ) → i < r.w → get_or link i 0 ≡ get_or samples (n * r.w + i) 0) where
+    (long : length link ≡ r.w) (is : (i : ℕ) (d : T) → i < r.w → get_or link i d ≡ get_or samples (n * r.w + i) d) where
   abbrev pub from : ℕ
   from = (r.y + n) * width + r.x
 
   fits : from + r.w ≤ length mid
   fits = omega (arith, drawn.same_length, in_height, in_width)
 
-  abbrev next : List ℕ
+  abbrev next : List T
   next = with_link from r.w mid link fits long
 
-  abbrev Shows : ℕ → ℕ → Type 0
-  Shows x y = get_or next (y * width + x) 0 ≡ cond (covers (first_rows r (n + 1)) x y) (sample_in (first_rows r (n + 1)) samples x y)
-      (get_or old (y * width + x) 0)
+  abbrev sample_at : ℕ → ℕ → T → T
+  sample_at x y d = get_or samples ((y - r.y) * r.w + (x - r.x)) d
 
-  as_before : (x y : ℕ) → x < width → y * width + x < length old → get_or next (y * width + x) 0 ≡ get_or mid (y * width + x) 0
-      → covers (first_rows r n) x y ≡ covers (first_rows r (n + 1)) x y → Shows x y
-  as_before x y inside within kept same =
-      kept ∙ drawn.each x y inside within
-      ∙ ap (λ b. cond b (sample_in (first_rows r (n + 1)) samples x y) (get_or old (y * width + x) 0)) same
+  abbrev Shows : ℕ → ℕ → T → Type 0
+  Shows x y d = get_or next (y * width + x) d ≡ cond (covers (first_rows r (n + 1)) x y) (sample_at x y d) (get_or old (y * width + x) d)
 
-  in_row : (x y : ℕ) → x < width → y * width + x < length old → y ≡ r.y + n → Shows x y
-  in_row x y inside within same = elim (cases_lt x r.x) [
+  as_before : (x y : ℕ) (d : T) → x < width → y * width + x < length old → get_or next (y * width + x) d ≡ get_or mid (y * width + x) d
+      → covers (first_rows r n) x y ≡ covers (first_rows r (n + 1)) x y → Shows x y d
+  as_before x y d inside within kept same =
+      kept ∙ drawn.each x y d inside within
+      ∙ ap (λ b. cond b (sample_at x y d) (get_or old (y * width + x) d)) same
+
+  in_row : (x y : ℕ) (d : T) → x < width → y * width + x < length old → y ≡ r.y + n → Shows x y d
+  in_row x y d inside within same = elim (cases_lt x r.x) [
     | inl left ↦
-        as_before x y inside within (before_link from r.w mid link fits long (y * width + x) (rw same (omega arith)))
+        as_before x y d inside within (before_link from r.w mid link fits long (y * width + x) d (rw same (omega arith)))
         (left_of (first_rows r n) x y left ∙ sym (left_of (first_rows r (n + 1)) x y left))
     | inr right ↦ elim (cases_lt x (r.x + r.w)) [
       | inl here ↦
-          in_link from r.w mid link fits long (y * width + x) (rw same (omega arith)) (rw same (omega arith))
-          ∙ ap (λ i. get_or link i 0) {x = y * width + x - from} {y = x - r.x} (rw same (omega arith))
-          ∙ is (x - r.x) (omega arith)
-          ∙ ap (λ i. get_or samples (i * r.w + (x - r.x)) 0) {x = n} {y = y - r.y} (omega arith)
-          ∙ sym (ap (λ b. cond b (sample_in (first_rows r (n + 1)) samples x y) (get_or old (y * width + x) 0))
+          in_link from r.w mid link fits long (y * width + x) d (rw same (omega arith)) (rw same (omega arith))
+          ∙ ap (λ i. get_or link i d) {x = y * width + x - from} {y = x - r.x} (rw same (omega arith))
+          ∙ is (x - r.x) d (omega arith)
+          ∙ ap (λ i. get_or samples (i * r.w + (x - r.x)) d) {x = n} {y = y - r.y} (omega arith)
+          ∙ sym (ap (λ b. cond b (sample_at x y d) (get_or old (y * width + x) d))
           (covers_here (first_rows r (n + 1)) x y right here (omega arith) (omega arith)))
       | inr later ↦
-          as_before x y inside within (after_link from r.w mid link fits long (y * width + x) (rw same (omega arith)))
+          as_before x y d inside within (after_link from r.w mid link fits long (y * width + x) d (rw same (omega arith)))
           (right_of (first_rows r n) x y later ∙ sym (right_of (first_rows r (n + 1)) x y later))
     ]
   ]
@@ -120,14 +123,14 @@ module _ (width : ℕ) (r : TileRect) (n : ℕ) (samples old mid link : List ℕ
   pub row_drawn : Draws width (first_rows r (n + 1)) samples old (take from mid ++ (link ++ drop r.w (drop from mid)))
   row_drawn = record {
     same_length = length-with_link from r.w mid link fits long ∙ drawn.same_length;
-    each = λ x y inside within. elim (cases_order y (r.y + n)) [
-      | inl same ↦ in_row x y inside within same
+    each = λ x y d inside within. elim (cases_order y (r.y + n)) [
+      | inl same ↦ in_row x y d inside within same
       | inr (inl above) ↦
-          as_before x y inside within (before_link from r.w mid link fits long (y * width + x)
+          as_before x y d inside within (before_link from r.w mid link fits long (y * width + x) d
           (omega (arith, let up : y + 1 ≤ r.y + n = omega arith in mul-le-mul_right width up)))
           (other_row r n x y (inl above))
       | inr (inr below) ↦
-          as_before x y inside within (after_link from r.w mid link fits long (y * width + x)
+          as_before x y d inside within (after_link from r.w mid link fits long (y * width + x) d
           (omega (arith, let up : r.y + n + 1 ≤ y = omega arith in mul-le-mul_right width up)))
           (other_row r n x y (inr below))
     ];
@@ -136,13 +139,13 @@ module _ (width : ℕ) (r : TileRect) (n : ℕ) (samples old mid link : List ℕ
 -- ---- one plane more
 
 -- drawn alike
-pub draws_same : (w w' : ℕ) (r r' : TileRect) (samples samples' old old' new : List ℕ) → w ≡ w' → r ≡ r' → samples ≡ samples' → old ≡ old'
+pub draws_same : {T : Type 0} (w w' : ℕ) (r r' : TileRect) (samples samples' old old' new : List T) → w ≡ w' → r ≡ r' → samples ≡ samples' → old ≡ old'
     → Draws w r samples old new → Draws w' r' samples' old' new
-draws_same w w' r r' samples samples' old old' new same_w same_r same_s same_o drawn =
+draws_same {T} w w' r r' samples samples' old old' new same_w same_r same_s same_o drawn =
     let A : ℕ → Type 0 = λ x. Draws x r' samples' old' new in
     let B : TileRect → Type 0 = λ x. Draws w x samples' old' new in
-    let C : List ℕ → Type 0 = λ x. Draws w r x old' new in
-    let D : List ℕ → Type 0 = λ x. Draws w r samples x new in
+    let C : List T → Type 0 = λ x. Draws w r x old' new in
+    let D : List T → Type 0 = λ x. Draws w r samples x new in
     subst A same_w (subst B same_r (subst C same_s (subst D same_o drawn)))
 
 pub fits_same : (w w' n n' : ℕ) (r r' : TileRect) → w ≡ w' → n ≡ n' → r ≡ r' → FitsIn w n r → FitsIn w' n' r'
@@ -152,16 +155,16 @@ fits_same w w' n n' r r' same_w same_n same_r fits =
     let C : TileRect → Type 0 = λ x. FitsIn w n x in
     subst A same_w (subst B same_n (subst C same_r fits))
 
--- The first planes have those of the tile's picture drawn onto them, and the others are as they were.
-pub record DrawsPlanes (g : GridValue) (tile planes : ℕ) (picture old new : Planes) : Type 0 where
+-- The first planes have those of a picture drawn onto them, and the others are as they were. Each plane has a width, and the picture a place
+-- in it.
+pub record DrawsPlanes (width : ℕ → ℕ) (place : ℕ → TileRect) (planes : ℕ) (picture old new : Planes) : Type 0 where
   pub same_count : length new ≡ length old
-  pub each : (plane : ℕ) → plane < planes
-      → Draws (frame_rect g plane).w (plane_rect g tile plane) (plane_at picture plane) (plane_at old plane) (plane_at new plane)
+  pub each : (plane : ℕ) → plane < planes → Draws (width plane) (place plane) (plane_at picture plane) (plane_at old plane) (plane_at new plane)
   pub others : (plane : ℕ) → planes ≤ plane → plane_at new plane ≡ plane_at old plane
 
-module _ (g : GridValue) (tile n : ℕ) (picture old mid : Planes) (samples : List ℕ) (before : DrawsPlanes g tile n picture old mid) (lt : n < length mid)
-    (drawn : Draws (frame_rect g n).w (plane_rect g tile n) (plane_at picture n) (plane_at mid n) samples) where
-  pub plane_drawn : DrawsPlanes g tile (n + 1) picture old (set mid n samples)
+module _ (width : ℕ → ℕ) (place : ℕ → TileRect) (n : ℕ) (picture old mid : Planes) (samples : List ℕ) (before : DrawsPlanes width place n picture old mid)
+    (lt : n < length mid) (drawn : Draws (width n) (place n) (plane_at picture n) (plane_at mid n) samples) where
+  pub plane_drawn : DrawsPlanes width place (n + 1) picture old (set mid n samples)
   plane_drawn = record {
     same_count = length-set mid n samples ∙ before.same_count;
     each = λ plane below. elim (cases_order plane n) [
@@ -172,12 +175,18 @@ module _ (g : GridValue) (tile n : ℕ) (picture old mid : Planes) (samples : Li
     others = λ plane above. get_or-set_other mid n plane samples [] (λ e. omega arith) ∙ before.others plane (omega arith);
   }
     where
-      at_n : (plane : ℕ) → plane ≡ n
-          → Draws (frame_rect g plane).w (plane_rect g tile plane) (plane_at picture plane) (plane_at old plane) (plane_at (set mid n samples) plane)
+      at_n : (plane : ℕ) → plane ≡ n → Draws (width plane) (place plane) (plane_at picture plane) (plane_at old plane) (plane_at (set mid n samples) plane)
       at_n plane same =
-          let P : ℕ → Type 0 = λ p. Draws (frame_rect g p).w (plane_rect g tile p) (plane_at picture p) (plane_at old p) (plane_at (set mid n samples) p) in
+          let P : ℕ → Type 0 = λ p. Draws (width p) (place p) (plane_at picture p) (plane_at old p) (plane_at (set mid n samples) p) in
           subst P (sym same)
           (rw (get_or-set_same mid n samples [] lt, ← (before.others n (omega arith))) drawn)
+
+abbrev pub items_of : Vec ℕ Global → List ℕ
+items_of v = v.items
+
+-- a plane that was read by its place
+pub read_plane : (planes : List (Vec ℕ Global)) (n : ℕ) (v : Vec ℕ Global) → n < length planes → v ≡ get_or planes n v → plane_at (map items_of planes) n ≡ v.items
+read_plane planes n v lt is = get_or-map items_of planes n v [] lt ∙ ap items_of (sym is)
 
 -- ---- where a tile lies in a plane
 

@@ -9,7 +9,8 @@ use Rattle.ffv1_range.specs.Tiles.{GridValue, grid_of, plane_count, plane_rect, 
 use Rattle.ffv1_range.specs.declared.grid.TileRect.{TileRect}
 use Rattle.ffv1_picture.specs.WholePicture.{Planes, covers, sample_in, sample_of_tile, or_else, greatest_sample, whole_sample, whole_plane}
 use Rattle.ffv1_picture.specs.Frames.{planes_of, IsFrameOf}
-use Rattle.ffv1_picture.specs.Inner.Drawing.{area, plane_at, Draws, DrawsOnto, HasSizes}
+use Rattle.ffv1_picture.specs.Drawn.{Draws}
+use Rattle.ffv1_picture.specs.Inner.Drawing.{area, plane_at, DrawsOnto, HasSizes}
 use Rattle.ffv1_picture.specs.declared.frame.Frame.{Frame}
 
 -- ---- rows, one after the other
@@ -136,7 +137,7 @@ drawn_plane : (g : GridValue) (pictures : List (Option Planes)) (planes : Planes
 drawn_plane g pictures planes plane old new is drawn =
     let long : length old ≡ area (frame_rect g plane) = ap length is ∙ length-whole_plane g pictures plane in
     whole_plane_ext g (pictures ++ Some planes ∷ []) plane new (drawn.same_length ∙ long) (λ x y inside within.
-    drawn.each x y inside (omega (arith, long, mul-add-lt y (frame_rect g plane).w x (frame_rect g plane).h within inside))
+    drawn.each x y 0 inside (omega (arith, long, mul-add-lt y (frame_rect g plane).w x (frame_rect g plane).h within inside))
     ∙ ap (λ s. cond (covers (plane_rect g (length pictures) plane) x y) (sample_in (plane_rect g (length pictures) plane) (plane_at planes plane) x y) s)
     (ap (λ xs. get_or xs (y * (frame_rect g plane).w + x) 0) is ∙ get_or-whole_plane g pictures plane x y inside within)
     ∙ sym (whole_sample-push g pictures plane x y planes))

@@ -1,4 +1,5 @@
 pub mod WholePicture
+pub mod Drawn
 pub mod TilePictures
 pub mod Frames
 pub mod FrameFaults

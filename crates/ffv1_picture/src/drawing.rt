@@ -4,7 +4,8 @@ ghost use Rattle.std.specs.Prelude.{◌≡◌, ◌*◌, ◌+◌, ◌≤◌, ◌<
 ghost use Rattle.ffv1_bits.specs.Limits.{slice_limit};
 ghost use Rattle.ffv1_range.specs.Tiles.{grid_of, tile_count};
 ghost use Rattle.ffv1_slice.specs.Slices.{content_of};
-ghost use Rattle.ffv1_picture.specs.Inner.Drawing.{HasSizes, HasTileSizes, Draws, DrawsPicture, DrawsSlice, FitsIn};
+ghost use Rattle.ffv1_picture.specs.Inner.Drawing.{HasSizes, HasTileSizes, DrawsPicture, DrawsSlice};
+ghost use Rattle.ffv1_picture.specs.Drawn.{Draws, FitsIn};
 ghost use Rattle.ffv1_picture.specs.Frames.{planes_of};
 ghost use Rattle.ffv1_picture.specs.TilePictures.{IsUnreadable};
 ghost use Rattle.ffv1_plane.specs.declared.tile.TileFault.TheVariants.{Memory};
@@ -50,12 +51,12 @@ fn draw_picture(planes: &mut [Vec<u8>], grid: &Grid, tile: usize, picture: &[Vec
     for plane in 0..planes.len() {
         let width = grid.plane_size(plane).w as usize;
         let rect = grid.plane_rect(tile, plane);
-        draw_plane(&mut planes[plane], width, rect, &picture[plane]);
+        draw_samples(&mut planes[plane], width, rect, &picture[plane]);
     }
 }
 
-/// Draws the samples of a rectangle onto a plane of this width.
-fn draw_plane(plane: &mut [u8], width: usize, rect: TileRect, samples: &[u8])
+/// Draws the samples of a rectangle, row by row, onto a plane of this width (RFC 9043, section 4.6). The plane's other samples are unchanged.
+pub fn draw_samples<T: Copy>(plane: &mut [T], width: usize, rect: TileRect, samples: &[T])
     requires inside { FitsIn width (length plane.old) rect }
     requires samples { length samples.now ≡ rect.w * rect.h }
     ensures { Draws width rect samples.now plane.old plane.new }

@@ -12,6 +12,7 @@ mod reporting;
 mod restoring;
 
 pub use decoder::{Decoder, faults_of_frames_are_one};
+pub use drawing::draw_samples;
 pub use fault::FrameFault;
 pub use frame::Frame;
 pub use partial::{Partial, TileOutcome, picture, tile_alone};

@@ -1,26 +1,25 @@
 -- The picture of a slice drawn onto the planes of a frame, one plane after the other.
-use Rattle.std.proofs.Common.{◌≡◌, ℕ, ◌+◌, ◌-◌, ◌^◌, ◌<◌, ◌≤◌, Bool, true, false, List, [], ◌∷◌, ◌++◌, length, map, get_or-set_same, get_or-set_other, sym, ap, subst, ◌∙◌, inl, inr, arith}
-use Rattle.std.proofs.Math.ListN.{set}
+use Rattle.std.proofs.Common.{◌≡◌, ℕ, ◌+◌, ◌-◌, ◌^◌, ◌<◌, ◌≤◌, Bool, true, false, List, [], ◌∷◌, ◌++◌, length, map, sym, ap, ◌∙◌, arith}
 use Rattle.std.specs.Prelude.{if◌then◌else◌}
 use Rattle.std.specs.Int.{div_ceil}
 use Rattle.std.proofs.lemmas.Nat.{pow_pos}
-use Rattle.std.proofs.lemmas.Bool.{cases_order}
-use Rattle.std.proofs.lemmas.List.{length-set, map-append, ext_get_or}
+use Rattle.std.proofs.lemmas.List.{map-append, ext_get_or}
 use Rattle.std.proofs.Math.Nat.{mul-le-mul_right}
 use Rattle.ffv1_range.specs.Setup.{RecordingValue, IsInVersion3}
 use Rattle.ffv1_range.specs.Tiles.{grid_of, part_start, chroma_rect}
 use Rattle.ffv1_range.specs.declared.grid.TileRect.{TileRect}
 use Rattle.ffv1_range.specs.declared.head.SliceHeader.{SliceHeader}
 use Rattle.ffv1_range.proofs.TileLaws.{part_within}
-use Rattle.ffv1_picture.specs.Inner.Drawing.{Draws, FitsIn}
-use Rattle.ffv1_picture.proofs.Drawings.{ceil_fits}
+use Rattle.ffv1_picture.specs.Drawn.{FitsIn}
+use Rattle.ffv1_picture.specs.Inner.Drawing.{area}
+use Rattle.ffv1_picture.proofs.Drawings.{DrawsPlanes, ceil_fits}
 use Rattle.ffv1_samples.specs.States.{count_of_planes}
 use Rattle.ffv1_samples.specs.Sizes.{slice_rect}
 use Rattle.ffv1_samples.specs.Pictures.{slice_plane_at}
 use Rattle.ffv1_samples.specs.Slices.{SlicePictureValue}
 use Rattle.ffv1_player.specs.Patches.{patched_plane}
 use Rattle.ffv1_player.specs.Frames.{is_subsampled, rect_in, frame_in, patch_in, frame_planes}
-use Rattle.ffv1_player.specs.Inner.Drawing.{rect_area, IsInGrid}
+use Rattle.ffv1_player.specs.Inner.Drawing.{IsInGrid}
 use Rattle.ffv1_player.proofs.Patches.{drawn_plane}
 use Rattle.ffv1_player.proofs.Sizes.{plane_of_frame, count_of_frame}
 
@@ -46,7 +45,7 @@ module _ (r : RecordingValue) (version : IsInVersion3 r) (header : SliceHeader) 
   high : rect.y + rect.h ≤ r.setup.height
   high = parts_end r.setup.height r.setup.down header.y header.h version.some_down inside.rows
 
-  fits_by : (b : Bool) → FitsIn (if b then chroma_rect (grid_of r.setup) frame else frame).w (rect_area (if b then chroma_rect (grid_of r.setup) frame else frame))
+  fits_by : (b : Bool) → FitsIn (if b then chroma_rect (grid_of r.setup) frame else frame).w (area (if b then chroma_rect (grid_of r.setup) frame else frame))
       (if b then chroma_rect (grid_of r.setup) rect else rect)
   fits_by false = record { in_width = wide; in_height = omega (arith, mul-le-mul_right r.setup.width high) }
   fits_by true =
@@ -56,42 +55,13 @@ module _ (r : RecordingValue) (version : IsInVersion3 r) (header : SliceHeader) 
         in_height = omega (arith, mul-le-mul_right (div_ceil r.setup.width (2 ^ r.setup.shift_h)) low);
       }
 
-  pub rect_fits : (p : ℕ) → FitsIn (frame_in r p).w (rect_area (frame_in r p)) (rect_in r p (slice_rect r header))
+  pub rect_fits : (p : ℕ) → FitsIn (frame_in r p).w (area (frame_in r p)) (rect_in r p (slice_rect r header))
   rect_fits p = fits_by (is_subsampled r p)
-
--- ---- one plane more
-
--- The first planes have those of the slice's picture drawn onto them, and the others are as they were.
-pub record DrawsPlanes (r : RecordingValue) (header : SliceHeader) (count : ℕ) (picture old new : List (List ℕ)) : Type 0 where
-  pub same_count : length new ≡ length old
-  pub each : (p : ℕ) → p < count
-      → Draws (frame_in r p).w (rect_in r p (slice_rect r header)) (slice_plane_at picture p) (slice_plane_at old p) (slice_plane_at new p)
-  pub others : (p : ℕ) → count ≤ p → slice_plane_at new p ≡ slice_plane_at old p
-
-module _ (r : RecordingValue) (header : SliceHeader) (n : ℕ) (picture old mid : List (List ℕ)) (samples : List ℕ) (before : DrawsPlanes r header n picture old mid)
-    (lt : n < length mid) (drawn : Draws (frame_in r n).w (rect_in r n (slice_rect r header)) (slice_plane_at picture n) (slice_plane_at mid n) samples) where
-  pub plane_drawn : DrawsPlanes r header (n + 1) picture old (set mid n samples)
-  plane_drawn = record {
-    same_count = length-set mid n samples ∙ before.same_count;
-    each = λ p below. elim (cases_order p n) [
-      | inl same ↦ at_n p same
-      | inr (inl less) ↦ rw (get_or-set_other mid n p samples [] (λ e. omega arith)) (before.each p less)
-      | inr (inr more) ↦ absurd (omega arith)
-    ];
-    others = λ p above. get_or-set_other mid n p samples [] (λ e. omega arith) ∙ before.others p (omega arith);
-  }
-    where
-      at_n : (p : ℕ) → p ≡ n
-          → Draws (frame_in r p).w (rect_in r p (slice_rect r header)) (slice_plane_at picture p) (slice_plane_at old p) (slice_plane_at (set mid n samples) p)
-      at_n p same =
-          let P : ℕ → Type 0 = λ q. Draws (frame_in r q).w (rect_in r q (slice_rect r header)) (slice_plane_at picture q) (slice_plane_at old q) (slice_plane_at (set mid n samples) q) in
-          subst P (sym same)
-          (rw (get_or-set_same mid n samples [] lt, ← (before.others n (omega arith))) drawn)
 
 -- ---- a frame with one picture more
 
 pub frame_drawn : (r : RecordingValue) (d : SlicePictureValue) (pictures : List SlicePictureValue) (old new : List (List ℕ))
-    → DrawsPlanes r d.header (count_of_planes r) d.planes old new → old ≡ frame_planes r pictures → new ≡ frame_planes r (pictures ++ d ∷ [])
+    → DrawsPlanes (λ p. (frame_in r p).w) (λ p. rect_in r p (slice_rect r d.header)) (count_of_planes r) d.planes old new → old ≡ frame_planes r pictures → new ≡ frame_planes r (pictures ++ d ∷ [])
 frame_drawn r d pictures old new drawn is =
     let count : length new ≡ count_of_planes r = drawn.same_count ∙ ap length is ∙ count_of_frame r pictures in
     ext_get_or [] new (frame_planes r (pictures ++ d ∷ [])) (count ∙ sym (count_of_frame r (pictures ++ d ∷ []))) (λ p less.

@@ -4,7 +4,7 @@ use Rattle.std.proofs.lemmas.List.{length-replicate, get_or-replicate}
 use Rattle.std.proofs.lemmas.Nat.{mul-add-lt}
 use Rattle.ffv1_range.specs.declared.grid.TileRect.{TileRect}
 use Rattle.ffv1_picture.specs.WholePicture.{covers, sample_in, or_else}
-use Rattle.ffv1_picture.specs.Inner.Drawing.{Draws}
+use Rattle.ffv1_picture.specs.Drawn.{Draws}
 use Rattle.ffv1_picture.proofs.WholePlanes.{length-rows, get_or-rows, rows_ext, or_else_assoc, or_else_none}
 use Rattle.ffv1_player.specs.Patches.{SlicePatch, patch_of, sample_of_patch, last_sample, patched_sample, patched_plane}
 
@@ -49,7 +49,7 @@ pub drawn_plane : (blank width height : ℕ) (patches : List SlicePatch) (rect :
 drawn_plane blank width height patches rect samples old new is drawn =
     let long : length old ≡ width * height = omega (arith, ap length is, length-patched_plane blank width height patches) in
     patched_plane_ext blank width height (patches ++ patch_of rect samples ∷ []) new (drawn.same_length ∙ long) (λ x y inside within.
-    drawn.each x y inside (omega (arith, long, mul-add-lt y width x height within inside))
+    drawn.each x y 0 inside (omega (arith, long, mul-add-lt y width x height within inside))
     ∙ ap (λ s. cond (covers rect x y) (sample_in rect samples x y) s)
     (ap (λ xs. get_or xs (y * width + x) 0) is ∙ get_or-patched_plane blank width height patches x y inside within)
     ∙ sym (patched_sample-push blank patches rect samples x y))

@@ -14,8 +14,9 @@ use Rattle.ffv1_samples.specs.Slices.{SlicePictureValue, IsSlicePicture}
 use Rattle.ffv1_samples.proofs.Headers.{header_within}
 use Rattle.ffv1_samples.proofs.PlaneSizes.{count_of_sizes}
 use Rattle.ffv1_samples.proofs.CodedPlanes.{coded_sizes}
+use Rattle.ffv1_picture.specs.Inner.Drawing.{area}
 use Rattle.ffv1_player.specs.Frames.{rect_in, frame_in, patch_in, frame_plane, frame_planes}
-use Rattle.ffv1_player.specs.Inner.Drawing.{rect_area, AreFramePlanes, AreSlicePlanes, IsInGrid}
+use Rattle.ffv1_player.specs.Inner.Drawing.{AreFramePlanes, AreSlicePlanes, IsInGrid}
 use Rattle.ffv1_player.proofs.Patches.{length-patched_plane}
 
 -- ---- the sizes of a slice's planes
@@ -66,24 +67,24 @@ module _ (r : RecordingValue) (version : IsInVersion3 r) (content : List ℕ) (f
   sizes : ArePlanesOfSizes (coded_depth_of r) (slice_sizes r d.header) h.coded
   sizes = coded_sizes r d.header.tables (slice_sizes r d.header) content h.start before h.coded h.end h.are_coded
 
-  coded_long : (p : ℕ) → p < count_of_planes r → length (slice_plane_at h.coded p) ≡ rect_area (rect_in r p (slice_rect r d.header))
+  coded_long : (p : ℕ) → p < count_of_planes r → length (slice_plane_at h.coded p) ≡ area (rect_in r p (slice_rect r d.header))
   coded_long p less =
       (sizes.each p (omega (arith, less, count_of_sizes r d.header))).count
       ∙ ap (λ (size : PlaneSize). size.width * size.height)
       (size_by r.is_rgb r.setup.has_chroma r.has_alpha (slice_rect r d.header) (chroma_rect (grid_of r.setup) (slice_rect r d.header)) p less)
 
   rgb_long : (is : r.is_rgb ≡ true) (p : ℕ) → AreRgbPlanes r h.coded d.planes → p < count_of_planes r → 0 < count_of_planes r
-      → length (slice_plane_at d.planes p) ≡ rect_area (rect_in r p (slice_rect r d.header))
+      → length (slice_plane_at d.planes p) ≡ area (rect_in r p (slice_rect r d.header))
   rgb_long is zero k less some = k.colors.first_long ∙ coded_long 0 less
   rgb_long is (suc zero) k less some =
-      k.colors.second_long ∙ coded_long 0 some ∙ ap rect_area (rgb_rect r (slice_rect r d.header) 0 is ∙ sym (rgb_rect r (slice_rect r d.header) 1 is))
+      k.colors.second_long ∙ coded_long 0 some ∙ ap area (rgb_rect r (slice_rect r d.header) 0 is ∙ sym (rgb_rect r (slice_rect r d.header) 1 is))
   rgb_long is (suc (suc zero)) k less some =
-      k.colors.third_long ∙ coded_long 0 some ∙ ap rect_area (rgb_rect r (slice_rect r d.header) 0 is ∙ sym (rgb_rect r (slice_rect r d.header) 2 is))
+      k.colors.third_long ∙ coded_long 0 some ∙ ap area (rgb_rect r (slice_rect r d.header) 0 is ∙ sym (rgb_rect r (slice_rect r d.header) 2 is))
   rgb_long is (suc (suc (suc zero))) k less some = ap length k.alpha ∙ coded_long 3 less
   rgb_long is (suc (suc (suc (suc p)))) k less some = absurd (omega (arith, less, few_planes (r.is_rgb || r.setup.has_chroma) r.has_alpha))
 
   long_by : (b : Bool) → r.is_rgb ≡ b → MatchBool b (AreRgbPlanes r h.coded d.planes) (d.planes ≡ h.coded) → (p : ℕ) → p < count_of_planes r
-      → length (slice_plane_at d.planes p) ≡ rect_area (rect_in r p (slice_rect r d.header))
+      → length (slice_plane_at d.planes p) ≡ area (rect_in r p (slice_rect r d.header))
   long_by true is k p less = rgb_long is p k less (omega (arith, less))
   long_by false is k p less = ap (λ planes. length (slice_plane_at planes p)) k ∙ coded_long p less
 
@@ -118,5 +119,5 @@ are_frame_planes r pictures planes is =
       each = λ p less.
           let long = length-patched_plane (2 ^ (r.depth - 1)) (frame_in r p).w (frame_in r p).h (map (patch_in r p) pictures) in
           ap (λ l. length (slice_plane_at l p)) is ∙ ap length (plane_of_frame r pictures p less)
-          ∙ long ∙ (let e : (frame_in r p).h * (frame_in r p).w ≡ rect_area (frame_in r p) = omega arith in e);
+          ∙ long ∙ (let e : (frame_in r p).h * (frame_in r p).w ≡ area (frame_in r p) = omega arith in e);
     }

@@ -2,7 +2,6 @@
 #![tactic(auto)]
 
 mod before;
-mod draw;
 mod drawn;
 mod fault;
 mod player;

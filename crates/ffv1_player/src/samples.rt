@@ -6,7 +6,7 @@ ghost use Rattle.ffv1_samples.specs.Slices.{SlicePictureValue, slice_picture_val
 ghost use Rattle.ffv1_player.specs.Frames.{is_subsampled, rect_in, frame_in, frame_planes};
 ghost use Rattle.ffv1_player.specs.Inner.Drawing.{AreFramePlanes, AreSlicePlanes, IsInGrid};
 
-use crate::draw::draw_samples;
+use ffv1_picture::draw_samples;
 use ffv1_range::{Grid, Recording, TileRect};
 use ffv1_samples::SlicePicture;
 use std::alloc::{AllocError, Global};

@@ -1,10 +1,11 @@
 -- Drawing a tile onto a frame: which samples change.
-use Rattle.std.specs.Prelude.{◌≡◌, ℕ, ◌+◌, ◌*◌, ◌<◌, ◌≤◌, List, [], length, Option, Some, None, slice_index, slice_index_or, if◌then◌else◌}
+use Rattle.std.specs.Prelude.{◌≡◌, ℕ, ◌*◌, ◌<◌, List, [], length, Option, Some, None, slice_index_or}
 use Rattle.ffv1_range.specs.Setup.{SetupValue}
 use Rattle.ffv1_range.specs.Tiles.{GridValue, grid_of, plane_count, plane_rect, frame_rect}
 use Rattle.ffv1_range.specs.declared.grid.TileRect.{TileRect}
 use Rattle.ffv1_picture.specs.TilePictures.{SpellsPlanes}
-use Rattle.ffv1_picture.specs.WholePicture.{Planes, covers, sample_in}
+use Rattle.ffv1_picture.specs.WholePicture.{Planes}
+use Rattle.ffv1_picture.specs.Drawn.{Draws}
 use Rattle.ffv1_picture.specs.Frames.{planes_of}
 use Rattle.ffv1_picture.specs.declared.frame.Frame.{Frame}
 
@@ -25,17 +26,6 @@ pub record HasSizes (g : GridValue) (planes : Planes) : Type 0 where
 pub record HasTileSizes (g : GridValue) (tile : ℕ) (planes : Planes) : Type 0 where
   pub count : length planes ≡ plane_count g
   pub each : (plane : ℕ) → plane < plane_count g → length (plane_at planes plane) ≡ area (plane_rect g tile plane)
-
--- A rectangle lies in a plane of this width and number of samples.
-pub record FitsIn (width samples : ℕ) (r : TileRect) : Type 0 where
-  pub in_width : r.x + r.w ≤ width
-  pub in_height : (r.y + r.h) * width ≤ samples
-
--- The samples of a rectangle were drawn onto a plane of this width, and all others are as they were.
-pub record Draws (width : ℕ) (r : TileRect) (samples old new : List ℕ) : Type 0 where
-  pub same_length : length new ≡ length old
-  pub each : (x y : ℕ) → x < width → y * width + x < length old
-      → slice_index new (y * width + x) ≡ (if covers r x y then sample_in r samples x y else slice_index old (y * width + x))
 
 -- The picture of a tile was drawn onto planes.
 pub record DrawsPicture (g : GridValue) (tile : ℕ) (picture old new : Planes) : Type 0 where

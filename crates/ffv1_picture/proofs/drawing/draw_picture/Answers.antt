@@ -1,22 +1,15 @@
-use Rattle.std.proofs.Common.{◌≡◌, ◌+◌, ◌<◌, length, map, get_or, sym, ap, subst, ◌∙◌, arith, List, ℕ, [], Vec, Global}
-use Rattle.std.proofs.lemmas.List.{length-map, get_or-map, map-set, with_items_is}
+use Rattle.std.proofs.Common.{◌+◌, ◌<◌, length, map, get_or, sym, ap, subst, ◌∙◌, arith, ℕ}
+use Rattle.std.proofs.lemmas.List.{length-map, map-set, with_items_is}
 use Rattle.std.proofs.Math.ListN.{set}
 use Rattle.std.specs.Vec.{with_items}
-use Rattle.ffv1_range.specs.Tiles.{plane_count}
+use Rattle.ffv1_range.specs.Tiles.{plane_count, plane_rect, frame_rect}
 use Rattle.ffv1_picture.specs.WholePicture.{Planes}
-use Rattle.ffv1_picture.specs.Inner.Drawing.{plane_at, area}
-use Rattle.ffv1_picture.proofs.Drawings.{DrawsPlanes, plane_drawn, rect_fits, draws_same, fits_same}
+use Rattle.ffv1_picture.specs.Inner.Drawing.{area}
+use Rattle.ffv1_picture.proofs.Drawings.{DrawsPlanes, plane_drawn, items_of, read_plane, rect_fits, draws_same, fits_same}
 use Rattle.ffv1_picture.proofs.drawing.draw_picture.Goals as goal
 
-abbrev items_of : Vec ℕ Global → List ℕ
-items_of v = v.items
-
--- a plane that was read by its place
-read_plane : (planes : List (Vec ℕ Global)) (n : ℕ) (v : Vec ℕ Global) → n < length planes → v ≡ get_or planes n v → plane_at (map items_of planes) n ≡ v.items
-read_plane planes n v lt is = get_or-map items_of planes n v [] lt ∙ ap items_of (sym is)
-
-pub draw_plane-requires-clause-inside : goal.draw_plane-requires-clause-inside
-draw_plane-requires-clause-inside c =
+pub draw_samples-requires-clause-inside : goal.draw_samples-requires-clause-inside
+draw_samples-requires-clause-inside c =
     let g = c.args.grid.now in
     let n = c.loop-plane.plane in
     let mid = c.loop-plane.planes in
@@ -28,8 +21,8 @@ draw_plane-requires-clause-inside c =
     fits_same _ _ _ _ _ _ (sym (ap (λ r. r.w) c.plane_size-width.ensures)) (sym long) (sym c.plane_rect-rect.ensures)
     (rect_fits g c.across-across.ensures.grid c.args.tile c.requires.tile n)
 
-pub draw_plane-requires-clause-samples : goal.draw_plane-requires-clause-samples
-draw_plane-requires-clause-samples c =
+pub draw_samples-requires-clause-samples : goal.draw_samples-requires-clause-samples
+draw_samples-requires-clause-samples c =
     let g = c.args.grid.now in
     let n = c.loop-plane.plane in
     let picture = c.args.picture.now in
@@ -51,7 +44,7 @@ loop-plane-preserved c =
     let mid = c.loop-plane.planes in
     let old = map items_of c.args.planes.now in
     let picture = map items_of c.args.picture.now in
-    let samples = c.draw_plane.new.plane in
+    let samples = c.draw_samples.new.plane in
     let lt : n < length mid = omega (arith, c.loop-plane-test.true, c.loop-plane.auto.planes) in
     let among : n < length c.args.picture.now = omega (
       arith,
@@ -63,14 +56,15 @@ loop-plane-preserved c =
       c.requires.picture.count,
     ) in
     let v = get_or mid n c.index-planes-plane.result in
-    let P : Planes → Type 0 = λ planes. DrawsPlanes g c.args.tile (n + 1) picture old planes in
+    let width : ℕ → ℕ = λ plane. (frame_rect g plane).w in
+    let P : Planes → Type 0 = λ planes. DrawsPlanes width (plane_rect g c.args.tile) (n + 1) picture old planes in
     subst P (sym (map-set items_of mid n (with_items v samples) ∙ ap (set (map items_of mid) n)
-    (with_items_is v samples (c.draw_plane.ensures.same_length ∙ c.deref_mut.ensures.len))))
-    (plane_drawn g c.args.tile n picture old (map items_of mid) samples c.loop-plane.invariant (omega (arith, lt, length-map mid items_of))
+    (with_items_is v samples (c.draw_samples.ensures.same_length ∙ c.deref_mut.ensures.len))))
+    (plane_drawn width (plane_rect g c.args.tile) n picture old (map items_of mid) samples c.loop-plane.invariant (omega (arith, lt, length-map mid items_of))
     (draws_same _ _ _ _ _ _ _ _ samples (ap (λ r. r.w) c.plane_size-width.ensures) c.plane_rect-rect.ensures
     (c.deref.ensures.value ∙ sym (read_plane c.args.picture.now n c.index-picture-plane.result among c.index-picture-plane.is))
     (c.deref_mut.ensures.value ∙ ap items_of (sym c.index-planes-plane.is) ∙ sym (read_plane mid n c.index-planes-plane.result lt c.index-planes-plane.is))
-    c.draw_plane.ensures))
+    c.draw_samples.ensures))
 
 pub returns : goal.returns
 returns c =

@@ -1,12 +1,10 @@
-use Rattle.std.proofs.Common.{◌≡◌, ℕ, zero, suc, ◌+◌, ◌<◌, List, [], ◌∷◌, ◌++◌, length, get_or, take, drop, refl, ap, subst, ◌∙◌, append_assoc, arith, Vec, Global}
+use Rattle.std.proofs.Common.{◌≡◌, ℕ, zero, suc, ◌+◌, ◌<◌, List, [], ◌∷◌, ◌++◌, length, get_or, take, drop, refl, ap, subst, ◌∙◌, append_assoc, arith}
 use Rattle.std.specs.List.{flat_map}
 use Rattle.std.proofs.lemmas.Result.{err_from_is_err_and}
 use Rattle.ffv1_devices.specs.Logs.{StopsWriting}
 use Rattle.ffv1_devices.proofs.Steps.{StopsWriting-after, StopsWriting-of}
+use Rattle.ffv1_picture.proofs.Drawings.{items_of}
 use Rattle.ffv1_picture.proofs.raw.write_raw.Goals as goal
-
-abbrev items_of : Vec ℕ Global → List ℕ
-items_of v = v.items
 
 -- the lists before a place, the one there, and those after it
 flat_map-at : {X : Type 0} (f : X → List ℕ) (xs : List X) (i : ℕ) (d : X) → i < length xs

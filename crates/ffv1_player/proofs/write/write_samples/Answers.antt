@@ -6,10 +6,8 @@ use Rattle.std.proofs.lemmas.Result.{err_from_is_err_and}
 use Rattle.ffv1_devices.specs.Logs.{StopsWriting}
 use Rattle.ffv1_devices.proofs.Steps.{StopsWriting-after, StopsWriting-of}
 use Rattle.ffv1_player.specs.Written.{plane_bytes}
+use Rattle.ffv1_picture.proofs.Drawings.{items_of}
 use Rattle.ffv1_player.proofs.write.write_samples.Goals as goal
-
-abbrev items_of : Vec ℕ Global → List ℕ
-items_of v = v.items
 
 abbrev bytes_of : ℕ → Vec ℕ Global → List ℕ
 bytes_of depth v = plane_bytes depth v.items
