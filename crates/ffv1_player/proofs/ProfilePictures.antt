@@ -187,8 +187,10 @@ profile_is_shown_alike h partial shown is profile pictures shows =
     let picture = picture_shown r (version h is profile r shows.says) tile shows.key (tile_state h tile) _ _ (shows.shows.each tile less) in
     alike h is profile r shows.says tile less (tile_state h tile) refl _ _
     (shown_picture h.reel.setup tile (tile_state h tile) _ _ (pictures.each tile less))
-    (subst (λ k. IsTilePicture r k tile (tile_state h tile) (get_or shows.shows.pictures tile None)) key picture) in
-    (shows.shows.is_frame.depth ∙ of.1.depth, shows.shows.is_frame.planes
-    ∙ sym (alike_planes r of.1 pictures.pictures shows.shows.pictures (pictures.count ∙ sym shows.shows.count)
-    (λ tile less. each tile (omega (arith, less, shows.shows.count))))
-    ∙ ap (λ (s : SetupValue). whole_picture (grid_of s) pictures.pictures) (sym of.0) ∙ sym pictures.is_frame.planes)
+    (subst (λ k. IsTilePicture r k tile (tile_state h tile) (get_or shows.shows.pictures tile None)) key picture) in (
+      shows.shows.is_frame.depth ∙ of.1.depth,
+      shows.shows.is_frame.planes
+          ∙ sym (alike_planes r of.1 pictures.pictures shows.shows.pictures (pictures.count ∙ sym shows.shows.count)
+          (λ tile less. each tile (omega (arith, less, shows.shows.count))))
+          ∙ ap (λ (s : SetupValue). whole_picture (grid_of s) pictures.pictures) (sym of.0) ∙ sym pictures.is_frame.planes,
+    )
