@@ -1,4 +1,3 @@
 pub mod AskedSets
 pub mod StateChanges
 pub mod TableSets
-pub mod Vectors

@@ -1,9 +1,9 @@
 //! The coded planes of a slice, cut out of the planes of its frame (RFC 9043, sections 3.7 and 4.6).
 ghost use Rattle.std.specs.Prelude.{◌≤◌};
 
-use crate::fits::{frame_in, rect_in};
 use crate::spec::SliceSpec;
 use ffv1_plane::{Tables, group_of};
+use ffv1_player::{frame_in, rect_in};
 use ffv1_range::{Recording, TileRect};
 use ffv1_vectors::{CodedPlane, MakeFault, coding_of};
 use std::alloc::Global;

@@ -172,7 +172,7 @@ all_rows_are_below count (suc n) =
     rows_below_both (suc n) (row_after_row count n) (lines_of_row n count)
     (rows_below_more n (suc n) (row_after_row count n) (omega arith) (all_rows_are_below count n)) (row_is_below n (suc n) count (omega arith))
 
-row_in_middle : (n : ℕ) (xs ys : List Line) (line : Line) → AreRowsBelow n (xs ++ (line ∷ ys)) → line.row < n
+pub row_in_middle : (n : ℕ) (xs ys : List Line) (line : Line) → AreRowsBelow n (xs ++ (line ∷ ys)) → line.row < n
 row_in_middle n [] ys line (line_then less h) = less
 row_in_middle n (x ∷ xs) ys line (line_then less h) = row_in_middle n xs ys line h
 

@@ -11,7 +11,7 @@ mod write;
 
 pub use fault::{ContentFault, SamplesFault};
 pub use player::{Player, frame_is_played, played_frames_are_one};
-pub use samples::{Samples, SliceEnd};
+pub use samples::{Samples, SliceEnd, count_of_planes, frame_in, rect_in};
 pub use shown::{
     Shown, ShownTile, keyframe_is_shown, profile_is_shown_alike, show_holding,
     tiles_are_shown_alone,

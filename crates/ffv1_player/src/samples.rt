@@ -45,8 +45,8 @@ pub struct Samples {
     pub slices: Vec<SliceEnd>,
 }
 
-/// How many planes the frames of a recording have.
-pub(crate) fn count_of_planes(recording: &Recording) -> usize
+/// How many planes the frames of a recording have: 1 or 3, and one more with alpha.
+pub fn count_of_planes(recording: &Recording) -> usize
     ensures { result ≡ count_of_planes recording.now }
 {
     let colors = if recording.is_rgb() || recording.has_chroma() {
@@ -64,8 +64,8 @@ fn is_subsampled(recording: &Recording, plane: usize) -> bool
     !recording.is_rgb() && recording.has_chroma() && (plane == 1 || plane == 2)
 }
 
-/// Where a rectangle of the first plane lies in a plane.
-fn rect_in(recording: &Recording, plane: usize, rect: TileRect) -> TileRect
+/// Where a rectangle of the first plane, in its samples, lies in a plane, in that one's (RFC 9043, sections 4.2.8 and 4.2.9).
+pub fn rect_in(recording: &Recording, plane: usize, rect: TileRect) -> TileRect
     ensures { result ≡ rect_in recording.now plane rect }
 {
     if is_subsampled(recording, plane) {
@@ -75,8 +75,8 @@ fn rect_in(recording: &Recording, plane: usize, rect: TileRect) -> TileRect
     }
 }
 
-/// The whole frame in a plane.
-fn frame_in(recording: &Recording, plane: usize) -> TileRect
+/// The whole frame in a plane, in its samples.
+pub fn frame_in(recording: &Recording, plane: usize) -> TileRect
     ensures { result ≡ frame_in recording.now plane }
 {
     let frame = TileRect {

@@ -1,13 +1,12 @@
 -- A header is read where its fields are coded, and nowhere else.
-use Rattle.std.proofs.Common.{◌≡◌, ℕ, suc, zero, ◌+◌, ◌-◌, ◌*◌, ◌/◌, ◌^◌, ◌<◌, ◌≤◌, Bool, true, false, List, [], ◌∷◌, ◌++◌, Result, Ok, Err, refl, sym, ap, ◌∙◌, subst, arith, length, append_assoc}
-use Rattle.std.specs.Prelude.{◌↔◌, IfOk, IsTrue, Option, Some, None, MatchOption, is_some, nat_lt, ◌==◌, ◌&&◌, slice_index, slice_set, if◌then◌else◌}
+use Rattle.std.proofs.Common.{◌≡◌, ℕ, suc, zero, ◌+◌, ◌-◌, ◌*◌, ◌^◌, ◌<◌, ◌≤◌, Bool, true, false, List, [], ◌∷◌, ◌++◌, Result, Ok, Err, refl, sym, ap, ◌∙◌, subst, arith, length, append_assoc}
+use Rattle.std.specs.Prelude.{◌↔◌, IfOk, IsTrue, Option, Some, None, MatchOption, is_some, nat_lt, ◌==◌, ◌&&◌, slice_index, if◌then◌else◌}
 use Rattle.std.specs.List.{All, flat_map}
 use Rattle.std.proofs.lemmas.List.{append-nil}
 use Rattle.std.proofs.lemmas.List.Elements.{All-cons, All-nil, All-head, All-tail}
 use Rattle.std.proofs.lemmas.Bool.{and_parts, and_from, ltb-true, lt-ltb, eqb-true, eq-eqb}
 use Rattle.ffv1_range.specs.Results.{◌>>>◌}
-use Rattle.ffv1_range.specs.Coding.{header_mode, Mode, Coder, Place, PlaceOf, bit_at, slot_at, start_of, refilled, with_byte, IsRangeRun}
-use Rattle.ffv1_range.specs.Transitions.{state_following}
+use Rattle.ffv1_range.specs.Coding.{header_mode, Mode, Coder, Place, PlaceOf, bit_at, start_of, IsRangeRun}
 use Rattle.ffv1_range.specs.Symbols.{symbol_bits}
 use Rattle.ffv1_range.specs.Forms.{lifted_result}
 use Rattle.ffv1_range.specs.Reading.{symbol_form}
@@ -17,7 +16,6 @@ use Rattle.ffv1_range.specs.Scopes.{accepts_key}
 use Rattle.ffv1_range.specs.declared.scope.Scope.{Scope}
 use Rattle.ffv1_range.specs.declared.scope.Scope.TheVariants.{Profile}
 use Rattle.ffv1_range.specs.Header.{IsHeaderOf, BeginAt, IsHeadOf, IsTileHeader, HeadLimits, header_read, codes_read, head_judged, head_read, head_with, is_in_place}
-use Rattle.ffv1_range.specs.declared.coding.RangeFault.{RangeFault}
 use Rattle.ffv1_range.specs.declared.coding.RangeFault.TheVariants.{Start}
 use Rattle.ffv1_range.specs.declared.head.HeadFault.{HeadFault}
 use Rattle.ffv1_range.specs.declared.head.HeadFault.TheVariants.{Range, NotKey}
@@ -25,6 +23,7 @@ use Rattle.ffv1_range.specs.declared.head.SliceHead.{SliceHead}
 use Rattle.ffv1_range.proofs.Forms.{place_of, bind_ok}
 use Rattle.ffv1_range.proofs.Spelling.{bind_is_ok, same_ok, run_append, run_split, symbol_is_spelled}
 use Rattle.ffv1_range.proofs.FieldRuns.{lifted_ok}
+use Rattle.ffv1_range.proofs.Shrinks.{bit_shrinks, run_shrinks}
 
 -- ---- symbols in a row
 
@@ -81,57 +80,6 @@ fields_run mode count c fields end size fit run =
     (ap (λ n. symbols_onto n [] mode (place_of c fresh_row)) (sym size) ∙ symbols_run mode [] fields (place_of c fresh_row) end fit run)
 
 -- ---- what is still to come never grows
-
-refilled_shrinks : (closed : Bool) (range low : ℕ) (rest : List ℕ) (d : Coder) → refilled closed range low rest ≡ Ok d → length d.rest ≤ length rest
-refilled_shrinks closed range low rest d h =
-    elim (nat_lt range 256) as (λ b. (if b then with_byte closed range low rest else Ok (record { range = range; low = low; rest = rest })) ≡ Ok d
-    → length d.rest ≤ length rest) [
-      | true ↦ λ e. byte_shrinks closed range low rest d e
-      | false ↦ λ e. let same = same_ok (record { range = range; low = low; rest = rest }) d e in omega (arith, ap (λ z. length z.rest) same)
-    ] h
-  where
-    byte_shrinks : (closed : Bool) (range low : ℕ) (rest : List ℕ) (d : Coder) → with_byte closed range low rest ≡ Ok d → length d.rest ≤ length rest
-    byte_shrinks closed range low (byte ∷ rest) d h = omega (
-      arith,
-      ap
-          (λ z. length z.rest) (same_ok (record { range = 256 * range; low = 256 * low + byte; rest = rest }) d h),
-    )
-    byte_shrinks true range low [] d h = omega (arith, ap (λ z. length z.rest) (same_ok (record { range = 256 * range; low = 256 * low; rest = [] }) d h))
-    byte_shrinks false range low [] d h = absurd cc
-
-abbrev pub with_bit : Bool → Coder → Result (Bool × Coder) RangeFault
-with_bit bit d = Ok (bit, d)
-
-cut_shrinks : (closed : Bool) (range low : ℕ) (rest : List ℕ) (given bit : Bool) (d : Coder)
-    → (refilled closed range low rest >>> with_bit given) ≡ Ok (bit, d) → length d.rest ≤ length rest
-cut_shrinks closed range low rest given bit d h =
-    let x = bind_is_ok (refilled closed range low rest) (with_bit given) (bit, d) h in
-    let same = same_ok (given, x.0) (bit, d) x.2 in
-    omega (arith, refilled_shrinks closed range low rest x.0 x.1, ap (λ z. length z.1.rest) same)
-
-bit_shrinks : (closed : Bool) (c d : Coder) (state : ℕ) (bit : Bool) → bit_at closed c state ≡ Ok (bit, d) → length d.rest ≤ length c.rest
-unfolding bit_at
-bit_shrinks closed c d state bit h =
-    elim (nat_lt c.low (c.range - c.range * state / 256)) as
-    (λ b. (if b then (refilled closed (c.range - c.range * state / 256) c.low c.rest >>> with_bit false) else
-    (refilled closed (c.range * state / 256) (c.low - (c.range - c.range * state / 256)) c.rest >>> with_bit true)) ≡ Ok (bit, d)
-    → length d.rest ≤ length c.rest) [
-      | true ↦ λ e. cut_shrinks closed (c.range - c.range * state / 256) c.low c.rest false bit d e
-      | false ↦ λ e. cut_shrinks closed (c.range * state / 256) (c.low - (c.range - c.range * state / 256)) c.rest true bit d e
-    ] h
-
-slot_shrinks : (mode : Mode) (p q : Place) (slot : ℕ) (bit : Bool) → slot_at mode p slot ≡ Ok (bit, q) → length q.coder.rest ≤ length p.coder.rest
-unfolding slot_at
-slot_shrinks mode p q slot bit h =
-    let x = bind_is_ok (bit_at mode.closed p.coder (slice_index p.states slot))
-    (λ x. Ok (x.0, place_of x.1 (slice_set p.states slot (state_following mode.transitions (slice_index p.states slot) x.0)))) (bit, q) h in
-    let same = same_ok (x.0.0, place_of x.0.1 (slice_set p.states slot (state_following mode.transitions (slice_index p.states slot) x.0.0))) (bit, q) x.2 in
-    omega (arith, bit_shrinks mode.closed p.coder x.0.1 (slice_index p.states slot) x.0.0 x.1, ap (λ z. length z.1.coder.rest) same)
-
-run_shrinks : (mode : Mode) (p q : Place) (bits : List (ℕ × Bool)) → IsRangeRun mode p bits q → length q.coder.rest ≤ length p.coder.rest
-unfolding IsRangeRun
-run_shrinks mode p q [] h = omega (arith, ap (λ z. length z.coder.rest) h)
-run_shrinks mode p q (x ∷ bits) h = omega (arith, slot_shrinks mode p h.0 x.0 x.1 h.1, run_shrinks mode h.0 q bits h.2)
 
 start_leaves : (content : List ℕ) (c : Coder) → start_of false content ≡ Ok c → length c.rest + 2 ≤ length content
 unfolding start_of

@@ -12,7 +12,8 @@ use Rattle.ffv1_range.specs.declared.frames.Frames.TheVariants.{Any}
 use Rattle.ffv1_range.specs.declared.scope.Scope.TheVariants.{Version3}
 use Rattle.ffv1_range.specs.declared.coding.RangeFault.TheVariants.{Start}
 use Rattle.ffv1_range.proofs.Spelling.{bind_is_ok, same_ok}
-use Rattle.ffv1_range.proofs.HeaderFound.{KeyFits, with_bit}
+use Rattle.ffv1_range.proofs.HeaderFound.{KeyFits}
+use Rattle.ffv1_range.proofs.Shrinks.{with_bit}
 
 -- ---- the tile
 

@@ -7,6 +7,7 @@ pub mod TableSteps
 pub mod TableMeanings
 pub mod TileLaws
 pub mod HeaderSteps
+pub mod Shrinks
 pub mod HeaderFound
 pub mod SliceHeaderFound
 pub mod TileHeaderFound

@@ -15,7 +15,7 @@ use Rattle.ffv1_plane.specs.RangeRows.{state_row}
 use Rattle.ffv1_plane.specs.RangeLines.{lines_bits}
 use Rattle.ffv1_plane.specs.RangeSlices.{slice_shape, slice_group, slice_plane, coded_lines, height_at, coded_depth_of, place_at, ArePlanesOfSizes, ArePlanesCoded, AreLinesStuck}
 use Rattle.ffv1_plane.specs.declared.planes.PlaneSize.{PlaneSize}
-use Rattle.ffv1_plane.proofs.OneRange.{one_range_reading, stuck_range_codes_nothing, stuck_range_is_one}
+use Rattle.ffv1_plane.proofs.OneRange.{one_range_reading, stuck_range_codes_nothing, stuck_range_is_one, rows_with, has_rows}
 use Rattle.ffv1_plane.specs.FirstRows.{rows_to, AreFirstRows, HaveGroupStates}
 use Rattle.ffv1_samples.specs.States.{GroupsOf, group_of, SliceStatesValue, HaveGroupContexts, HaveValues, FitSlice, FitSliceBefore, AreSameGroups, rows_before, codes_before}
 use Rattle.ffv1_samples.specs.Pictures.{slice_plane_at}
@@ -27,6 +27,7 @@ use Rattle.ffv1_samples.specs.declared.faults.SampleFault.TheVariants.{ColorTooL
 use Rattle.ffv1_plane.specs.declared.range_rows.DifferenceFault.{DifferenceFault}
 use Rattle.ffv1_plane.specs.declared.range_rows.DifferenceFault.TheVariants as difference_faults
 use Rattle.ffv1_range.specs.Decoder.{Reader}
+use Rattle.ffv1_range.proofs.Forms.{place_of}
 use Rattle.ffv1_samples.specs.Inner.Places.{IsOneSample}
 use Rattle.ffv1_bits.specs.Bits.{bits_of}
 use Rattle.ffv1_rice.specs.States.{ContextState, start_state}
@@ -35,9 +36,10 @@ use Rattle.ffv1_plane.proofs.OneRice.{one_codes_reading, stuck_codes_spell_nothi
 use Rattle.ffv1_samples.proofs.RgbRows.{stuck_in_all, stuck_in_first, row_inside, codes_in_all, codes_in_first, codes_row_inside}
 use Rattle.ffv1_plane.proofs.FirstRange.{first_rows_are_coded}
 use Rattle.ffv1_plane.proofs.FirstCodes.{first_rows_are_spelled}
+use Rattle.ffv1_plane.proofs.RangeSlices.{group_small}
 use Rattle.ffv1_samples.proofs.Codes.{values_before}
 use Rattle.ffv1_samples.proofs.PlaneSizes.{equal_rows}
-use Rattle.ffv1_samples.proofs.Groups.{group_small, rows_of, has_rows, rows_long, coded_from}
+use Rattle.ffv1_samples.proofs.Groups.{rows_long, coded_from}
 
 -- ---- sizes
 
@@ -95,9 +97,6 @@ run_is_one mode p q m (x ∷ bits) h k =
     let same = slot_is_one mode p h.0 k.0 x.0 x.1 h.1 k.1 in
     run_is_one mode h.0 q m bits h.2 (subst (λ (z : Place). IsRangeRun mode z bits m) (sym same) k.2)
 
-abbrev place_of : {X : Type 0} → Coder → X → PlaceOf X
-place_of coder states = record { coder = coder; states = states }
-
 rows_run_is_one : (mode : Mode) (p q m : PlaceOf Rows) (bits : List RowBits) → IsRowsRun mode p bits q → IsRowsRun mode p bits m → q ≡ m
 unfolding IsRowsRun
 rows_run_is_one mode p q m [] h k = sym h ∙ k
@@ -136,15 +135,15 @@ module _ (r : RecordingValue) (sets : List ℕ) (sizes : List PlaneSize) (versio
   one_after long many p less =
       let g = slice_group r.setup.has_chroma p in
       let small = group_small r.setup.has_chroma p in
-      let rows = rows_of before in
-      let a = h.coded.run (rows_of before) (has_rows before) in
-      let b = second.run (rows_of before) (has_rows before) in
-      let run : IsRowsRun decoder.mode (place_at h.start (rows_of before)) (lines_bits (slice_plane (slice_shape r sets sizes) planes) (coded_lines (slice_shape r sets sizes)))
+      let rows = rows_with before in
+      let a = h.coded.run (rows_with before) (has_rows before) in
+      let b = second.run (rows_with before) (has_rows before) in
+      let run : IsRowsRun decoder.mode (place_at h.start (rows_with before)) (lines_bits (slice_plane (slice_shape r sets sizes) planes) (coded_lines (slice_shape r sets sizes)))
       (place_at end b.next) =
-      subst (λ l. IsRowsRun decoder.mode (place_at h.start (rows_of before)) (lines_bits (slice_plane (slice_shape r sets sizes) l) (coded_lines (slice_shape r sets sizes)))
+      subst (λ l. IsRowsRun decoder.mode (place_at h.start (rows_with before)) (lines_bits (slice_plane (slice_shape r sets sizes) l) (coded_lines (slice_shape r sets sizes)))
       (place_at end b.next)) (sym one_range.0) b.run in
       let same : place_at last a.next ≡ place_at end b.next =
-      rows_run_is_one decoder.mode (place_at h.start (rows_of before)) (place_at last a.next) (place_at end b.next)
+      rows_run_is_one decoder.mode (place_at h.start (rows_with before)) (place_at last a.next) (place_at end b.next)
       (lines_bits (slice_plane (slice_shape r sets sizes) planes) (coded_lines (slice_shape r sets sizes))) a.run run in
       let equal : length (group_of after g) ≡ length (group_of later g) = long p less ∙ sym (many p less) in
       ext_get_or [] (group_of after g) (group_of later g) equal (λ i inside.

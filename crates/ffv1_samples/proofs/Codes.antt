@@ -12,10 +12,10 @@ use Rattle.ffv1_plane.specs.RiceSlices.{values_after_planes, AreGroupsAfter, Are
 use Rattle.ffv1_plane.specs.RiceReading.{group_codes, HaveSliceCodes, AreCodesDecoded}
 use Rattle.ffv1_plane.specs.declared.planes.PlaneSize.{PlaneSize}
 use Rattle.ffv1_plane.specs.declared.rice_planes.RiceLines.{RiceLines}
+use Rattle.ffv1_plane.proofs.RangeSlices.{group_small}
 use Rattle.ffv1_samples.specs.States.{group_of, SliceStatesValue, range_states, rice_states, count_of_planes, HaveGroupContexts, HaveValues, FitSliceBefore, codes_before}
 use Rattle.ffv1_samples.specs.Coded.{AreCodesCoded}
 use Rattle.ffv1_samples.specs.Inner.Coded.{codes_groups}
-use Rattle.ffv1_samples.proofs.Groups.{group_small}
 
 groups_after : (n : ℕ) (values : ℕ → ℕ → List ℤ) (a b : ℕ → List ContextState) → ((g : ℕ) → g < 3 → a g ≡ b g) → AreGroupsAfter n values a → AreGroupsAfter n values b
 groups_after n values a b same h g less = subst (λ (s : List ContextState). AreStatesAfter n (values g) s) (same g less) (h g less)

@@ -4,7 +4,7 @@ use Rattle.ffv1_range.specs.Coding.{Coder, bit_at}
 use Rattle.ffv1_range.specs.Decoder.{Reader, EndsSo}
 use Rattle.ffv1_range.specs.declared.coding.RangeEnd.{RangeEnd}
 use Rattle.ffv1_range.proofs.Spelling.{bind_is_ok}
-use Rattle.ffv1_samples.proofs.Shrinks.{bit_shrinks}
+use Rattle.ffv1_range.proofs.Shrinks.{bit_shrinks}
 
 -- no more is spare than was still to come
 pub spare_small : (n : ℕ) (reader : Reader) (end : RangeEnd) → ((c : Coder) → reader.at ≡ Ok c → length c.rest ≤ n) → EndsSo reader (Ok end) → end.spare ≤ n

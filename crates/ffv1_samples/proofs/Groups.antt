@@ -1,6 +1,6 @@
 -- Planes that are range-coded from states of each group, and what a reader of them has read.
-use Rattle.std.proofs.Common.{◌≡◌, ℕ, zero, suc, ◌/◌, ◌%◌, ◌<◌, ◌≤◌, Bool, true, false, List, [], length, get_or, Ok, refl, sym, ap, ◌∙◌, subst, arith}
-use Rattle.std.specs.Prelude.{Option, Some, None, IfSome, slice_index, nat_lt, ◌==◌, ◌&&◌, if◌then◌else◌}
+use Rattle.std.proofs.Common.{◌≡◌, ℕ, zero, suc, ◌<◌, ◌≤◌, List, length, Ok, refl, sym, ap, ◌∙◌, subst, arith}
+use Rattle.std.specs.Prelude.{Option, Some, None, IfSome, slice_index}
 use Rattle.std.proofs.lemmas.List.{length-replicate}
 use Rattle.ffv1_bits.specs.Limits.{payload_limit}
 use Rattle.ffv1_range.specs.Coding.{Mode, Coder}
@@ -10,35 +10,25 @@ use Rattle.ffv1_range.specs.Setup.{RecordingValue, IsInVersion3, set_contexts, i
 use Rattle.ffv1_range.specs.declared.coding.RangeFault.{RangeFault}
 use Rattle.ffv1_range.specs.declared.head.SliceStart.TheVariants.{Samples}
 use Rattle.ffv1_range.proofs.Spelling.{same_ok}
-use Rattle.ffv1_plane.specs.RangeRows.{state_row}
 use Rattle.ffv1_plane.specs.RangeLines.{lines_bits}
 use Rattle.ffv1_plane.specs.RangeSlices.{SliceShape, slice_shape, slice_group, slice_plane, coded_lines, HasGroupRows, HasGroups, place_at, ArePlanesCoded, AreLinesStuck}
 use Rattle.ffv1_plane.specs.RangeReading.{group_states, states_from, start_states, HaveSliceStates, IsSliceRead}
 use Rattle.ffv1_plane.specs.declared.planes.PlaneSize.{PlaneSize}
 use Rattle.ffv1_plane.specs.declared.planes.RangeLines.{RangeLines}
 use Rattle.ffv1_plane.specs.declared.range_rows.DifferenceFault.{DifferenceFault}
+use Rattle.ffv1_plane.proofs.OneRange.{rows_with, has_rows}
+use Rattle.ffv1_plane.proofs.RangeSlices.{group_small}
 use Rattle.ffv1_samples.specs.States.{group_of, SliceStatesValue, range_states, rice_states, count_of_planes, HaveGroupContexts, FitSliceBefore, rows_before}
 use Rattle.ffv1_samples.specs.Coded.{AreRangeCoded}
 use Rattle.ffv1_samples.specs.Inner.Coded.{lines_groups, IsReaderWithin}
 use Rattle.ffv1_samples.specs.Inner.Headers.{IsStartWithin}
 use Rattle.ffv1_samples.specs.declared.reading.SliceReader.TheVariants.{Range}
-use Rattle.ffv1_samples.proofs.Shrinks.{rows_shrink}
+use Rattle.ffv1_range.proofs.Shrinks.{rows_shrink}
 
 -- ---- states of each group
 
 groups_as : (rows : Rows) (a b : ℕ → List (List ℕ)) → ((g : ℕ) → g < 3 → a g ≡ b g) → HasGroups rows a → HasGroups rows b
 groups_as rows a b same has g less = subst (λ (s : List (List ℕ)). HasGroupRows g rows s) (same g less) (has g less)
-
--- rows of states with these of each group
-unfoldable pub rows_of : (ℕ → List (List ℕ)) → Rows
-rows_of states k = get_or (states (k % 3)) (k / 3) []
-
-pub has_rows : (states : ℕ → List (List ℕ)) → HasGroups (rows_of states) states
-unfolding rows_of
-has_rows states group small k inside =
-    let rest : state_row group k % 3 ≡ group = omega arith in
-    let quotient : state_row group k / 3 ≡ k = omega arith in
-    ap (λ g. get_or (states g) (state_row group k / 3) []) rest ∙ ap (λ n. get_or (states group) n []) quotient
 
 pub coded_from : (mode : Mode) (shape : SliceShape) (start end : Coder) (planes : List (List ℕ)) (b before a after : ℕ → List (List ℕ))
     → ((g : ℕ) → g < 3 → b g ≡ before g) → ((g : ℕ) → g < 3 → a g ≡ after g)
@@ -63,14 +53,6 @@ stuck_from mode shape start b before fault plane y x same h = record {
 }
 
 -- ---- the states before
-
-pub group_small : (has_chroma : Bool) (p : ℕ) → slice_group has_chroma p < 3
-group_small has_chroma p = either (p == 0) (has_chroma && nat_lt p 3)
-  where
-    either : (a b : Bool) → (if a then 0 else if b then 1 else 2) < 3
-    either true b = omega arith
-    either false true = omega arith
-    either false false = omega arith
 
 start_long : (r : RecordingValue) (set : ℕ) → IsInVersion3 r → length (start_states r set) ≡ set_contexts r.setup set
 start_long r set version = either (initial_of r set) (version.initial set)
@@ -136,8 +118,8 @@ module _ (r : RecordingValue) (sets tables : List ℕ) (sizes : List PlaneSize) 
 
     pub after_within : (content : List ℕ) → IsStartWithin r content (Samples decoder) → length content ≤ payload_limit → IsReaderWithin (Range after)
     after_within content start short =
-        let run = h.coded.run (rows_of (group_states reader)) (has_rows (group_states reader)) in
-        let shrinks = rows_shrink reader.decoder.mode (place_at h.start (rows_of (group_states reader))) (place_at h.end run.next)
+        let run = h.coded.run (rows_with (group_states reader)) (has_rows (group_states reader)) in
+        let shrinks = rows_shrink reader.decoder.mode (place_at h.start (rows_with (group_states reader))) (place_at h.end run.next)
         (lines_bits (slice_plane (slice_shape r sets sizes) planes) (coded_lines (slice_shape r sets sizes))) run.run in
         let at : decoder.at ≡ Ok h.start = subst (λ (d : Reader). d.at ≡ Ok h.start) is h.from in (
           ap (λ (d : Reader). d.mode.closed) after_is ∙ start.2,

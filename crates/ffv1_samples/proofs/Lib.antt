@@ -1,4 +1,3 @@
-pub mod Shrinks
 pub mod Groups
 pub mod Headers
 pub mod PlaneSizes

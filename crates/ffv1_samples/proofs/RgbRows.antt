@@ -18,33 +18,10 @@ use Rattle.ffv1_rice.specs.declared.code.CodeFault.{CodeFault}
 use Rattle.ffv1_plane.specs.declared.planes.PlaneSize.{PlaneSize}
 use Rattle.ffv1_plane.specs.declared.range_rows.DifferenceFault.{DifferenceFault}
 use Rattle.ffv1_plane.specs.FirstRows.{rows_to}
+use Rattle.ffv1_plane.proofs.SameRows.{AreRowsBelow, all_rows_are_below, row_in_middle}
 use Rattle.ffv1_samples.proofs.PlaneSizes.{rows_size, rows_width}
 
 -- ---- rows of lines
-
--- each line is of a row under a number
-pub data AreRowsBelow (n : ℕ) : List Line → Type 0 where
-  none : AreRowsBelow n []
-  followed : {line : Line} {lines : List Line} → line.row < n → AreRowsBelow n lines → AreRowsBelow n (line ∷ lines)
-
-below_both : (n : ℕ) (xs ys : List Line) → AreRowsBelow n xs → AreRowsBelow n ys → AreRowsBelow n (xs ++ ys)
-below_both n [] ys none k = k
-below_both n (line ∷ xs) ys (followed less h) k = followed less (below_both n xs ys h k)
-
-below_middle : (n : ℕ) (xs ys : List Line) (line : Line) → AreRowsBelow n (xs ++ (line ∷ ys)) → line.row < n
-below_middle n [] ys line (followed less h) = less
-below_middle n (x ∷ xs) ys line (followed less h) = below_middle n xs ys line h
-
-row_below : (n row count : ℕ) → row < n → AreRowsBelow n (lines_of_row row count)
-unfolding lines_of_row
-row_below n row zero less = none
-row_below n row (suc count) less = below_both n (lines_of_row row count) (line_at count row ∷ []) (row_below n row count less) (followed less none)
-
-all_below : (n count height : ℕ) → height ≤ n → AreRowsBelow n (row_after_row count height)
-unfolding row_after_row
-all_below n count zero less = none
-all_below n count (suc height) less =
-    below_both n (row_after_row count height) (lines_of_row height count) (all_below n count height (omega (arith, less))) (row_below n height count (omega (arith, less)))
 
 lines_are : (r : RecordingValue) (sets : List ℕ) (sizes : List PlaneSize) → r.is_rgb ≡ true
     → coded_lines (slice_shape r sets sizes) ≡ row_after_row (length sizes) (height_at sizes 0)
@@ -54,14 +31,14 @@ lines_are r sets sizes is = ap (λ b. lines_of b sizes) is
 pub row_inside : (r : RecordingValue) (sets : List ℕ) (sizes : List PlaneSize) (mode : Mode) (start : Coder) (before : ℕ → List (List ℕ)) (fault : DifferenceFault)
     (plane y x : ℕ) → r.is_rgb ≡ true → AreLinesStuck mode (slice_shape r sets sizes) start before fault plane y x → y < height_at sizes 0
 row_inside r sets sizes mode start before fault plane y x is h =
-    below_middle (height_at sizes 0) h.done h.later (line_at plane y)
-    (subst (AreRowsBelow (height_at sizes 0)) (sym (lines_are r sets sizes is) ∙ h.order) (all_below (height_at sizes 0) (length sizes) (height_at sizes 0) (omega arith)))
+    row_in_middle (height_at sizes 0) h.done h.later (line_at plane y)
+    (subst (AreRowsBelow (height_at sizes 0)) (sym (lines_are r sets sizes is) ∙ h.order) (all_rows_are_below (length sizes) (height_at sizes 0)))
 
 pub codes_row_inside : (r : RecordingValue) (sets : List ℕ) (sizes : List PlaneSize) (values : ℕ → ℕ → List ℤ) (bits : List Bool) (fault : CodeFault)
     (plane y x : ℕ) → r.is_rgb ≡ true → AreCodesStuck (slice_shape r sets sizes) values bits fault plane y x → y < height_at sizes 0
 codes_row_inside r sets sizes values bits fault plane y x is h =
-    below_middle (height_at sizes 0) h.done h.later (line_at plane y)
-    (subst (AreRowsBelow (height_at sizes 0)) (sym (lines_are r sets sizes is) ∙ h.order) (all_below (height_at sizes 0) (length sizes) (height_at sizes 0) (omega arith)))
+    row_in_middle (height_at sizes 0) h.done h.later (line_at plane y)
+    (subst (AreRowsBelow (height_at sizes 0)) (sym (lines_are r sets sizes is) ∙ h.order) (all_rows_are_below (length sizes) (height_at sizes 0)))
 
 -- ---- parts of lines
 

@@ -30,14 +30,13 @@ use Rattle.ffv1_plane.specs.RangeSlices.{SliceShape, slice_shape, size_at, heigh
 use Rattle.ffv1_plane.specs.RiceSlices.{is_anew_at, slice_planes, values_after_planes, AreGroupsAfter}
 use Rattle.ffv1_plane.specs.declared.planes.PlaneSize.{PlaneSize}
 use Rattle.ffv1_plane.proofs.Contexts.{context_fits}
-use Rattle.ffv1_plane.proofs.RangeSlices.{AreBelow, planes_below}
+use Rattle.ffv1_plane.proofs.RangeSlices.{AreBelow, planes_below, group_small}
 use Rattle.ffv1_samples.specs.Sizes.{slice_rect, rect_size, planes_sizes, slice_sizes}
 use Rattle.ffv1_samples.specs.States.{GroupsOf, group_of, rice_states, count_of_planes, HaveGroupContexts, FitSlice, codes_before}
 use Rattle.ffv1_samples.specs.Coded.{AreCodesCoded, rice_end, range_end, is_clean_rest, SamplesEnd, AreCoded, EndsWith}
 use Rattle.ffv1_samples.specs.Pictures.{AreRgbPlanes}
 use Rattle.ffv1_samples.specs.Slices.{SlicePictureValue, IsSlicePicture}
 use Rattle.ffv1_samples.specs.Profile.{IsSliceOfTile, TileIsSlice}
-use Rattle.ffv1_samples.proofs.Groups.{group_small}
 use Rattle.ffv1_samples.proofs.PlaneSizes.{count_of_sizes}
 use Rattle.ffv1_samples.proofs.SameStates.{AreAlike, AreSamePlanes, lines_leave_alike, lines_alike}
 

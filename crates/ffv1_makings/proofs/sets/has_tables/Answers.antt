@@ -1,9 +1,9 @@
 use Rattle.std.proofs.Common.{◌≡◌, ◌<◌, ◌≤◌, ◌+◌, ◌-◌, ◌*◌, [], length, map, take, get_or, sym, ap, subst, ◌∙◌, arith, below_more}
 use Rattle.std.proofs.lemmas.List.{length-map}
+use Rattle.ffv1_vectors.proofs.FrameSteps.{plane_is}
 use Rattle.ffv1_range.specs.Tables.{IsTable, half_of, halves_of, scale_after_all}
 use Rattle.ffv1_makings.specs.Inner.ReadBack.{ShowsHalf}
 use Rattle.ffv1_makings.proofs.TableSets.{All-more, scale_more, scales_more, half_at}
-use Rattle.ffv1_makings.proofs.Vectors.{items_at}
 use Rattle.ffv1_makings.proofs.sets.has_tables.Goals as goal
 
 pub loop-table-preserved : goal.loop-table-preserved
@@ -14,7 +14,7 @@ loop-table-preserved c =
     let below : table < length c.args.tables.now = omega arith in
     let inside : table < length asked = omega (arith, length-map c.args.tables.now (λ runs. runs.items)) in
     let is : get_or asked table [] ≡ c.index-tables-table.result.items =
-    items_at c.args.tables.now table c.index-tables-table.result below c.index-tables-table.is in
+    plane_is c.args.tables.now table c.index-tables-table.result below c.index-tables-table.is in
     let is_table = subst IsTable (c.deref.ensures.value ∙ sym is) (c.is_table.ensures.table c.if-not-is_table.false) in
     let scale : c.loop-table.scale * (2 * c.len.result - 1) ≡ scale_after_all 1 (take (table + 1) asked) =
     ap (λ s. s * (2 * c.len.result - 1)) c.loop-table.invariant.scale

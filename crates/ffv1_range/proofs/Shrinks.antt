@@ -6,10 +6,8 @@ use Rattle.ffv1_range.specs.Transitions.{state_following}
 use Rattle.ffv1_range.specs.Coding.{Coder, Mode, Place, PlaceOf, with_byte, refilled, bit_at, slot_at, IsRangeRun}
 use Rattle.ffv1_range.specs.Rows.{Rows, with_row, RowBits, IsRowsRun}
 use Rattle.ffv1_range.specs.declared.coding.RangeFault.{RangeFault}
+use Rattle.ffv1_range.proofs.Forms.{place_of}
 use Rattle.ffv1_range.proofs.Spelling.{bind_is_ok, same_ok}
-
-abbrev place_of : {X : Type 0} → Coder → X → PlaceOf X
-place_of coder states = record { coder = coder; states = states }
 
 refilled_shrinks : (closed : Bool) (range low : ℕ) (rest : List ℕ) (d : Coder) → refilled closed range low rest ≡ Ok d → length d.rest ≤ length rest
 refilled_shrinks closed range low rest d h =
@@ -28,7 +26,7 @@ refilled_shrinks closed range low rest d h =
     byte_shrinks true range low [] d h = omega (arith, ap (λ z. length z.rest) (same_ok (record { range = 256 * range; low = 256 * low; rest = [] }) d h))
     byte_shrinks false range low [] d h = absurd cc
 
-abbrev with_bit : Bool → Coder → Result (Bool × Coder) RangeFault
+abbrev pub with_bit : Bool → Coder → Result (Bool × Coder) RangeFault
 with_bit bit d = Ok (bit, d)
 
 cut_shrinks : (closed : Bool) (range low : ℕ) (rest : List ℕ) (given bit : Bool) (d : Coder)
@@ -57,7 +55,7 @@ slot_shrinks mode p q slot bit h =
     let same = same_ok (x.0.0, place_of x.0.1 (slice_set p.states slot (state_following mode.transitions (slice_index p.states slot) x.0.0))) (bit, q) x.2 in
     omega (arith, bit_shrinks mode.closed p.coder x.0.1 (slice_index p.states slot) x.0.0 x.1, ap (λ z. length z.1.coder.rest) same)
 
-run_shrinks : (mode : Mode) (p q : Place) (bits : List (ℕ × Bool)) → IsRangeRun mode p bits q → length q.coder.rest ≤ length p.coder.rest
+pub run_shrinks : (mode : Mode) (p q : Place) (bits : List (ℕ × Bool)) → IsRangeRun mode p bits q → length q.coder.rest ≤ length p.coder.rest
 unfolding IsRangeRun
 run_shrinks mode p q [] h = omega (arith, ap (λ z. length z.coder.rest) h)
 run_shrinks mode p q (x ∷ bits) h = omega (arith, slot_shrinks mode p h.0 x.0 x.1 h.1, run_shrinks mode h.0 q bits h.2)
