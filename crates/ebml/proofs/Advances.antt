@@ -1,19 +1,18 @@
 -- A register that takes one byte more, or sixteen.
-use Rattle.std.proofs.Common.{◌≡◌, ℕ, zero, suc, ◌+◌, ◌*◌, ◌/◌, ◌%◌, ◌^◌, ◌<◌, Bool, false, List, [], ◌∷◌, ◌++◌, length, take, drop, reverse, replicate, get_or, refl, sym, ap, ◌∙◌, subst, arith, lit<}
+use Rattle.std.proofs.Common.{◌≡◌, ℕ, zero, suc, ◌+◌, ◌*◌, ◌/◌, ◌%◌, ◌^◌, ◌<◌, Bool, false, List, [], ◌∷◌, ◌++◌, length, take, reverse, replicate, get_or, refl, sym, ap, ◌∙◌, subst, arith, lit<}
 use Rattle.std.specs.Prelude.{bit_xor, bit_or}
 use Rattle.std.specs.List.{concat}
 use Rattle.std.specs.Int.{w32, w64, bit_not, to_le_bytes, reverse_bits_onto}
 use Rattle.std.specs.Int.Bits.{xor_zero_r, xor_assoc, xor_comm}
 use Rattle.std.proofs.lemmas.Nat.{xor_lt, xor_mod, xor_shr, or_shifted}
 use Rattle.std.proofs.Math.Nat.{mod-eq_of_lt}
-use Rattle.std.proofs.Math.Seq.{take-add}
-use Rattle.std.specs.Simd.{first_chunks}
-use Rattle.std.proofs.lemmas.List.{append-nil, append_assoc, length-append, length-replicate, replicate-append-replicate, take-append-drop, take_more}
+use Rattle.std.proofs.lemmas.List.{append-nil, append_assoc, length-append, length-replicate, take_more}
 use Rattle.std.proofs.lemmas.List.Folds.{concat-append}
 use Rattle.ffv1_bits.specs.Bits.{number_bits, bits_of}
 use Rattle.ffv1_bits.specs.Parity.{polynomial_of, divided, remainder_of}
 use Rattle.ffv1_bits.proofs.SixteenBytes.{moved_entry}
 use Rattle.ffv1_bits.proofs.Remainders.{table_turn}
+use Rattle.ffv1_bits.proofs.Burst.{bits_of-zeros}
 use Rattle.ebml.specs.Crc.{sent_bits, complemented, crc_remainder, crc32_of}
 use Rattle.ebml.specs.Inner.Register.{register_of, Advances, left_before}
 use Rattle.ebml.specs.declared.crc.TheConstants.{START}
@@ -137,20 +136,13 @@ left_before-append xs ys zeros =
     ∙ reversed-xor 32 (remainder_of (front ++ replicate (length back) false)) (remainder_of back)
     ∙ ap (λ n. bit_xor (reverse_bits_onto 32 (remainder_of (front ++ replicate n false)) 0) (reverse_bits_onto 32 (remainder_of back) 0)) long
 
-no_bits : (n : ℕ) → bits_of (replicate n 0) ≡ replicate (8 * n) false
-unfolding bits_of number_bits
-no_bits zero = refl
-no_bits (suc n) =
-    ap (λ bits. replicate 8 false ++ bits) (no_bits n) ∙ replicate-append-replicate 8 (8 * n) false
-    ∙ ap (λ k. replicate k false) (let e : 8 + 8 * n ≡ 8 * suc n = omega arith in e)
-
 -- the tables have what is left of one byte
 entry_left : (more b : ℕ) → turned_entry more b ≡ left_before (b ∷ []) (32 + 8 * more)
 unfolding left_before sent_bits bits_of
 entry_left more b =
     ap (λ bits. reverse_bits_onto 32 (remainder_of bits) 0)
     (ap (λ bits. bits ++ bits_of (replicate (4 + more) 0)) (reversed_bits 8 b ∙ sym (append-nil (reverse (number_bits 8 b))))
-    ∙ ap (λ bits. sent_bits (b ∷ []) ++ bits) (no_bits (4 + more) ∙ ap (λ k. replicate k false) (let e : 8 * (4 + more) ≡ 32 + 8 * more = omega arith in e)))
+    ∙ ap (λ bits. sent_bits (b ∷ []) ++ bits) (bits_of-zeros (4 + more) ∙ ap (λ k. replicate k false) (let e : 8 * (4 + more) ≡ 32 + 8 * more = omega arith in e)))
 
 first_left : (b : ℕ) (bytes : List ℕ) (more k left : ℕ) → length bytes ≡ k → left ≡ left_before bytes (32 + 8 * more)
     → bit_xor (turned_entry (more + k) b) left ≡ left_before (b ∷ bytes) (32 + 8 * more)
@@ -273,17 +265,6 @@ Advances-none register = λ bytes is. is ∙ ap register_of (sym (append-nil byt
 
 pub Advances-trans : (a b c : ℕ) (xs ys : List ℕ) → Advances a xs b → Advances b ys c → Advances a (xs ++ ys) c
 Advances-trans a b c xs ys p q = λ bytes is. q (bytes ++ xs) (p bytes is) ∙ ap register_of (append_assoc bytes xs ys)
-
-concat_chunks : (n k : ℕ) (xs : List ℕ) → concat (first_chunks n k xs) ≡ take (k * n) xs
-concat_chunks n zero xs = ap (λ m. take m xs) (let e : 0 ≡ 0 * n = omega arith in e)
-concat_chunks n (suc k) xs =
-    ap (λ more. take n xs ++ more) (concat_chunks n k (drop n xs)) ∙ sym (take-add n (k * n) xs)
-    ∙ ap (λ m. take m xs) (let e : n + k * n ≡ suc k * n = omega arith in e)
-
-pub chunks_and_rest : (bytes : List ℕ) → concat (first_chunks 16 (length bytes / 16) bytes) ++ drop (length bytes / 16 * 16) bytes ≡ bytes
-chunks_and_rest bytes =
-    ap (λ front. front ++ drop (length bytes / 16 * 16) bytes) (concat_chunks 16 (length bytes / 16) bytes)
-    ∙ take-append-drop (length bytes / 16 * 16) bytes
 
 pub chunk_advanced : (r : ℕ) (chunks : List (List ℕ)) (i register next : ℕ) → i < length chunks → Advances r (concat (take i chunks)) register
     → Advances register (get_or chunks i []) next → Advances r (concat (take (i + 1) chunks)) next

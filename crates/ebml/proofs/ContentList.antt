@@ -2,17 +2,18 @@
 use Rattle.std.proofs.Common.{◌≡◌, ℕ, ◌+◌, ◌-◌, ◌≤◌, Bool, true, false, cond, eqb, List, [], ◌∷◌, ◌++◌, length, map, take, drop, refl, sym, ap, ◌∙◌, subst, arith}
 use Rattle.std.specs.Prelude.{filter, Option, Some, None, option_map}
 use Rattle.std.specs.List.{flat_map, fold}
-use Rattle.std.proofs.lemmas.Bool.{eqb-true, eq-eqb}
-use Rattle.std.proofs.lemmas.List.{length-take-le, length-drop, take-append-drop, append_assoc, drop_at, take_rest, append_cancel_left}
+use Rattle.std.proofs.lemmas.Bool.{eq-eqb, ne_eqb}
+use Rattle.std.proofs.lemmas.List.{length-take-le, length-drop, take-append-drop, append_assoc, take_rest, append_cancel_left}
 use Rattle.ffv1_bits.specs.Parity.{AreBytes}
+use Rattle.ffv1_bits.proofs.Bytes.{AreBytes-rest}
 use Rattle.ebml.specs.Children.{IsElement}
 use Rattle.ebml.specs.Contents.{ElementValue, AreElements, contents_with, AreContents, OfLast, PlacedBytes, placed_with, AreContentsAt, OfLastPlaced, place_in, ContentsAreOne}
 use Rattle.ebml.specs.declared.head.Head.{Head}
-use Rattle.ebml.proofs.Numbers.{bytes_drop}
 use Rattle.ebml.proofs.Heads.{after}
 use Rattle.ebml.proofs.Elements.{one_element, front_is, within_is}
 
-abbrev bytes_in : List ElementValue → List ℕ
+-- the bytes of elements that follow each other
+abbrev pub bytes_in : List ElementValue → List ℕ
 bytes_in elements = flat_map (λ element. element.bytes) elements
 
 -- ---- an element more at the front
@@ -26,16 +27,13 @@ more_elements xs n head is elements are = record {
   last = are.last;
 }
 
-not_equal : (a b : ℕ) → (a ≡ b → ⊥) → eqb a b ≡ false
-not_equal a b differ = elim (eqb a b) as (λ t. eqb a b ≡ t → t ≡ false) [ true ↦ λ e. absurd (differ (eqb-true a b e)) | false ↦ λ _. refl ] refl
-
 pub other_before : (id : ℕ) (xs : List ℕ) (n : ℕ) (head : Head) → IsElement head (take n xs) → (head.id ≡ id → ⊥) → (contents : List (List ℕ))
     → AreContents id (drop n xs) contents → AreContents id xs contents
 other_before id xs n head is differ contents are =
     let found : ElementValue = record { head = head; bytes = take n xs } in
     let same : contents_with id (found ∷ are.0) ≡ contents_with id are.0 =
     ap (λ test. map (λ (element : ElementValue). drop element.head.length element.bytes) (cond test (found ∷ filter (λ element. eqb element.head.id id) are.0) (filter (λ element. eqb element.head.id id) are.0)))
-    (not_equal head.id id differ) in
+    (ne_eqb head.id id differ) in
     (found ∷ are.0, more_elements xs n head is are.0 are.1, are.2 ∙ sym same)
 
 pub one_before : (id : ℕ) (xs : List ℕ) (n : ℕ) (head : Head) → IsElement head (take n xs) → head.id ≡ id → (contents : List (List ℕ))
@@ -64,7 +62,7 @@ other_placed id from xs n head room is differ placed are =
     let long : length (take n xs) ≡ n = length-take-le n xs room in (
       found ∷ are.0,
       more_elements xs n head is are.0 are.1,
-      are.2 ∙ ap (λ m. placed_with id (from + m) are.0) (sym long) ∙ sym (ap (placed_by id from found are.0) (not_equal head.id id differ)),
+      are.2 ∙ ap (λ m. placed_with id (from + m) are.0) (sym long) ∙ sym (ap (placed_by id from found are.0) (ne_eqb head.id id differ)),
     )
 
 one_placed : (id from : ℕ) (xs : List ℕ) (n : ℕ) (head : Head) → n ≤ length xs → IsElement head (take n xs) → head.id ≡ id → (placed : List PlacedBytes)
@@ -199,7 +197,7 @@ elements_are_one xs (a ∷ as_) (b ∷ bs) bytes is_a is_b =
     let one = one_element xs a.head b.head (length a.bytes) (length b.bytes) bytes (within_is a.bytes more_a xs at_a) (within_is b.bytes more_b xs at_b) there_a there_b in
     let same : a.bytes ≡ b.bytes = sym (front_is a.bytes more_a xs at_a) ∙ ap (λ n. take n xs) one.1 ∙ front_is b.bytes more_b xs at_b in
     let rests : bytes_in as_ ++ is_a.rest ≡ bytes_in bs ++ is_b.rest = append_cancel_left b.bytes more_a more_b (ap (λ z. z ++ more_a) (sym same) ∙ sym at_a ∙ at_b) in
-    let after : AreBytes (bytes_in bs ++ is_b.rest) = subst AreBytes (ap (drop (length b.bytes)) at_b ∙ drop_at b.bytes more_b (length b.bytes) refl) (bytes_drop (length b.bytes) xs bytes) in
+    let after : AreBytes (bytes_in bs ++ is_b.rest) = AreBytes-rest b.bytes more_b (subst AreBytes at_b bytes) in
     let front : a ≡ b = same_element a b one.0 same in
     let more = elements_are_one (bytes_in bs ++ is_b.rest) as_ bs after record { rest = is_a.rest; joined = sym rests; each = is_a.each.1; last = is_a.last }
     record { rest = is_b.rest; joined = refl; each = is_b.each.1; last = is_b.last } in

@@ -2,13 +2,14 @@
 use Rattle.std.proofs.Common.{◌≡◌, ℕ, ◌+◌, ◌-◌, ◌≤◌, List, [], ◌∷◌, ◌++◌, length, take, drop, refl, sym, ap, ◌∙◌, subst, arith}
 use Rattle.std.specs.Prelude.{Some, Contains}
 use Rattle.std.specs.List.{AllByRecursion, concat}
-use Rattle.std.proofs.lemmas.List.{length-take-le, length-take, length-append, take-append-drop, take_at, drop_at, append_assoc, append_cancel_left, append-nil, length-drop, take_rest}
+use Rattle.std.proofs.lemmas.List.{length-take-le, length-take, length-append, take-append-drop, take_at, append_assoc, append_cancel_left, append-nil, length-drop, take_rest}
 use Rattle.std.proofs.Math.Seq.{take-add}
 use Rattle.ffv1_bits.specs.Parity.{AreBytes}
+use Rattle.ffv1_bits.proofs.Bytes.{AreBytes-rest}
 use Rattle.ebml.specs.Head.{HasHead}
 use Rattle.ebml.specs.Children.{IsElement, IsChild, AreChildren}
 use Rattle.ebml.specs.declared.head.Head.{Head}
-use Rattle.ebml.proofs.Numbers.{bytes_drop, some_octets}
+use Rattle.ebml.proofs.Numbers.{some_octets}
 use Rattle.ebml.proofs.Heads.{parts_of, one_head, head_longer, head_shorter, after}
 
 pub head_of_front : (xs : List ℕ) (n : ℕ) (head : Head) → HasHead (take n xs) head → HasHead xs head
@@ -71,7 +72,7 @@ children_are_one ids content (a ∷ xs_a) (b ∷ xs_b) rest other_rest bytes is 
     let at_a : content ≡ a ++ (concat xs_a ++ rest) = is.joined ∙ append_assoc a (concat xs_a) rest in
     let at_b : content ≡ b ++ (concat xs_b ++ other_rest) = others_are.joined ∙ append_assoc b (concat xs_b) other_rest in
     let first = one_child ids content a b (concat xs_a ++ rest) (concat xs_b ++ other_rest) bytes at_a at_b is.each.0 others_are.each.0 in
-    let after : AreBytes (concat xs_a ++ rest) = subst AreBytes (ap (drop (length a)) at_a ∙ drop_at a (concat xs_a ++ rest) (length a) refl) (bytes_drop (length a) content bytes) in
+    let after : AreBytes (concat xs_a ++ rest) = AreBytes-rest a (concat xs_a ++ rest) (subst AreBytes at_a bytes) in
     let more = children_are_one ids (concat xs_a ++ rest) xs_a xs_b rest other_rest after record { joined = refl; each = is.each.1; last = is.last }
     record { joined = first.1; each = others_are.each.1; last = others_are.last } in
     (ap (λ z. z ∷ xs_a) first.0 ∙ ap (λ z. b ∷ z) more.0, more.1)

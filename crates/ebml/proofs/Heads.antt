@@ -4,13 +4,14 @@ use Rattle.std.specs.Prelude.{◌==◌, if◌then◌else◌, Option, Some, None}
 use Rattle.std.proofs.lemmas.List.{length-take-le, length-append, length-drop, take-take, take_at, drop_at, drop-take, take-append-le, take_rest}
 use Rattle.std.proofs.Math.Seq.{take-add}
 use Rattle.ffv1_bits.specs.Parity.{AreBytes}
+use Rattle.ffv1_bits.proofs.Bytes.{AreBytes-drop}
 use Rattle.ebml.specs.Vint.{number_of, marker, IsVint, HasData}
 use Rattle.ebml.specs.Head.{IsHead, HasHead, HeadsAreLocal}
 use Rattle.ebml.specs.Inner.Front.{HasVint}
 use Rattle.ebml.specs.declared.head.Head.{Head}
 use Rattle.ebml.specs.declared.vint.Vint.{Vint}
 use Rattle.ebml.specs.declared.vint.VintData.{VintData}
-use Rattle.ebml.proofs.Numbers.{one_vint, bytes_drop}
+use Rattle.ebml.proofs.Numbers.{one_vint}
 
 pub same_vint : (vint : Vint) (number long : ℕ) → number ≡ vint.number → long ≡ vint.length
     → ◌≡◌ {A = Vint} record { number = number; length = long } vint
@@ -144,7 +145,7 @@ one_head xs a b bytes has_a has_b =
     let rest : List ℕ = drop q.id.length xs in
     let size_is : HasVint (drop q.id.length xs) 8 p.size = subst (λ n. HasVint (drop n xs) 8 p.size) id_long p.size_is in
     let size_long : p.size.length ≡ q.size.length =
-    one_vint (drop q.id.length xs) q.size.length p.size.length (bytes_drop q.id.length xs bytes) q.size_is.short size_is.short q.size_is.room size_is.room q.size_is.is size_is.is in
+    one_vint (drop q.id.length xs) q.size.length p.size.length (AreBytes-drop q.id.length xs bytes) q.size_is.short size_is.short q.size_is.room size_is.room q.size_is.is size_is.is in
     let size_same : p.size ≡ q.size = same_vint q.size p.size.number p.size.length
     (size_is.number ∙ ap (λ n. number_of (take n (drop q.id.length xs))) size_long ∙ sym q.size_is.number) size_long in
     same_head a b

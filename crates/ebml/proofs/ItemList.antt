@@ -5,6 +5,7 @@ use Rattle.std.proofs.lemmas.Bool.{cases_lt}
 use Rattle.std.proofs.lemmas.List.{length-append, length-drop, take-append-drop, drop_at, drop-append-le, append_cancel_left, append_cancel_right, take_rest, drop-drop, drop-take, append-nil, append_assoc, take_all, drop_all}
 use Rattle.std.proofs.Math.Seq.{take-add}
 use Rattle.ffv1_bits.specs.Parity.{AreBytes}
+use Rattle.ffv1_bits.proofs.Bytes.{AreBytes-drop, AreBytes-rest}
 use Rattle.ebml.specs.Vint.{number_of}
 use Rattle.ebml.specs.Head.{HasHead}
 use Rattle.ebml.specs.Children.{AreChildren}
@@ -14,7 +15,6 @@ use Rattle.ebml.specs.declared.head.Head.{Head}
 use Rattle.ebml.specs.declared.items.Kind.{Kind}
 use Rattle.ebml.specs.declared.items.Kind.TheVariants.{Segment, Element, Endless, Unknown}
 use Rattle.ebml.specs.Inner.Passed.{Passed}
-use Rattle.ebml.proofs.Numbers.{bytes_drop}
 use Rattle.ebml.proofs.Heads.{one_head, head_longer, after}
 use Rattle.ebml.proofs.Elements.{front_is, long_head, front_head, children_are_one}
 
@@ -66,7 +66,7 @@ module _ (xs a a_more b b_more : List ℕ) (bytes : AreBytes xs) (at_a : xs ≡ 
       subst (λ z. AreChildren cluster_ids z p a_more) (sym (content_is h room_h) ∙ ap (λ z. drop z.length xs) same) kids in
       let other : AreChildren cluster_ids (drop g.length xs) q b_more =
       subst (λ z. AreChildren cluster_ids z q b_more) (sym (drop-append-le g.length b b_more room_g) ∙ ap (drop g.length) (sym at_b)) others in
-      let rests : a_more ≡ b_more = (children_are_one cluster_ids (drop g.length xs) p q a_more b_more (bytes_drop g.length xs bytes) one other).1 in
+      let rests : a_more ≡ b_more = (children_are_one cluster_ids (drop g.length xs) p q a_more b_more (AreBytes-drop g.length xs bytes) one other).1 in
       append_cancel_right a b b_more (ap (λ z. a ++ z) (sym rests) ∙ sym at_a ∙ at_b)
 
 pub one_item : (xs a a_more b b_more : List ℕ) (k l : Kind) → AreBytes xs → xs ≡ a ++ a_more → xs ≡ b ++ b_more → IsItem k a a_more → IsItem l b b_more
@@ -143,7 +143,7 @@ items_are_one file (a ∷ xs) (b ∷ bs) bytes is others =
     let first = one_item file a.bytes (bytes_of_items xs) b.bytes (bytes_of_items bs) a.kind b.kind bytes is.joined others.joined is.each.0 others.each.0 in
     let same : a ≡ b = same_item a b first.0 first.1 in
     let rests : bytes_of_items xs ≡ bytes_of_items bs = append_cancel_left b.bytes (bytes_of_items xs) (bytes_of_items bs) (ap (λ z. z ++ bytes_of_items xs) (sym first.1) ∙ sym is.joined ∙ others.joined) in
-    let left : AreBytes (bytes_of_items xs) = subst AreBytes (ap (drop (length a.bytes)) is.joined ∙ drop_at a.bytes (bytes_of_items xs) (length a.bytes) refl) (bytes_drop (length a.bytes) file bytes) in
+    let left : AreBytes (bytes_of_items xs) = AreBytes-rest a.bytes (bytes_of_items xs) (subst AreBytes is.joined bytes) in
     let more = items_are_one (bytes_of_items xs) xs bs left record { joined = refl; each = is.each.1 } record { joined = rests; each = others.each.1 } in
     ap (λ z. z ∷ xs) same ∙ ap (λ z. b ∷ z) more
 

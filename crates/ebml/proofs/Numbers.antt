@@ -1,11 +1,12 @@
 -- Bytes as numbers, and by which first octet a Variable-Size Integer begins.
-use Rattle.std.proofs.Common.{◌≡◌, ℕ, suc, zero, ◌+◌, ◌-◌, ◌*◌, ◌^◌, ◌%◌, ◌∙◌, ◌<◌, ◌≤◌, List, [], ◌∷◌, length, take, drop, get_or, sym, ap, subst, arith, inl, inr}
+use Rattle.std.proofs.Common.{◌≡◌, ℕ, suc, zero, ◌+◌, ◌-◌, ◌*◌, ◌^◌, ◌%◌, ◌∙◌, ◌<◌, ◌≤◌, List, [], ◌∷◌, length, take, get_or, sym, ap, subst, arith, inl, inr}
 use Rattle.std.specs.Int.Digits.{number_from_digits_after, AllBelowBase}
 use Rattle.std.proofs.lemmas.Int.Digits.{number_lt, number_after_lt}
 use Rattle.std.proofs.Math.Nat.{pow-le-pow_right, pow-suc, mod-eq_of_lt}
 use Rattle.std.proofs.lemmas.Bool.{cases_lt}
-use Rattle.std.proofs.lemmas.List.{length-take-le, get_or-drop}
+use Rattle.std.proofs.lemmas.List.{length-take-le}
 use Rattle.ffv1_bits.specs.Parity.{AreBytes}
+use Rattle.ffv1_bits.proofs.Bytes.{AreBytes-take}
 use Rattle.ebml.specs.Vint.{number_of, marker, IsVint}
 use Rattle.ebml.specs.Inner.Front.{IsLengthBy}
 
@@ -13,16 +14,10 @@ pub all_below : (xs : List ℕ) → AreBytes xs → AllBelowBase 256 xs
 all_below [] bytes = tt
 all_below (x ∷ xs) bytes = (bytes 0, all_below xs (λ i. bytes (suc i)))
 
-pub bytes_take : (n : ℕ) (xs : List ℕ) → AreBytes xs → AreBytes (take n xs)
-bytes_take zero xs bytes i = omega arith
-bytes_take (suc n) [] bytes i = omega arith
-bytes_take (suc n) (x ∷ xs) bytes zero = bytes 0
-bytes_take (suc n) (x ∷ xs) bytes (suc i) = bytes_take n xs (λ j. bytes (suc j)) i
-
 -- a number of at most seven bytes has room for one more
 pub room_for_one : (xs : List ℕ) (k : ℕ) → AreBytes xs → length (take k xs) ≤ 7 → number_of (take k xs) < 2 ^ 56
 room_for_one xs k bytes few =
-    let small : number_of (take k xs) < 256 ^ length (take k xs) = number_lt 256 (take k xs) (all_below (take k xs) (bytes_take k xs bytes)) in
+    let small : number_of (take k xs) < 256 ^ length (take k xs) = number_lt 256 (take k xs) (all_below (take k xs) (AreBytes-take k xs bytes)) in
     let most : 256 ^ length (take k xs) ≤ 256 ^ 7 = pow-le-pow_right (omega arith) few in
     omega (arith, small, most)
 
@@ -84,7 +79,7 @@ module _ (x : ℕ) (rest : List ℕ) (bytes : AreBytes (x ∷ rest)) (k : ℕ) (
   high : number_of (take (suc k) (x ∷ rest)) < (0 * 256 + x + 1) * 256 ^ k
   high =
       subst (λ z. number_from_digits_after 256 (0 * 256 + x) (take k rest) < (0 * 256 + x + 1) * 256 ^ z) long
-      (number_after_lt 256 (0 * 256 + x) (take k rest) (all_below (take k rest) (bytes_take k rest (λ i. bytes (suc i)))))
+      (number_after_lt 256 (0 * 256 + x) (take k rest) (all_below (take k rest) (AreBytes-take k rest (λ i. bytes (suc i)))))
 
   pub bounds_of_vint : IsVint (take (suc k) (x ∷ rest)) → (2 ^ (8 - suc k) ≤ x) × (x < 2 ^ (9 - suc k))
   bounds_of_vint vint =
@@ -140,9 +135,6 @@ is_length_by (x ∷ xs) (suc k) bytes short room vint =
 pub one_vint : (xs : List ℕ) (n m : ℕ) → AreBytes xs → n ≤ 8 → m ≤ 8 → n ≤ length xs → m ≤ length xs → IsVint (take n xs) → IsVint (take m xs) → m ≡ n
 one_vint xs n m bytes short_n short_m room_n room_m is_n is_m =
     length_of_vint xs n m bytes (is_length_by xs n bytes short_n room_n is_n) short_m room_m is_m
-
-pub bytes_drop : (n : ℕ) (xs : List ℕ) → AreBytes xs → AreBytes (drop n xs)
-bytes_drop n xs bytes i = let h = bytes (n + i) in subst (λ z. z < 256) (sym (get_or-drop n xs i 0)) h
 
 -- the marker as it is shifted into its place
 pub shifted_marker : (n : ℕ) → n ≤ 8 → 1 * 2 ^ (7 * n) % 18446744073709551616 ≡ marker n

@@ -1,7 +1,8 @@
 -- No file that is an EBML and one Segment goes on after another.
 use Rattle.std.proofs.Common.{◌≡◌, ℕ, List, [], ◌∷◌, ◌++◌, length, take, drop, refl, sym, ap, ◌∙◌, subst, arith, inl, ◌-◌, ◌<◌, Some, Option, length-take-le}
-use Rattle.std.proofs.lemmas.List.{length-append, append_assoc, append_cancel_left, take-append-drop, append-nil, drop_at}
+use Rattle.std.proofs.lemmas.List.{length-append, append_assoc, append_cancel_left, take-append-drop, append-nil, drop_at, nil_from_length}
 use Rattle.ffv1_bits.specs.Parity.{AreBytes}
+use Rattle.ffv1_bits.proofs.Bytes.{AreBytes-drop, AreBytes-rest}
 use Rattle.ebml.specs.Children.{IsElement}
 use Rattle.ebml.specs.Whole.{IsOneSegment, ebml_item, segment_item, OneSegmentHasItems, CutIsSeen}
 use Rattle.ebml.specs.Masters.{ebml_id, segment_id}
@@ -9,13 +10,8 @@ use Rattle.ebml.specs.Items.{top_ids, IsTop, IsItem, ItemValue, bytes_of_items, 
 use Rattle.ebml.specs.declared.head.Head.{Head}
 use Rattle.ebml.specs.declared.items.Kind.TheVariants.{Segment, Element}
 use Rattle.std.specs.Prelude.{Contains, None}
-use Rattle.ebml.proofs.Numbers.{bytes_drop}
 use Rattle.ebml.proofs.Elements.{front_is, within_is, one_element, front_head, long_head}
 use Rattle.ebml.proofs.ItemList.{one_item, same_item, some_bytes}
-
-no_bytes : (xs : List ℕ) → length xs ≡ 0 → xs ≡ []
-no_bytes [] none = refl
-no_bytes (x ∷ xs) none = absurd (omega (arith, none))
 
 pub cut_is_seen : CutIsSeen
 cut_is_seen front more bytes is whole =
@@ -32,7 +28,7 @@ cut_is_seen front more bytes is whole =
     let right : drop (length whole.ebml) (front ++ more) ≡ is.segment ++ more =
     ap (λ n. drop n (front ++ more)) (sym long) ∙ ap (drop (length is.ebml)) joined ∙ drop_at is.ebml (is.segment ++ more) (length is.ebml) refl in
     let same : whole.segment ≡ is.segment ++ more = sym left ∙ right in
-    let seen : AreBytes whole.segment = subst AreBytes left (bytes_drop (length whole.ebml) (front ++ more) bytes) in
+    let seen : AreBytes whole.segment = subst AreBytes left (AreBytes-drop (length whole.ebml) (front ++ more) bytes) in
     let first : IsElement is.segment_head (take (length is.segment) whole.segment) =
     subst (IsElement is.segment_head) (sym (front_is is.segment more whole.segment same)) is.segment_is in
     let all : IsElement whole.segment_head (take (length whole.segment) whole.segment) =
@@ -40,7 +36,7 @@ cut_is_seen front more bytes is whole =
     let ends : length is.segment ≡ length whole.segment =
     (one_element whole.segment is.segment_head whole.segment_head (length is.segment) (length whole.segment) seen
     (within_is is.segment more whole.segment same) (omega arith) first all).1 in
-    no_bytes more (omega (arith, ends, ap length same, length-append is.segment more))
+    nil_from_length more (omega (arith, ends, ap length same, length-append is.segment more))
 
 -- ---- the items
 
@@ -92,7 +88,7 @@ one_segment_has_items file (x ∷ xs) bytes one are =
     let rest : one.segment ≡ bytes_of_items xs =
     append_cancel_left one.ebml one.segment (bytes_of_items xs) (sym one.joined ∙ are.joined ∙ ap (λ z. z ++ bytes_of_items xs) (sym first.1)) in
     let left : AreBytes one.segment =
-    subst AreBytes (ap (drop (length one.ebml)) one.joined ∙ drop_at one.ebml one.segment (length one.ebml) refl) (bytes_drop (length one.ebml) file bytes) in
+    AreBytes-rest one.ebml one.segment (subst AreBytes one.joined bytes) in
     let room = one.segment_is.has.room in let long = long_head one.segment one.segment_head one.segment_is.has in
     let next = after_ebml one.segment one.segment_head xs (segment_item one) left rest refl refl (omega (arith, room, long)) (segment_there file one)
     record { joined = rest; each = are.each.1 } in

@@ -3,6 +3,7 @@ use Rattle.std.proofs.Common.{◌≡◌, ℕ, ◌+◌, List, [], ◌∷◌, ◌+
 use Rattle.std.specs.Prelude.{◌≢◌, IsTrue}
 use Rattle.std.proofs.lemmas.List.{length-append, length-take-le, take-append-drop, take-append-le, drop-append-le, append-nil, append_assoc}
 use Rattle.ffv1_bits.specs.Parity.{AreBytes}
+use Rattle.ffv1_bits.proofs.Bytes.{AreBytes-append}
 use Rattle.ffv1_devices.specs.Logs.{ReadLog, Reads}
 use Rattle.ffv1_devices.proofs.Steps.{Reads-trans}
 use Rattle.ebml.specs.Items.{ItemValue, IsItem, bytes_of_items, EachBefore}
@@ -14,7 +15,7 @@ use Rattle.ebml_reader.specs.declared.fault.ReaderFault.{ReaderFault}
 use Rattle.ebml_reader.specs.Reader.{Held, nothing_held, StandsAfter, AreAllItems, GivesItem, IsFault}
 use Rattle.ebml_reader.specs.Intake.{Passes}
 use Rattle.ebml_reader.specs.Inner.Settled.{ItemEndsAt, Settles}
-use Rattle.ebml_reader.proofs.Steps.{bytes-append, passes-trans, left_is, still, fault-after}
+use Rattle.ebml_reader.proofs.Steps.{passes-trans, left_is, still, fault-after}
 
 abbrev pub item_of : Settled → List ℕ → ItemValue
 item_of settled bytes = record { kind = settled.found.kind; bytes = bytes }
@@ -36,7 +37,7 @@ stands_next first x y items settled old new stands s =
     ∙ sym (append_assoc (bytes_of_items items) s.item (drop settled.kept new.bytes)) ∙ ap (λ l. l ++ drop settled.kept new.bytes) (sym (bytes_of_snoc items (item_of settled s.item))) in
     record {
       reads = subst (Reads first y) all (Reads-trans first x y (bytes_of_items items ++ old.bytes) step.read stands.reads step.reads);
-      are = subst AreBytes all (bytes-append (bytes_of_items items ++ old.bytes) step.read stands.are step.are);
+      are = subst AreBytes all (AreBytes-append (bytes_of_items items ++ old.bytes) step.read stands.are step.are);
       counted = step.counted ∙ ap (λ k. k + length step.read) stands.counted ∙ sym (length-append (bytes_of_items items ++ old.bytes) step.read) ∙ ap length all;
       end = λ ended. step.end stands.end ended;
       each = λ more ends.
@@ -56,7 +57,7 @@ all_given first x y items old new stands step none ended =
     let left : old.bytes ++ (step.read ++ []) ≡ [] = left_is [] old new x y step [] ∙ append-nil new.bytes ∙ none in
     record {
       reads = subst (Reads first y) all (Reads-trans first x y (bytes_of_items items ++ old.bytes) step.read stands.reads step.reads);
-      are_bytes = subst AreBytes all (bytes-append (bytes_of_items items ++ old.bytes) step.read stands.are step.are);
+      are_bytes = subst AreBytes all (AreBytes-append (bytes_of_items items ++ old.bytes) step.read stands.are step.are);
       end = step.end stands.end ended;
       are = record {
         joined = refl;

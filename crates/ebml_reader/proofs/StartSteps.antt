@@ -4,6 +4,7 @@ use Rattle.std.specs.Prelude.{None, Result, Ok, Err}
 use Rattle.std.specs.List.{AllByRecursion, concat}
 use Rattle.std.proofs.lemmas.List.{length-append, length-take-le, append-nil, append_assoc, drop_at, length-drop}
 use Rattle.ffv1_bits.specs.Parity.{AreBytes}
+use Rattle.ffv1_bits.proofs.Bytes.{AreBytes-append}
 use Rattle.ffv1_devices.specs.Logs.{ReadLog}
 use Rattle.ebml.specs.Children.{IsChild}
 use Rattle.ebml.specs.Items.{IsHeaded, IsItem, ItemValue, bytes_of_items, EachBefore}
@@ -25,7 +26,7 @@ use Rattle.ebml_reader.specs.Pieces.{PassesUpTo, HoldsChild, HasNoChild}
 use Rattle.ebml_reader.specs.Starts.{IsStartOf, StartsItem, EndsItem, PassesItemOf}
 use Rattle.ebml_reader.specs.Inner.Settled.{BeginsItem, PassesUnknown}
 use Rattle.ebml_reader.specs.Inner.Front.{PassesFront, PassesAllChildren}
-use Rattle.ebml_reader.proofs.Steps.{bytes-append, passes-nil, passes-trans, passes-fill, passes-pass, left_is, still}
+use Rattle.ebml_reader.proofs.Steps.{passes-nil, passes-trans, passes-fill, passes-pass, left_is, still}
 
 -- ---- starts
 
@@ -235,7 +236,7 @@ stands_passed first x y items k item old new stands passes =
     ∙ sym (append_assoc (bytes_of_items items) item new.bytes) ∙ ap (λ l. l ++ new.bytes) (sym (bytes_of_snoc items record { kind = k; bytes = item })) in
     record {
       reads = subst (Reads first y) all (Reads-trans first x y (bytes_of_items items ++ old.bytes) step.read stands.reads step.reads);
-      are = subst AreBytes all (bytes-append (bytes_of_items items ++ old.bytes) step.read stands.are step.are);
+      are = subst AreBytes all (AreBytes-append (bytes_of_items items ++ old.bytes) step.read stands.are step.are);
       counted = step.counted ∙ ap (λ n. n + length step.read) stands.counted ∙ sym (length-append (bytes_of_items items ++ old.bytes) step.read) ∙ ap length all;
       end = λ ended. step.end stands.end ended;
       each = λ more ends.

@@ -1,22 +1,14 @@
 -- Steps of an intake, one after the other.
-use Rattle.std.proofs.Common.{◌≡◌, ℕ, zero, suc, ◌∷◌, ◌+◌, ◌-◌, ◌^◌, ◌≤◌, cond, List, [], ◌++◌, length, refl, sym, ap, ◌∙◌, subst, arith, inl, inr, ⊎_elim, append_assoc, append-nil, length-append, take, drop, take-append-drop, Bool, true, false, ◌<◌}
+use Rattle.std.proofs.Common.{◌≡◌, ℕ, ◌+◌, ◌-◌, ◌^◌, ◌≤◌, cond, List, [], ◌++◌, length, refl, sym, ap, ◌∙◌, subst, arith, inl, inr, ⊎_elim, append_assoc, append-nil, length-append, take, drop, take-append-drop, Bool, true, false, ◌<◌}
 use Rattle.std.specs.Prelude.{◌⊎◌, ◌↔◌, IsTrue}
 use Rattle.std.proofs.lemmas.Bool.{cases_lt}
-use Rattle.ffv1_bits.specs.Parity.{AreBytes}
+use Rattle.ffv1_bits.proofs.Bytes.{no_bytes, AreBytes-append}
 use Rattle.ffv1_devices.specs.Logs.{ReadLog, Reads, BreaksOff}
 use Rattle.ffv1_devices.proofs.Steps.{Reads-nil, Reads-trans, BreaksOff-after}
 use Rattle.ebml_reader.specs.Reader.{Held, IsFault, limit}
 use Rattle.ebml_reader.specs.Intake.{Passes}
 use Rattle.ebml_reader.specs.declared.fault.ReaderFault.{ReaderFault}
 use Rattle.ebml_reader.specs.declared.fault.ReaderFault.TheVariants as faults
-
-pub no_bytes : AreBytes []
-no_bytes i = omega arith
-
-pub bytes-append : (xs ys : List ℕ) → AreBytes xs → AreBytes ys → AreBytes (xs ++ ys)
-bytes-append [] ys front back i = back i
-bytes-append (x ∷ xs) ys front back zero = front 0
-bytes-append (x ∷ xs) ys front back (suc i) = bytes-append xs ys (λ j. front (suc j)) back i
 
 pub passes-nil : (held : Held) (log : ReadLog) → Passes [] held held log log
 passes-nil held log = record {
@@ -33,7 +25,7 @@ pub passes-trans : (p q : List ℕ) (a b c : Held) (x y z : ReadLog) → Passes 
 passes-trans p q a b c x y z first second = record {
   read = first.read ++ second.read;
   reads = Reads-trans x y z first.read second.read first.reads second.reads;
-  are = bytes-append first.read second.read first.are second.are;
+  are = AreBytes-append first.read second.read first.are second.are;
   joined = sym (append_assoc a.bytes first.read second.read) ∙ ap (λ l. l ++ second.read) first.joined ∙ append_assoc p b.bytes second.read
       ∙ ap (λ l. p ++ l) second.joined ∙ sym (append_assoc p q c.bytes);
   counted = omega (arith, first.counted, second.counted, length-append first.read second.read);

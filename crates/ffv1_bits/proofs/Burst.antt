@@ -1,5 +1,5 @@
 -- Damage within 32 consecutive bits never passes.
-use Rattle.std.proofs.Common.{◌≡◌, ℕ, suc, ◌+◌, ◌*◌, List, [], ◌∷◌, length, take, drop, Bool, refl, sym, ap, ◌∙◌, arith}
+use Rattle.std.proofs.Common.{◌≡◌, ℕ, zero, suc, ◌+◌, ◌*◌, List, [], ◌∷◌, length, take, drop, replicate, Bool, false, refl, sym, ap, ◌∙◌, arith}
 use Rattle.ffv1_bits.specs.Bits.{number_bits, bits_of}
 use Rattle.ffv1_bits.specs.Parity.{polynomial_of, parity_divisor, divided, remainder_of, remainder_by, DifferWithin32, PassesParity, AreBytes}
 use Rattle.ffv1_bits.proofs.Divisors.{same_bits_by}
@@ -27,6 +27,13 @@ pub length-bits : (xs : List ℕ) → length (bits_of xs) ≡ 8 * length xs
 unfolding bits_of number_bits
 length-bits [] = refl
 length-bits (x ∷ xs) = omega (arith, length-bits xs)
+
+pub bits_of-zeros : (n : ℕ) → bits_of (replicate n 0) ≡ replicate (8 * n) false
+unfolding bits_of number_bits
+bits_of-zeros zero = refl
+bits_of-zeros (suc n) =
+    let eight : suc (suc (suc (suc (suc (suc (suc (suc (8 * n)))))))) ≡ 8 * suc n = omega arith in
+    ap (λ bits. false ∷ false ∷ false ∷ false ∷ false ∷ false ∷ false ∷ false ∷ bits) (bits_of-zeros n) ∙ ap (λ m. replicate m false) eight
 
 pub burst : (a b : List ℕ) (at : ℕ) → AreBytes a → AreBytes b → DifferWithin32 a b at → PassesParity a → PassesParity b → a ≡ b
 burst a b at h k d p q =

@@ -3,14 +3,14 @@ use Rattle.std.proofs.Common.{◌≡◌, ℕ, ◌+◌, ◌-◌, min, Bool, true,
 use Rattle.std.specs.Prelude.{Option, Some, None, IsSome, is_some, option_map, IsTrue}
 use Rattle.std.specs.List.{AllByRecursion}
 use Rattle.std.proofs.lemmas.Bool.{eqb-true, cases_lt}
-use Rattle.std.proofs.lemmas.List.{length-append, append_assoc, append_cancel_left, drop_at}
+use Rattle.std.proofs.lemmas.List.{length-append, append_assoc, append_cancel_left, nil_from_length}
 use Rattle.ffv1_bits.specs.Parity.{AreBytes}
+use Rattle.ffv1_bits.proofs.Bytes.{AreBytes-rest}
 use Rattle.ebml.specs.Masters.{child_ids, segment_id}
 use Rattle.ebml.specs.Items.{ItemValue, IsItem, bytes_of_items, AreItems}
 use Rattle.ebml.specs.declared.head.Head.{Head}
 use Rattle.ebml.specs.declared.items.Kind.{Kind}
 use Rattle.ebml.specs.declared.items.Kind.TheVariants as kind
-use Rattle.ebml.proofs.Numbers.{bytes_drop}
 use Rattle.ebml.proofs.ItemList.{one_item, some_bytes, whole_items_are_local}
 use Rattle.matroska.specs.declared.track.Track.{Track}
 use Rattle.matroska.specs.NamedTracks.{each_after}
@@ -289,7 +289,7 @@ same_segment first other tracks others xs more place (a ∷ as_) (b ∷ bs) part
     let own_other : AreItemPartsBy a.kind other others place a.bytes are_other.0 =
     subst (λ z. AreItemPartsBy z other others place a.bytes are_other.0) (sym one.0) (subst (λ z. AreItemPartsBy b.kind other others place z are_other.0) (sym one.1) are_other.3) in
     let left : AreBytes (bytes_of_items as_ ++ more) =
-    subst AreBytes (ap (drop (length a.bytes)) at ∙ drop_at a.bytes (bytes_of_items as_ ++ more) (length a.bytes) refl) (bytes_drop (length a.bytes) (xs ++ more) bytes) in
+    AreBytes-rest a.bytes (bytes_of_items as_ ++ more) (subst AreBytes at bytes) in
     let later = same_segment first other tracks others (bytes_of_items as_) more (place + length a.bytes) as_ bs are.1 are_other.1 o left
     record { joined = refl; each = are_items.each.1 } record { joined = rests; each = are_others.each.1 } are.4
     (subst (λ z. AreItemParts other others (place + length z) bs are_other.1) (sym one.1) are_other.4) split.1 in
@@ -297,10 +297,6 @@ same_segment first other tracks others xs more place (a ∷ as_) (b ∷ bs) part
     ∙ first_or (first_segment are.0) (first_segment are.1) (first_segment are_other.0) (first_segment are_other.1) o
     (item_first a.kind first other tracks others place a.bytes (bytes_of_items as_) are.0 are_other.0 are_items.each.0 are.3 own_other split.0)
     (sym (first_append are.0 are.1) ∙ ap first_segment (sym are.2) ∙ is) later
-
-no_more : (more : List ℕ) → length more ≡ 0 → more ≡ []
-no_more [] e = refl
-no_more (x ∷ xs) e = absurd (omega (arith, e))
 
 pub cut_file_is_seen : CutFileIsSeen
 cut_file_is_seen front more a b bytes is_a is_b whole_a whole_b =
@@ -310,4 +306,4 @@ cut_file_is_seen front more a b bytes is_a is_b whole_a whole_b =
     is_a.are_parts.are_items is_b.are_parts.are_items is_a.are_parts.parts_are is_b.are_parts.parts_are parts_a.quiet parts_a.first in
     let one : parts_b.opening ≡ parts_a.opening = same_some parts_b.opening parts_a.opening (sym parts_b.first ∙ same) in
     let ends : length (front ++ more) ≡ length front = same_some (length (front ++ more)) (length front) (sym parts_b.ends ∙ ap (λ z. z.end) one ∙ parts_a.ends) in
-    no_more more (omega (arith, ends, length-append front more))
+    nil_from_length more (omega (arith, ends, length-append front more))

@@ -3,8 +3,9 @@ use Rattle.std.proofs.Common.{◌≡◌, ℕ, ◌+◌, ◌≤◌, List, [], ◌�
 use Rattle.std.specs.Prelude.{Option, Some, None}
 use Rattle.std.specs.List.{AllByRecursion}
 use Rattle.std.proofs.lemmas.Bool.{cases_lt}
-use Rattle.std.proofs.lemmas.List.{length-append, length-drop, append_assoc, append_cancel_left, take_at, drop_at, drop-take, take-take, take-append-drop}
+use Rattle.std.proofs.lemmas.List.{length-append, length-drop, append_assoc, append_cancel_left, drop-take, take-take, take-append-drop}
 use Rattle.ffv1_bits.specs.Parity.{AreBytes}
+use Rattle.ffv1_bits.proofs.Bytes.{AreBytes-drop, AreBytes-rest, AreBytes-front, AreBytes-middle}
 use Rattle.ebml.specs.Masters.{child_ids}
 use Rattle.ebml.specs.Head.{HasHead, IsHead}
 use Rattle.ebml.specs.Items.{ItemValue, IsItem, bytes_of_items, EachIsItem, AreItems}
@@ -12,7 +13,6 @@ use Rattle.ebml.specs.CrcElement.{HasCrc32, PassesCrc32}
 use Rattle.ebml.specs.declared.head.Head.{Head}
 use Rattle.ebml.specs.declared.items.Kind.{Kind}
 use Rattle.ebml.specs.declared.items.Kind.TheVariants as kind
-use Rattle.ebml.proofs.Numbers.{bytes_drop, bytes_take}
 use Rattle.ebml.proofs.ItemList.{one_item, some_bytes, same_item, items_are_one}
 use Rattle.ebml.proofs.CrcElements.{burst_seen}
 use Rattle.matroska.specs.declared.track.Track.{Track}
@@ -47,7 +47,7 @@ same_front first tracks place (i ∷ is) rest (b ∷ bs) parts xs bytes each are
     let rests : bytes_of_items is ++ xs ≡ bytes_of_items bs =
     append_cancel_left b.bytes (bytes_of_items is ++ xs) (bytes_of_items bs) (ap (λ z. z ++ (bytes_of_items is ++ xs)) (sym one.1) ∙ sym at ∙ are_items.joined) in
     let left_bytes : AreBytes (bytes_of_items is ++ xs) =
-    subst AreBytes (ap (drop (length i.bytes)) at ∙ drop_at i.bytes (bytes_of_items is ++ xs) (length i.bytes) refl) (bytes_drop (length i.bytes) (bytes_of_items (i ∷ is) ++ xs) bytes) in
+    AreBytes-rest i.bytes (bytes_of_items is ++ xs) (subst AreBytes at bytes) in
     let later = same_front first tracks (place + length i.bytes) is rest bs are.1 xs left_bytes each.1 are.4 split.1 record { joined = rests; each = are_items.each.1 } in
     (later.0, ap (λ z. z ∷ bs) (sym (same_item i b one.0 one.1)) ∙ ap (λ z. i ∷ z) later.1, later.2)
 
@@ -103,12 +103,6 @@ quiet_element first tracks head bytes at =
 
 -- ---- the damaged element
 
-pub front_bytes : (xs ys : List ℕ) → AreBytes (xs ++ ys) → AreBytes xs
-front_bytes xs ys bytes = subst AreBytes (take_at xs ys (length xs) refl) (bytes_take (length xs) (xs ++ ys) bytes)
-
-pub piece_bytes : (xs ys zs : List ℕ) → AreBytes (xs ++ (ys ++ zs)) → AreBytes ys
-piece_bytes xs ys zs bytes = front_bytes ys zs (subst AreBytes (drop_at xs (ys ++ zs) (length xs) refl) (bytes_drop (length xs) (xs ++ (ys ++ zs)) bytes))
-
 take_less : (n m : ℕ) (xs ys : List ℕ) → n ≤ m → take m xs ≡ take m ys → take n xs ≡ take n ys
 take_less n m xs ys less same = sym (take-take n m xs less) ∙ ap (take n) same ∙ take-take n m ys less
 
@@ -160,18 +154,17 @@ small_damage_is_seen file damaged a b bytes_a bytes_b d is_a is_b whole_a whole_
     let left = same_front (first_tracks 0 is_a.are_parts.items) is_a.tracks 0 d.before (item ∷ d.after) is_b.are_parts.items is_a.parts (d.other ++ bytes_of_items d.after) bytes each parts_a quiet_a
     (subst (λ z. AreItems z is_b.are_parts.items) d.damaged_is is_b.are_parts.are_items) in
     let left_bytes : AreBytes (d.other ++ bytes_of_items d.after) =
-    subst AreBytes (drop_at (bytes_of_items d.before) (d.other ++ bytes_of_items d.after) (length (bytes_of_items d.before)) refl)
-    (bytes_drop (length (bytes_of_items d.before)) (bytes_of_items d.before ++ (d.other ++ bytes_of_items d.after)) bytes) in
+    AreBytes-rest (bytes_of_items d.before) (d.other ++ bytes_of_items d.after) bytes in
     let passes_b = other_passes (first_tracks 0 is_b.are_parts.items) is_b.tracks d.before left.0 d.head d.other (bytes_of_items d.after) is_b.parts left_bytes is_other left.2
     (subst (λ z. AreItemParts (first_tracks 0 is_b.are_parts.items) is_b.tracks 0 z is_b.parts) left.1 is_b.are_parts.parts_are) quiet_b in
     let two : take 2 (drop d.head.length d.other) ≡ take 2 (drop d.head.length d.element) =
     sym (drop-take d.head.length 2 d.other) ∙ ap (drop d.head.length) d.front ∙ drop-take d.head.length 2 d.element in
     let crc_b : HasCrc32 (drop d.head.length d.other) = (omega (arith, crc_a.0, same_length), two ∙ crc_a.1) in
     let element_bytes : AreBytes d.element =
-    piece_bytes (bytes_of_items d.before) d.element (bytes_of_items d.after) (subst AreBytes (d.are_items.joined ∙ ap bytes_of_items d.at ∙ bytes_append d.before (item ∷ d.after)) bytes_a) in
-    let other_bytes : AreBytes d.other = front_bytes d.other (bytes_of_items d.after) left_bytes in
-    let same = burst_seen (drop d.head.length d.element) (drop d.head.length d.other) d.place (bytes_drop d.head.length d.element element_bytes)
-    (bytes_drop d.head.length d.other other_bytes) d.within (element_a.passes d.has) (passes_b (has_same (child_ids d.head.id) content (drop d.head.length d.other) d.has crc_b)) in
+    AreBytes-middle (bytes_of_items d.before) d.element (bytes_of_items d.after) (subst AreBytes (d.are_items.joined ∙ ap bytes_of_items d.at ∙ bytes_append d.before (item ∷ d.after)) bytes_a) in
+    let other_bytes : AreBytes d.other = AreBytes-front d.other (bytes_of_items d.after) left_bytes in
+    let same = burst_seen (drop d.head.length d.element) (drop d.head.length d.other) d.place (AreBytes-drop d.head.length d.element element_bytes)
+    (AreBytes-drop d.head.length d.other other_bytes) d.within (element_a.passes d.has) (passes_b (has_same (child_ids d.head.id) content (drop d.head.length d.other) d.has crc_b)) in
     let one : d.element ≡ d.other =
     sym (take-append-drop d.head.length d.element) ∙ ap (λ z. z ++ drop d.head.length d.element) (sym front) ∙ ap (λ z. take d.head.length d.other ++ z) same
     ∙ take-append-drop d.head.length d.other in

@@ -2,14 +2,14 @@
 use Rattle.std.proofs.Common.{◌≡◌, ℕ, ◌+◌, ◌-◌, ◌≤◌, ◌<◌, Bool, true, false, cond, eqb, List, [], ◌∷◌, ◌++◌, length, take, drop, refl, sym, ap, ◌∙◌, subst, arith, inl, inr}
 use Rattle.std.specs.Prelude.{◌⊎◌, ◌&&◌, Option, Some, None}
 use Rattle.std.proofs.lemmas.Bool.{eqb-true}
-use Rattle.std.proofs.lemmas.List.{take-append-drop, length-drop, drop_at}
+use Rattle.std.proofs.lemmas.List.{take-append-drop, length-drop}
 use Rattle.ffv1_bits.specs.Parity.{AreBytes}
+use Rattle.ffv1_bits.proofs.Bytes.{AreBytes-drop, AreBytes-front, AreBytes-rest}
 use Rattle.ebml.specs.Masters.{child_ids}
 use Rattle.ebml.specs.Items.{ItemValue, bytes_of_items, EachIsItem}
 use Rattle.ebml.specs.declared.head.Head.{Head}
 use Rattle.ebml.specs.declared.items.Kind.{Kind}
 use Rattle.ebml.specs.declared.items.Kind.TheVariants as kind
-use Rattle.ebml.proofs.Numbers.{bytes_drop}
 use Rattle.ebml.proofs.ItemList.{some_bytes}
 use Rattle.matroska.specs.declared.track.Track.{Track}
 use Rattle.matroska_parts.specs.MasterParts.{AreContentParts}
@@ -23,7 +23,6 @@ use Rattle.matroska_parts.specs.declared.parts.Crc32.{Crc32}
 use Rattle.matroska_parts.specs.declared.parts.Crc32.TheVariants as crc
 use Rattle.ffv1_check.specs.CheckedBytes.{part_bytes, checked_bytes}
 use Rattle.ffv1_check.specs.Spans.{HasChecked, CheckedBytesPass}
-use Rattle.ffv1_check.proofs.DamageSteps.{front_bytes}
 use Rattle.ffv1_check.proofs.SpanSteps.{checked_none, checked_all, checked_join}
 use Rattle.ffv1_check.proofs.MasterSpans.{bytes_join, bytes_one, none_zero, content_counts, tracks_zero, doc_zero}
 use Rattle.ffv1_check.proofs.RecordSpans.{records_checked}
@@ -97,7 +96,7 @@ open_checked : (first : Option PlacedContent) (tracks : List Track) (place : ℕ
     → AreContentParts head.id tracks false (place + head.length) (drop head.length bytes) content → AreRecordPartsIf here false (place + head.length) tracks records
     → HasChecked (drop head.length bytes) (checked_bytes content + checked_bytes records)
 open_checked first tracks place head bytes content records true are_bytes is are records_are =
-    let content_bytes : AreBytes (drop head.length bytes) = bytes_drop head.length bytes are_bytes in
+    let content_bytes : AreBytes (drop head.length bytes) = AreBytes-drop head.length bytes are_bytes in
     let none : checked_bytes content ≡ 0 =
     tracks_zero tracks false (place + head.length) (drop head.length bytes) content content_bytes
     (subst (λ id. AreContentParts id tracks false (place + head.length) (drop head.length bytes) content) (is refl).0 are) in
@@ -229,9 +228,9 @@ items_checked : (first : Option PlacedContent) (tracks : List Track) → AreTrac
 items_checked first tracks named place [] parts are_bytes each stands are = subst (HasChecked []) (sym (none_zero parts are)) (checked_none [])
 items_checked first tracks named place (i ∷ items) parts are_bytes each stands are =
     let some = some_bytes i.kind i.bytes (bytes_of_items items) each.0 in
-    let here : AreBytes i.bytes = front_bytes i.bytes (bytes_of_items items) are_bytes in
+    let here : AreBytes i.bytes = AreBytes-front i.bytes (bytes_of_items items) are_bytes in
     let later : AreBytes (bytes_of_items items) =
-    subst AreBytes (drop_at i.bytes (bytes_of_items items) (length i.bytes) refl) (bytes_drop (length i.bytes) (i.bytes ++ bytes_of_items items) are_bytes) in
+    AreBytes-rest i.bytes (bytes_of_items items) are_bytes in
     let both = item_stands first tracks named place i items stands some in
     let size : checked_bytes are.0 + checked_bytes are.1 ≡ checked_bytes parts = sym (ap checked_bytes are.2 ∙ bytes_join are.0 are.1) in
     subst (HasChecked (i.bytes ++ bytes_of_items items)) size

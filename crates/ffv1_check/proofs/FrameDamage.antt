@@ -2,7 +2,7 @@
 use Rattle.std.proofs.Common.{◌≡◌, ℕ, ◌+◌, ◌-◌, ◌≤◌, Bool, true, false, cond, eqb, List, [], ◌∷◌, ◌++◌, length, take, drop, refl, sym, ap, ◌∙◌, subst, arith}
 use Rattle.std.specs.Prelude.{◌&&◌, nat_lt, slice_range, count_by}
 use Rattle.std.specs.List.{AllByRecursion}
-use Rattle.std.proofs.lemmas.Bool.{eqb-true, ltb-true}
+use Rattle.std.proofs.lemmas.Bool.{eqb-true, ltb-true, and_parts}
 use Rattle.std.proofs.lemmas.List.{length-append, length-drop, length-take-le, append_assoc, take_at, drop_at, drop-drop, take-append-drop}
 use Rattle.std.proofs.lemmas.List.Folds.{drop_split}
 use Rattle.std.proofs.lemmas.List.Sums.{count_by-le-length, sum_by-cons}
@@ -10,13 +10,13 @@ use Rattle.byteorder.specs.Endian.{big_number}
 use Rattle.ffv1_bits.specs.Parity.{AreBytes, PassesParity, remainder_of}
 use Rattle.ffv1_bits.specs.Bits.{bits_of}
 use Rattle.ffv1_bits.proofs.Burst.{burst}
+use Rattle.ffv1_bits.proofs.Bytes.{AreBytes-drop, AreBytes-take}
 use Rattle.ffv1_slice.specs.Chain.{size_before, IsEnd, IsLinkOf, LinkValue, link_of}
 use Rattle.ffv1_slice.specs.Chain.IsEnd.{last, before}
+use Rattle.ffv1_slice.proofs.Links.{end_within}
 use Rattle.ffv1_scan.specs.Verdicts.{is_passing, is_whole, is_undamaged, IsVerdictOf}
 use Rattle.ffv1_scan.specs.declared.verdict.Verdict.{Verdict}
-use Rattle.ebml.proofs.Numbers.{bytes_drop, bytes_take}
 use Rattle.ffv1_check.specs.LinkDamage.{DifferInFrame}
-use Rattle.ffv1_check.proofs.NameSteps.{both_true}
 use Rattle.ffv1_check.proofs.VerdictOne.{all_contained}
 
 -- ---- each link of a right frame passes
@@ -37,19 +37,15 @@ all_counted (x ∷ xs) all =
 all_pass : (frame : List ℕ) (verdict : Verdict) (p q : ℕ) → IsVerdictOf frame verdict → is_undamaged verdict ≡ true → IsLinkOf frame p q
     → PassesParity (slice_range frame p q)
 all_pass frame verdict p q is right link =
-    let two = both_true (is_whole verdict.end) (nat_lt 0 verdict.links && eqb verdict.passing verdict.links) right in
-    let equal = eqb-true verdict.passing verdict.links (both_true (nat_lt 0 verdict.links) (eqb verdict.passing verdict.links) two.1).1 in
+    let two = and_parts (is_whole verdict.end) (nat_lt 0 verdict.links && eqb verdict.passing verdict.links) right in
+    let equal = eqb-true verdict.passing verdict.links (and_parts (nat_lt 0 verdict.links) (eqb verdict.passing verdict.links) two.1).1 in
     let all = all_counted is.links (sym is.passing ∙ equal ∙ is.count) in
     let passes = all_contained Passes is.links (link_of frame p q) all (is.are_links.all p q link) in
-    let both = both_true (nat_lt 8 (length (slice_range frame p q))) (eqb (remainder_of (bits_of (slice_range frame p q))) 0) passes in
+    let both = and_parts (nat_lt 8 (length (slice_range frame p q))) (eqb (remainder_of (bits_of (slice_range frame p q))) 0) passes in
     let long = ltb-true 8 (length (slice_range frame p q)) both.0 in
     (omega (arith, long), eqb-true (remainder_of (bits_of (slice_range frame p q))) 0 both.1)
 
 -- ---- the links of the damaged frame
-
-pub end_within : (frame : List ℕ) (e : ℕ) → IsEnd frame e → e ≤ length frame
-end_within frame e last = omega arith
-end_within frame e (before {q = q} r cut) = let step : e + size_before frame q + 8 ≡ q = cut in omega (arith, step, end_within frame q r)
 
 pub frame_length : (frame damaged : List ℕ) → DifferInFrame frame damaged → length frame ≡ length damaged
 frame_length frame damaged d =
@@ -133,8 +129,8 @@ module _ (frame damaged : List ℕ) (d : DifferInFrame frame damaged) where
   pub frame_same : AreBytes frame → AreBytes damaged → (v w : Verdict) → IsVerdictOf frame v → is_undamaged v ≡ true → IsVerdictOf damaged w → is_undamaged w ≡ true
       → frame ≡ damaged
   frame_same bytes others v w is right other other_right =
-      let link_bytes : AreBytes (slice_range frame d.start d.end) = bytes_take (d.end - d.start) (drop d.start frame) (bytes_drop d.start frame bytes) in
-      let other_bytes : AreBytes d.other = subst AreBytes link_is (bytes_take (d.end - d.start) (drop d.start damaged) (bytes_drop d.start damaged others)) in
+      let link_bytes : AreBytes (slice_range frame d.start d.end) = AreBytes-take (d.end - d.start) (drop d.start frame) (AreBytes-drop d.start frame bytes) in
+      let other_bytes : AreBytes d.other = subst AreBytes link_is (AreBytes-take (d.end - d.start) (drop d.start damaged) (AreBytes-drop d.start damaged others)) in
       let passes = all_pass frame v d.start d.end is right d.link in
       let other_passes : PassesParity d.other = subst PassesParity link_is (all_pass damaged w d.start d.end other other_right damaged_link) in
       let same = burst (slice_range frame d.start d.end) d.other d.place link_bytes other_bytes d.within passes other_passes in

@@ -5,13 +5,13 @@ use Rattle.std.specs.List.{AllByRecursion, concat}
 use Rattle.std.proofs.lemmas.List.{length-append, length-drop, length-take-le, append_assoc, take_at, drop_at, take-append-drop}
 use Rattle.std.proofs.lemmas.Option.{slice_get-get_or}
 use Rattle.ffv1_bits.specs.Parity.{AreBytes}
+use Rattle.ffv1_bits.proofs.Bytes.{AreBytes-drop, AreBytes-front, AreBytes-middle, AreBytes-rest}
 use Rattle.ebml.specs.Masters.{cluster_id, cluster_ids, block_group_ids}
 use Rattle.ebml.specs.Head.{IsHead}
 use Rattle.ebml.specs.Children.{IsElement, IsChild, AreChildren}
 use Rattle.ebml.specs.Items.{ItemValue, IsItem, bytes_of_items, EachIsItem}
 use Rattle.ebml.specs.declared.head.Head.{Head}
 use Rattle.ebml.specs.declared.items.Kind.TheVariants as kind
-use Rattle.ebml.proofs.Numbers.{bytes_drop}
 use Rattle.ebml.proofs.Heads.{one_head}
 use Rattle.ebml.proofs.Elements.{children_are_one}
 use Rattle.ebml.proofs.ItemList.{items_are_one}
@@ -42,9 +42,9 @@ use Rattle.ffv1_check.specs.PartFindings.{time_findings, payload_findings, numbe
 use Rattle.ffv1_check.specs.Reports.{segment_findings, no_track_findings, IsReportOf}
 use Rattle.ffv1_check.specs.LinkDamage.{DifferInBlock, DifferInContent, DifferInChild, DifferInGroup, DifferInClusterChild, SmallDamageInLinkIsSeen}
 use Rattle.ffv1_check.proofs.CutSteps.{IsQuiet, all_front, both_empty, lines_append, whole_parts, item_local}
-use Rattle.ffv1_check.proofs.DamageSteps.{bytes_append, front_bytes, piece_bytes, each_at, element_other}
+use Rattle.ffv1_check.proofs.DamageSteps.{bytes_append, each_at, element_other}
 use Rattle.ffv1_check.proofs.FrameDamage.{frame_length, frame_same}
-use Rattle.ffv1_check.proofs.TrackOne.{later_bytes, same_parities, OneTracks, tracks_by_one}
+use Rattle.ffv1_check.proofs.TrackOne.{same_parities, OneTracks, tracks_by_one}
 use Rattle.ffv1_check.proofs.PartOne.{track_of_block}
 use Rattle.ffv1_check.proofs.ReportOne.{first_bytes}
 
@@ -244,9 +244,9 @@ module _ (H K : ℕ → List ℕ → List Part → Type 0) (Differ : List ℕ �
         let middle = concat_middle d.before d.child d.after d.rest in
         let other_middle = concat_middle d.before d.other d.after d.rest in
         let child_bytes : AreBytes d.child =
-        front_bytes d.child (concat d.after ++ d.rest) (later_bytes (concat d.before) (d.child ++ (concat d.after ++ d.rest)) (subst AreBytes (d.are.joined ∙ middle) bytes)) in
+        AreBytes-front d.child (concat d.after ++ d.rest) (AreBytes-rest (concat d.before) (d.child ++ (concat d.after ++ d.rest)) (subst AreBytes (d.are.joined ∙ middle) bytes)) in
         let other_bytes : AreBytes d.other =
-        front_bytes d.other (concat d.after ++ d.rest) (later_bytes (concat d.before) (d.other ++ (concat d.after ++ d.rest)) (subst AreBytes d.damaged_is others)) in
+        AreBytes-front d.other (concat d.after ++ d.rest) (AreBytes-rest (concat d.before) (d.other ++ (concat d.after ++ d.rest)) (subst AreBytes d.damaged_is others)) in
         let is_child = all_middle (IsChild ids) d.before d.child d.after d.are.each in
         let heads = headed d.child d.other d.differ in
         let one : is_child.head ≡ heads.head = one_head d.child is_child.head heads.head child_bytes is_child.element.has heads.one.has in
@@ -307,11 +307,11 @@ module _ (ds ts us : List Track) (one : OneTracks ds ts) (other : OneTracks ds u
           lacing = d.is.lacing;
         } in
         let payload_bytes : AreBytes d.block.payload =
-        later_bytes (d.is.high ∷ d.is.low ∷ d.is.flags ∷ []) d.block.payload
-        (later_bytes d.is.number (d.is.high ∷ d.is.low ∷ d.is.flags ∷ d.block.payload) (subst AreBytes d.is.joined bytes)) in
+        AreBytes-rest (d.is.high ∷ d.is.low ∷ d.is.flags ∷ []) d.block.payload
+        (AreBytes-rest d.is.number (d.is.high ∷ d.is.low ∷ d.is.flags ∷ d.block.payload) (subst AreBytes d.is.joined bytes)) in
         let other_bytes : AreBytes d.other =
-        later_bytes (d.is.high ∷ d.is.low ∷ d.is.flags ∷ []) d.other
-        (later_bytes d.is.number (d.is.high ∷ d.is.low ∷ d.is.flags ∷ d.other) (subst AreBytes d.damaged_is others)) in
+        AreBytes-rest (d.is.high ∷ d.is.low ∷ d.is.flags ∷ []) d.other
+        (AreBytes-rest d.is.number (d.is.high ∷ d.is.low ∷ d.is.flags ∷ d.other) (subst AreBytes d.damaged_is others)) in
         let v = block_right ts one vouched content d.block s bytes d.is d.of_track stands right in
         let w = block_right us other other_vouched damaged record { track = d.block.track; time = d.block.time; lacing = d.block.lacing; payload = d.other } t others is_damaged d.of_track
         stands_other right_other in
@@ -341,7 +341,7 @@ module _ (ds ts us : List Track) (one : OneTracks ds ts) (other : OneTracks ds u
         (subst (λ id. IsGroupChildBy (child_kind id) us other_vouched other_place y (drop d.head.length y) ys) d.id_is
         (subst (λ (h : Head). IsGroupChildBy (child_kind h.id) us other_vouched other_place y (drop h.length y) ys) other_head is_other.2)) in
         content_same (DifferInBlock track.number) 0xA1 x y d
-        (one_block_same place other_place x y (drop d.head.length x) d.other xs ys (bytes_drop d.head.length x bytes) (subst AreBytes facts.content (bytes_drop d.head.length y others))
+        (one_block_same place other_place x y (drop d.head.length x) d.other xs ys (AreBytes-drop d.head.length x bytes) (subst AreBytes facts.content (AreBytes-drop d.head.length y others))
         d.differ here there right right_other)
 
     simple_same : (place other_place : ℕ) (x y : List ℕ) (xs ys : List Part) → AreBytes x → AreBytes y → DifferInContent (DifferInBlock track.number) 0xA3 x y
@@ -358,7 +358,7 @@ module _ (ds ts us : List Track) (one : OneTracks ds ts) (other : OneTracks ds u
         (subst (λ id. IsMasterChildBy (child_kind id) us other_vouched other_place d.head.length y (drop d.head.length y) ys) d.id_is
         (subst (λ (h : Head). IsMasterChildBy (child_kind h.id) us other_vouched other_place h.length y (drop h.length y) ys) other_head is_other.2)) in
         content_same (DifferInBlock track.number) 0xA3 x y d
-        (one_block_same place other_place x y (drop d.head.length x) d.other xs ys (bytes_drop d.head.length x bytes) (subst AreBytes facts.content (bytes_drop d.head.length y others))
+        (one_block_same place other_place x y (drop d.head.length x) d.other xs ys (AreBytes-drop d.head.length x bytes) (subst AreBytes facts.content (AreBytes-drop d.head.length y others))
         d.differ here there right right_other)
 
     group_same : (place other_place : ℕ) (x y : List ℕ) (xs ys : List Part) → AreBytes x → AreBytes y → DifferInContent (DifferInGroup track.number) 0xA0 x y
@@ -377,7 +377,7 @@ module _ (ds ts us : List Track) (one : OneTracks ds ts) (other : OneTracks ds u
         content_same (DifferInGroup track.number) 0xA0 x y d
         (child_same (IsGroupChild ts vouched) (IsGroupChild us other_vouched) (DifferInContent (DifferInBlock track.number) 0xA1)
         (content_headed (DifferInBlock track.number) (block_length track.number) 0xA1) group_child_same block_group_ids (place + d.head.length) (other_place + d.head.length)
-        (drop d.head.length x) d.other xs ys (bytes_drop d.head.length x bytes) (subst AreBytes facts.content (bytes_drop d.head.length y others)) d.differ here there right right_other)
+        (drop d.head.length x) d.other xs ys (AreBytes-drop d.head.length x bytes) (subst AreBytes facts.content (AreBytes-drop d.head.length y others)) d.differ here there right right_other)
 
     cluster_child_same : (place other_place : ℕ) (x y : List ℕ) (xs ys : List Part) → AreBytes x → AreBytes y → DifferInClusterChild track.number x y
         → IsMasterChild ts vouched place x xs → IsMasterChild us other_vouched other_place y ys → AllByRecursion IsRight xs → AllByRecursion IsRight ys → x ≡ y
@@ -412,7 +412,7 @@ module _ (ds ts us : List Track) (one : OneTracks ds ts) (other : OneTracks ds u
         let right_other_content = (all_front IsRight others_are.content _ (subst (AllByRecursion IsRight) others_are.joined right_other).1).0 in
         content_same (DifferInChild (DifferInClusterChild track.number) cluster_ids) cluster_id cluster damaged d
         (children_same (place + d.head.length) (other_place + d.head.length) (drop d.head.length cluster) d.other are.content others_are.content
-        (bytes_drop d.head.length cluster bytes) (subst AreBytes facts.content (bytes_drop d.head.length damaged others)) d.differ here there right_content right_other_content)
+        (AreBytes-drop d.head.length cluster bytes) (subst AreBytes facts.content (AreBytes-drop d.head.length damaged others)) d.differ here there right_content right_other_content)
 
 -- ---- the files
 
@@ -497,9 +497,9 @@ small_damage_in_link_is_seen file damaged a b bytes_a bytes_b d is_a is_b whole_
     let at_a = element_at (first_tracks 0 (d.before ++ element_item d.differ.head d.cluster ∷ d.after)) is_a.tracks 0 d.before d.differ.head d.cluster d.after is_a.parts parts_a right_a in
     let at_b = element_at (first_tracks 0 (d.before ++ element_item d.differ.head d.other ∷ d.after)) is_b.tracks 0 d.before d.differ.head d.other d.after is_b.parts parts_b right_b in
     let cluster_bytes : AreBytes d.cluster =
-    piece_bytes (bytes_of_items d.before) d.cluster (bytes_of_items d.after)
+    AreBytes-middle (bytes_of_items d.before) d.cluster (bytes_of_items d.after)
     (subst AreBytes (d.are_items.joined ∙ ap bytes_of_items d.at ∙ bytes_append d.before (element_item d.differ.head d.cluster ∷ d.after)) bytes_a) in
-    let other_bytes : AreBytes d.other = piece_bytes (bytes_of_items d.before) d.other (bytes_of_items d.after) (subst AreBytes d.damaged_is bytes_b) in
+    let other_bytes : AreBytes d.other = AreBytes-middle (bytes_of_items d.before) d.other (bytes_of_items d.after) (subst AreBytes d.damaged_is bytes_b) in
     let same = cluster_same d.tracks is_a.tracks is_b.tracks one_a one_b d.is_track.0 d.track at d.judged (passes at_a.are.crc32) (passes at_b.are.crc32)
     (first_tracks 0 (d.before ++ element_item d.differ.head d.cluster ∷ d.after)) (first_tracks 0 (d.before ++ element_item d.differ.head d.other ∷ d.after)) at_a.place at_b.place
     d.cluster d.other at_a.parts at_b.parts cluster_bytes other_bytes d.differ at_a.are at_b.are refl refl at_a.right at_b.right in

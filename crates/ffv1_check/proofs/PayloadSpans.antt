@@ -1,17 +1,18 @@
 -- What passes in the payload of a block.
-use Rattle.std.proofs.Common.{◌≡◌, ℕ, zero, suc, ◌+◌, ◌-◌, ◌≤◌, Bool, true, false, cond, eqb, List, [], ◌∷◌, ◌++◌, length, take, drop, refl, sym, ap, ◌∙◌, subst, arith, inl, inr}
+use Rattle.std.proofs.Common.{◌≡◌, ℕ, zero, suc, ◌+◌, ◌-◌, ◌≤◌, Bool, true, false, cond, eqb, List, [], ◌∷◌, ◌++◌, length, take, refl, sym, ap, ◌∙◌, subst, arith, inl, inr}
 use Rattle.std.specs.Prelude.{◌⊎◌, nat_lt, slice_range, codes}
 use Rattle.std.specs.Bool.{Decides}
 use Rattle.std.specs.Str.{bytes_eq}
-use Rattle.std.proofs.lemmas.Bool.{eqb-true, cases_lt, ltb-true}
+use Rattle.std.proofs.lemmas.Bool.{eqb-true, cases_lt, ltb-true, and_parts}
 use Rattle.std.proofs.lemmas.Slice.Eq.{bytes_eq-Decides}
-use Rattle.std.proofs.lemmas.List.{append_assoc, take-append-drop, take-take, drop-take, take_all}
+use Rattle.std.proofs.lemmas.List.{append_assoc, take_all}
 use Rattle.std.proofs.lemmas.List.Sums.{sum_by-cons}
 use Rattle.ffv1_slice.specs.Bits.{bits_of}
 use Rattle.ffv1_slice.specs.Parity.{remainder_of}
 use Rattle.ffv1_slice.specs.Chain.{size_before, FooterGives, LinkValue, link_of}
 use Rattle.ffv1_slice.specs.Walk.{walked, links_of}
 use Rattle.ffv1_slice.proofs.Links.{walked-more, walked-none}
+use Rattle.ffv1_slice.proofs.Places.{taken_on}
 use Rattle.ffv1_scan.specs.Verdicts.{is_passing}
 use Rattle.matroska.specs.Blocks.{BlockValue, IsBlock}
 use Rattle.matroska.specs.Sound.{IsRightFlac}
@@ -25,7 +26,6 @@ use Rattle.matroska_parts.specs.declared.parts.Standing.{Standing}
 use Rattle.matroska_parts.specs.declared.parts.Standing.TheVariants as standing
 use Rattle.ffv1_check.specs.CheckedBytes.{block_bytes}
 use Rattle.ffv1_check.specs.Spans.{HasChecked}
-use Rattle.ffv1_check.proofs.NameSteps.{both_true}
 use Rattle.ffv1_check.proofs.SpanSteps.{checked_none, checked_all, checked_join, Counts, counts_none}
 
 -- ---- frames
@@ -35,7 +35,7 @@ link_checked link = go (is_passing link) refl
   where
     go : (b : Bool) → is_passing link ≡ b → HasChecked link.bytes (cond b (length link.bytes) 0)
     go true is =
-        let both = both_true (nat_lt 8 (length link.bytes)) (eqb (remainder_of (bits_of link.bytes)) 0) is in
+        let both = and_parts (nat_lt 8 (length link.bytes)) (eqb (remainder_of (bits_of link.bytes)) 0) is in
         checked_all link.bytes (inr (inl (ltb-true 8 (length link.bytes) both.0, eqb-true (remainder_of (bits_of link.bytes)) 0 both.1)))
     go false is = checked_none link.bytes
 
@@ -50,7 +50,7 @@ walk_checked c (suc n) q within = elim (cases_lt q (size_before c q + 8)) [
       let less : q - (size_before c q + 8) ≤ q = omega arith in
       let before = walk_checked c n (q - (size_before c q + 8)) (omega (arith, within, less)) in
       let joined = checked_join _ _ _ _ before (link_checked (link_of c (q - (size_before c q + 8)) q)) in
-      let bytes : take (q - (size_before c q + 8)) c ++ slice_range c (q - (size_before c q + 8)) q ≡ take q c = range_after c (q - (size_before c q + 8)) q less in
+      let bytes : take (q - (size_before c q + 8)) c ++ slice_range c (q - (size_before c q + 8)) q ≡ take q c = taken_on c (q - (size_before c q + 8)) q less in
       let size : passing_size (walked n c (q - (size_before c q + 8))) + cond (is_passing (link_of c (q - (size_before c q + 8)) q)) (length (slice_range c (q - (size_before c q + 8)) q)) 0
       ≡ passing_size (walked (suc n) c q) =
       omega (
@@ -60,12 +60,6 @@ walk_checked c (suc n) q within = elim (cases_lt q (size_before c q + 8)) [
       ) in
       subst (λ z. HasChecked z (passing_size (walked (suc n) c q))) bytes (subst (HasChecked (take (q - (size_before c q + 8)) c ++ slice_range c (q - (size_before c q + 8)) q)) size joined)
 ]
-  where
-    range_after : (c : List ℕ) (p q : ℕ) → p ≤ q → take p c ++ slice_range c p q ≡ take q c
-    range_after c p q less =
-        let most : p + (q - p) ≡ q = omega (arith, less) in
-        ap (λ z. z ++ slice_range c p q) (sym (take-take p q c less)) ∙ ap (λ z. take p (take q c) ++ z) (sym (drop-take p (q - p) c) ∙ ap (λ n. drop p (take n c)) most)
-        ∙ take-append-drop p (take q c)
 
 frame_checked : (c : List ℕ) → HasChecked c (passing_size (links_of c))
 frame_checked c =

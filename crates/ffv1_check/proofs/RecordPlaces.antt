@@ -1,10 +1,12 @@
 -- The records of a file stand where its parts say.
 use Rattle.std.proofs.Common.{◌≡◌, ℕ, ◌+◌, ◌-◌, ◌≤◌, ◌<◌, min, Bool, true, false, cond, eqb, List, [], ◌∷◌, ◌++◌, length, map, take, drop, refl, sym, ap, ◌∙◌, subst, arith, inl, inr}
 use Rattle.std.specs.Prelude.{◌&&◌, filter, Option, Some, None, option_map, Contains}
-use Rattle.std.specs.List.{AllByRecursion, flat_map, fold}
+use Rattle.std.specs.List.{AllByRecursion, fold}
 use Rattle.std.proofs.lemmas.List.{append_assoc, length-append, length-drop, take_at, drop_at, drop-drop, drop-append-le}
 use Rattle.std.proofs.lemmas.List.Elements.{All-contains_itself, recursion_from_All}
+use Rattle.std.proofs.lemmas.Bool.{and_parts}
 use Rattle.ffv1_bits.specs.Parity.{AreBytes}
+use Rattle.ffv1_bits.proofs.Bytes.{AreBytes-drop, AreBytes-front, AreBytes-rest}
 use Rattle.ebml.specs.Children.{IsElement}
 use Rattle.ebml.specs.Contents.{ElementValue, contents_with, PlacedBytes, placed_with, AreContentsAt, last_among}
 use Rattle.ebml.specs.Masters.{child_ids}
@@ -12,8 +14,7 @@ use Rattle.ebml.specs.Items.{ItemValue, IsItem, bytes_of_items, EachIsItem}
 use Rattle.ebml.specs.declared.head.Head.{Head}
 use Rattle.ebml.specs.declared.items.Kind.{Kind}
 use Rattle.ebml.specs.declared.items.Kind.TheVariants as kind
-use Rattle.ebml.proofs.Numbers.{bytes_drop}
-use Rattle.ebml.proofs.ContentList.{elements_are_one}
+use Rattle.ebml.proofs.ContentList.{elements_are_one, bytes_in}
 use Rattle.ebml.proofs.ItemList.{some_bytes}
 use Rattle.matroska.specs.Tracks.{bytes_found, place_found, IsTrackOf, EachIsTrack, HasRecord}
 use Rattle.matroska.specs.NamedTracks.{each_after, is_unnamed}
@@ -29,10 +30,8 @@ use Rattle.matroska_parts.proofs.ContentSteps.{content_good}
 use Rattle.matroska_parts.proofs.RecordSteps.{record_ends}
 use Rattle.ffv1_check.specs.Spans.{bytes_at}
 use Rattle.ffv1_check.specs.RecordPlaces.{IsRecordThere, RecordsAreThere}
-use Rattle.ffv1_check.proofs.DamageSteps.{front_bytes}
-use Rattle.ffv1_check.proofs.NameSteps.{both_true}
-use Rattle.ffv1_check.proofs.TrackOne.{later_bytes}
 use Rattle.ffv1_check.proofs.FileSpans.{IsFirst, IsFirstBy, Stands, item_stands}
+use Rattle.ffv1_check.proofs.TrackOne.{if_named, all_weaker}
 
 -- ---- bytes that stand at a place
 
@@ -59,9 +58,6 @@ bytes_there bytes place piece is = ap (take (length piece)) is.there ∙ take_at
 
 -- ---- the contents of elements
 
-abbrev bytes_of : List ElementValue → List ℕ
-bytes_of elements = flat_map (λ element. element.bytes) elements
-
 -- it begins so many bytes after a place, and stands there
 record IsThereFrom (bytes : List ℕ) (place : ℕ) (it : PlacedBytes) : Type 0 where
   pub after : ℕ
@@ -69,29 +65,25 @@ record IsThereFrom (bytes : List ℕ) (place : ℕ) (it : PlacedBytes) : Type 0 
   pub room : after ≤ length bytes
   pub stands : StandAt bytes after it.bytes
 
-all_there : {X : Type 0} (P Q : X → Type 0) → ((x : X) → P x → Q x) → (xs : List X) → AllByRecursion P xs → AllByRecursion Q xs
-all_there P Q f [] all = tt
-all_there P Q f (x ∷ xs) all = (f x all.0, all_there P Q f xs all.1)
-
 placed_there : (id place : ℕ) (elements : List ElementValue) (rest : List ℕ) → AllByRecursion (λ element. IsElement element.head element.bytes) elements
-    → AllByRecursion (IsThereFrom (bytes_of elements ++ rest) place) (placed_with id place elements)
+    → AllByRecursion (IsThereFrom (bytes_in elements ++ rest) place) (placed_with id place elements)
 placed_there id place [] rest each = tt
 placed_there id place (e ∷ es) rest each =
-    let all : List ℕ = bytes_of (e ∷ es) ++ rest in
-    let joined : bytes_of (e ∷ es) ++ rest ≡ e.bytes ++ (bytes_of es ++ rest) = append_assoc e.bytes (bytes_of es) rest in
+    let all : List ℕ = bytes_in (e ∷ es) ++ rest in
+    let joined : bytes_in (e ∷ es) ++ rest ≡ e.bytes ++ (bytes_in es ++ rest) = append_assoc e.bytes (bytes_in es) rest in
     let room = each.0.has.room in
-    let long = length-append e.bytes (bytes_of es ++ rest) in
-    let first : IsThereFrom (e.bytes ++ (bytes_of es ++ rest)) place record { place = place + e.head.length; bytes = drop e.head.length e.bytes } = record {
+    let long = length-append e.bytes (bytes_in es ++ rest) in
+    let first : IsThereFrom (e.bytes ++ (bytes_in es ++ rest)) place record { place = place + e.head.length; bytes = drop e.head.length e.bytes } = record {
       after = e.head.length;
       place_is = refl;
       room = omega (arith, room, long);
-      stands = record { more = bytes_of es ++ rest; there = drop-append-le e.head.length e.bytes (bytes_of es ++ rest) room };
+      stands = record { more = bytes_in es ++ rest; there = drop-append-le e.head.length e.bytes (bytes_in es ++ rest) room };
     } in
-    let later : AllByRecursion (IsThereFrom (e.bytes ++ (bytes_of es ++ rest)) place) (placed_with id (place + length e.bytes) es) =
-    all_there (IsThereFrom (bytes_of es ++ rest) (place + length e.bytes)) (IsThereFrom (e.bytes ++ (bytes_of es ++ rest)) place)
-    (λ it is. moved e.bytes (bytes_of es ++ rest) place it is) (placed_with id (place + length e.bytes) es) (placed_there id (place + length e.bytes) es rest each.1) in
+    let later : AllByRecursion (IsThereFrom (e.bytes ++ (bytes_in es ++ rest)) place) (placed_with id (place + length e.bytes) es) =
+    all_weaker (IsThereFrom (bytes_in es ++ rest) (place + length e.bytes)) (IsThereFrom (e.bytes ++ (bytes_in es ++ rest)) place)
+    (λ it is. moved e.bytes (bytes_in es ++ rest) place it is) (placed_with id (place + length e.bytes) es) (placed_there id (place + length e.bytes) es rest each.1) in
     subst (λ z. AllByRecursion (IsThereFrom z place) (placed_with id place (e ∷ es))) (sym joined)
-    (elim (eqb e.head.id id) as (λ b. AllByRecursion (IsThereFrom (e.bytes ++ (bytes_of es ++ rest)) place)
+    (elim (eqb e.head.id id) as (λ b. AllByRecursion (IsThereFrom (e.bytes ++ (bytes_in es ++ rest)) place)
     (cond b (record { place = place + e.head.length; bytes = drop e.head.length e.bytes } ∷ placed_with id (place + length e.bytes) es) (placed_with id (place + length e.bytes) es))) [
       | true ↦ (first, later)
       | false ↦ later
@@ -191,8 +183,8 @@ track_there content entry track short bytes there is = λ record' has some.
     let less = ends.0 in
     let entry_at = there.place_is in
     let entry_room = there.room in
-    let whole : AreBytes (entry.bytes ++ there.stands.more) = subst AreBytes there.stands.there (bytes_drop there.after content bytes) in
-    let private = private_there entry.place entry.bytes track (front_bytes entry.bytes there.stands.more whole) is (omega (arith, some, less)) in
+    let whole : AreBytes (entry.bytes ++ there.stands.more) = subst AreBytes there.stands.there (AreBytes-drop there.after content bytes) in
+    let private = private_there entry.place entry.bytes track (AreBytes-front entry.bytes there.stands.more whole) is (omega (arith, some, less)) in
     let outer = stand_in content there.after entry.bytes private.after track.private.now there.stands private.room private.stands in
     let inner = stand_in content (there.after + private.after) track.private.now (length track.private.now - length record') record' outer (omega arith)
     (record_in_private track record' has some) in
@@ -210,9 +202,6 @@ tracks_there content [] (t ∷ ts) short bytes there each = absurd each
 tracks_there content (e ∷ es) [] short bytes there each = absurd each
 tracks_there content (e ∷ es) (t ∷ ts) short bytes there each =
     (track_there content e t short bytes there.0 each.0, tracks_there content es ts short bytes there.1 each.1)
-
-abbrev if_named : List Track → Track → List Track
-if_named before track = cond (is_unnamed before track) [] (track ∷ [])
 
 named_there : (P : Track → Type 0) (before all : List Track) → AllByRecursion P all → AllByRecursion P (each_after if_named before all)
 named_there P before [] each = tt
@@ -300,7 +289,7 @@ module _ (file : List ℕ) (tracks : List Track) where
         (place + head.length) (drop head.length bytes) are.content are.content_is in
         let doc = doc_there are.element place (drop head.length bytes) are.doc are.doc_is in
         let records = records_if_there (is_at place first && is_uncut are.crc32) (passes are.crc32) (place + head.length) (drop head.length bytes) more are.records inner
-        (λ here. named_in_there (drop head.length bytes) tracks (bytes_drop head.length bytes are_bytes) (is (both_true (is_at place first) (is_uncut are.crc32) here).0).1) are.records_are in
+        (λ here. named_in_there (drop head.length bytes) tracks (AreBytes-drop head.length bytes are_bytes) (is (and_parts (is_at place first) (is_uncut are.crc32) here).0).1) are.records_are in
         subst (AllByRecursion (IsRecordThere file tracks)) (sym are.joined) (
           tt,
           all_append (IsRecordThere file tracks) are.content _ content (all_append (IsRecordThere file tracks) are.doc _ doc
@@ -325,8 +314,8 @@ module _ (file : List ℕ) (tracks : List Track) where
         sym (drop-drop (length i.bytes) place file) ∙ ap (drop (length i.bytes)) at ∙ drop_at i.bytes (bytes_of_items items) (length i.bytes) refl in
         subst (AllByRecursion (IsRecordThere file tracks)) (sym are.2)
         (all_append (IsRecordThere file tracks) are.0 are.1
-        (item_there place i.kind i.bytes (bytes_of_items items) (bytes_of_items items) are.0 at each.0 (front_bytes i.bytes (bytes_of_items items) are_bytes) both.0 are.3)
-        (items_there named (place + length i.bytes) items are.1 later (later_bytes i.bytes (bytes_of_items items) are_bytes) each.1 both.1 are.4))
+        (item_there place i.kind i.bytes (bytes_of_items items) (bytes_of_items items) are.0 at each.0 (AreBytes-front i.bytes (bytes_of_items items) are_bytes) both.0 are.3)
+        (items_there named (place + length i.bytes) items are.1 later (AreBytes-rest i.bytes (bytes_of_items items) are_bytes) each.1 both.1 are.4))
 
 pub records_are_there : RecordsAreThere
 records_are_there file tracks parts bytes are =

@@ -1,12 +1,13 @@
 -- The records of a Tracks that pass lie in its content.
 use Rattle.std.proofs.Common.{◌≡◌, ℕ, ◌+◌, Bool, true, false, cond, eqb, leb, List, [], ◌∷◌, ◌++◌, map, length, take, drop, refl, sym, ap, ◌∙◌, subst, arith, inl, inr}
 use Rattle.std.specs.Prelude.{◌⊎◌, ◌||◌, filter, Option, Some, None}
-use Rattle.std.specs.List.{flat_map, fold}
+use Rattle.std.specs.List.{fold}
 use Rattle.std.proofs.lemmas.Bool.{eqb-true, eq-eqb, leb-true, le-leb}
 use Rattle.std.proofs.lemmas.List.{append_assoc, append-nil, take-append-drop}
 use Rattle.ffv1_bits.specs.Bits.{bits_of}
 use Rattle.ffv1_bits.specs.Parity.{remainder_of, RecordPassesParity}
 use Rattle.ebml.specs.Contents.{ElementValue, contents_with, PlacedBytes, placed_with, last_among}
+use Rattle.ebml.proofs.ContentList.{bytes_in}
 use Rattle.matroska.specs.Tracks.{bytes_found, IsTrackOf, EachIsTrack, HasRecord, AreTracksOf}
 use Rattle.matroska.specs.NamedTracks.{each_after, is_unnamed, named_tracks}
 use Rattle.matroska.specs.declared.track.Track.{Track}
@@ -18,6 +19,7 @@ use Rattle.ffv1_check.specs.CheckedBytes.{part_bytes, checked_bytes}
 use Rattle.ffv1_check.specs.Spans.{HasChecked}
 use Rattle.ffv1_check.proofs.SpanSteps.{checked_none, checked_all, checked_join}
 use Rattle.ffv1_check.proofs.MasterSpans.{bytes_join, bytes_one, none_zero}
+use Rattle.ffv1_check.proofs.TrackOne.{if_named}
 
 -- ---- bytes within others
 
@@ -46,9 +48,6 @@ within_checked c xs size is checked =
 
 -- ---- the contents of elements lie in them
 
-abbrev bytes_of : List ElementValue → List ℕ
-bytes_of elements = flat_map (λ element. element.bytes) elements
-
 abbrev content_of : ElementValue → List ℕ
 content_of element = drop element.head.length element.bytes
 
@@ -69,22 +68,22 @@ abbrev last_of : Option (List ℕ) → List (List ℕ) → Option (List ℕ)
 last_of last contents = fold (λ _ x. Some x) last contents
 
 last_within : (id : ℕ) (es : List ElementValue) (last : Option (List ℕ)) (c : List ℕ) → last_of last (contents_with id es) ≡ Some c
-    → (last ≡ Some c) ⊎ IsWithin c (bytes_of es)
+    → (last ≡ Some c) ⊎ IsWithin c (bytes_in es)
 last_within id [] last c is = inl is
 last_within id (e ∷ es) last c is = go (λ l same. last_within id es l c same) (eqb e.head.id id) refl
   where
-    first : Some (content_of e) ≡ Some c → IsWithin c (bytes_of (e ∷ es))
-    first same = let one : content_of e ≡ c = cc in within_more c e.bytes (bytes_of es) (subst (λ z. IsWithin z e.bytes) one (content_within e))
+    first : Some (content_of e) ≡ Some c → IsWithin c (bytes_in (e ∷ es))
+    first same = let one : content_of e ≡ c = cc in within_more c e.bytes (bytes_in es) (subst (λ z. IsWithin z e.bytes) one (content_within e))
 
-    go : ((l : Option (List ℕ)) → last_of l (contents_with id es) ≡ Some c → (l ≡ Some c) ⊎ IsWithin c (bytes_of es)) → (b : Bool) → eqb e.head.id id ≡ b
-        → (last ≡ Some c) ⊎ IsWithin c (bytes_of (e ∷ es))
+    go : ((l : Option (List ℕ)) → last_of l (contents_with id es) ≡ Some c → (l ≡ Some c) ⊎ IsWithin c (bytes_in es)) → (b : Bool) → eqb e.head.id id ≡ b
+        → (last ≡ Some c) ⊎ IsWithin c (bytes_in (e ∷ es))
     go later true at = elim (later (Some (content_of e)) (ap (last_of last) (sym (contents_by id e es true at)) ∙ is)) [
       | inl same ↦ inr (first same)
-      | inr within ↦ inr (within_after c e.bytes (bytes_of es) within)
+      | inr within ↦ inr (within_after c e.bytes (bytes_in es) within)
     ]
     go later false at = elim (later last (ap (last_of last) (sym (contents_by id e es false at)) ∙ is)) [
       | inl same ↦ inl same
-      | inr within ↦ inr (within_after c e.bytes (bytes_of es) within)
+      | inr within ↦ inr (within_after c e.bytes (bytes_in es) within)
     ]
 
 -- ---- the record of a track
@@ -96,7 +95,7 @@ private_within at entry t is = subst (λ z. IsWithin z entry) (sym is.private.2)
     go None e = ([], entry, refl)
     go (Some c) e = elim (last_within 0x63A2 is.private.1.0 None c (ap last_among (sym is.private.1.2) ∙ e)) [
       | inl none ↦ let no : None ≡ Some c = none in cc
-      | inr within ↦ subst (IsWithin c) (sym is.private.1.1.joined) (within_more c (bytes_of is.private.1.0) is.private.1.1.rest within)
+      | inr within ↦ subst (IsWithin c) (sym is.private.1.1.joined) (within_more c (bytes_in is.private.1.0) is.private.1.1.rest within)
     ]
 
 record_within : (at : ℕ) (entry : List ℕ) (t : Track) (bytes : List ℕ) → IsTrackOf at entry t → HasRecord t bytes → IsWithin bytes entry
@@ -137,9 +136,6 @@ entry_checked place at entry t own is are = elim are [
 
 -- ---- the records of all tracks
 
-abbrev if_named : List Track → Track → List Track
-if_named before t = cond (is_unnamed before t) [] (t ∷ [])
-
 element_checked : (e : ElementValue) (size : ℕ) → HasChecked (content_of e) size → HasChecked e.bytes size
 element_checked e size checked = within_checked (content_of e) e.bytes size (content_within e) checked
 
@@ -151,36 +147,36 @@ entries_by from e es b =
 -- what is known of the elements after one
 abbrev Rest : ℕ → ℕ → List ElementValue → Type 0
 Rest place from es = (others list : List Track) (parts : List Part) → EachIsTrack (placed_with 0xAE from es) list
-    → AreRecordParts place false (each_after if_named others list) parts → HasChecked (bytes_of es) (checked_bytes parts)
+    → AreRecordParts place false (each_after if_named others list) parts → HasChecked (bytes_in es) (checked_bytes parts)
 
 records_in : (place from : ℕ) (es : List ElementValue) (before all : List Track) (records : List Part) → EachIsTrack (placed_with 0xAE from es) all
-    → AreRecordParts place false (each_after if_named before all) records → HasChecked (bytes_of es) (checked_bytes records)
+    → AreRecordParts place false (each_after if_named before all) records → HasChecked (bytes_in es) (checked_bytes records)
 records_in place from [] before [] records each are = subst (HasChecked []) (sym (none_zero records are)) (checked_none [])
 records_in place from [] before (t ∷ ts) records each are = absurd each
 records_in place from (e ∷ es) before all records each are =
     go (λ others list parts entries are_parts. records_in place (from + length e.bytes) es others list parts entries are_parts) (eqb e.head.id 0xAE) refl
   where
-    later : HasChecked (bytes_of es) (checked_bytes records) → HasChecked (bytes_of (e ∷ es)) (checked_bytes records)
+    later : HasChecked (bytes_in es) (checked_bytes records) → HasChecked (bytes_in (e ∷ es)) (checked_bytes records)
     later checked =
         let same : 0 + checked_bytes records ≡ checked_bytes records = omega arith in
-        subst (HasChecked (e.bytes ++ bytes_of es)) same (checked_join e.bytes (bytes_of es) 0 (checked_bytes records) (checked_none e.bytes) checked)
+        subst (HasChecked (e.bytes ++ bytes_in es)) same (checked_join e.bytes (bytes_in es) 0 (checked_bytes records) (checked_none e.bytes) checked)
 
     named : Rest place (from + length e.bytes) es → (t : Track) (ts : List Track) (b : Bool) → is_unnamed before t ≡ b
         → EachIsTrack (entries_by from e es true) (t ∷ ts)
-        → AreRecordParts place false (cond b [] (t ∷ []) ++ each_after if_named (before ++ t ∷ []) ts) records → HasChecked (bytes_of (e ∷ es)) (checked_bytes records)
+        → AreRecordParts place false (cond b [] (t ∷ []) ++ each_after if_named (before ++ t ∷ []) ts) records → HasChecked (bytes_in (e ∷ es)) (checked_bytes records)
     named rest t ts true is entries are = later (rest (before ++ t ∷ []) ts records entries.1 are)
     named rest t ts false is entries are =
         let size : checked_bytes are.0 + checked_bytes are.1 ≡ checked_bytes records = sym (ap checked_bytes are.2 ∙ bytes_join are.0 are.1) in
-        subst (HasChecked (e.bytes ++ bytes_of es)) size
-        (checked_join e.bytes (bytes_of es) _ _ (element_checked e _ (entry_checked place (from + e.head.length) (content_of e) t are.0 entries.0 are.3))
+        subst (HasChecked (e.bytes ++ bytes_in es)) size
+        (checked_join e.bytes (bytes_in es) _ _ (element_checked e _ (entry_checked place (from + e.head.length) (content_of e) t are.0 entries.0 are.3))
         (rest (before ++ t ∷ []) ts are.1 entries.1 are.4))
 
     entry : Rest place (from + length e.bytes) es → (list : List Track) → EachIsTrack (entries_by from e es true) list → AreRecordParts place false (each_after if_named before list) records
-        → HasChecked (bytes_of (e ∷ es)) (checked_bytes records)
+        → HasChecked (bytes_in (e ∷ es)) (checked_bytes records)
     entry rest [] entries are = absurd entries
     entry rest (t ∷ ts) entries are = named rest t ts (is_unnamed before t) refl entries are
 
-    go : Rest place (from + length e.bytes) es → (b : Bool) → eqb e.head.id 0xAE ≡ b → HasChecked (bytes_of (e ∷ es)) (checked_bytes records)
+    go : Rest place (from + length e.bytes) es → (b : Bool) → eqb e.head.id 0xAE ≡ b → HasChecked (bytes_in (e ∷ es)) (checked_bytes records)
     go rest true at = entry rest all (subst (λ z. EachIsTrack z all) (ap (entries_by from e es) at) each) are
     go rest false at = later (rest before all records (subst (λ z. EachIsTrack z all) (ap (entries_by from e es) at) each) are)
 
@@ -191,6 +187,6 @@ records_checked place content all records is are =
     let all_are = is.are_entries.1 in
     let same : checked_bytes records + 0 ≡ checked_bytes records = omega arith in
     subst (λ z. HasChecked z (checked_bytes records)) (sym all_are.joined)
-    (subst (HasChecked (bytes_of elements ++ all_are.rest)) same
-    (checked_join (bytes_of elements) all_are.rest (checked_bytes records) 0
+    (subst (HasChecked (bytes_in elements ++ all_are.rest)) same
+    (checked_join (bytes_in elements) all_are.rest (checked_bytes records) 0
     (records_in place 0 elements [] all records (subst (λ z. EachIsTrack z all) is.are_entries.2 is.each) are) (checked_none all_are.rest)))

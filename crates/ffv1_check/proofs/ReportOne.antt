@@ -4,12 +4,12 @@ use Rattle.std.specs.Prelude.{◌&&◌, IsTrue, codes, Option, Some, slice_get}
 use Rattle.std.specs.Fmt.{decimal}
 use Rattle.std.specs.List.{flat_map}
 use Rattle.ffv1_bits.specs.Parity.{AreBytes}
+use Rattle.ffv1_bits.proofs.Bytes.{AreBytes-drop, AreBytes-front, no_bytes, AreBytes-rest}
 use Rattle.ebml.specs.Masters.{child_ids}
 use Rattle.ebml.specs.Items.{ItemValue, bytes_of_items}
 use Rattle.ebml.specs.declared.head.Head.{Head}
 use Rattle.ebml.specs.declared.items.Kind.{Kind}
 use Rattle.ebml.specs.declared.items.Kind.TheVariants as kind
-use Rattle.ebml.proofs.Numbers.{bytes_drop}
 use Rattle.ebml.proofs.ItemList.{items_are_one}
 use Rattle.matroska.specs.declared.track.Track.{Track}
 use Rattle.matroska_parts.proofs.MasterSteps.{same_some}
@@ -27,8 +27,7 @@ use Rattle.ffv1_check.specs.Findings.{line_text}
 use Rattle.ffv1_check.specs.Reports.{file_lines, track_count_of, blocks_of, checked_of, IsWhole, IsReportOf}
 use Rattle.ffv1_check.specs.ReportLines.{codec_word, track_line, bytes_line, whole_line, check_text}
 use Rattle.ffv1_check.specs.Checks.{CountValue, count_value, ReportValue, report_value, ReportIsOne}
-use Rattle.ffv1_check.proofs.DamageSteps.{front_bytes}
-use Rattle.ffv1_check.proofs.TrackOne.{bool_same, no_bytes, later_bytes, EachAlike, each_back, same_count, alike_at, Distinct, HasBytes, tracks_by_one}
+use Rattle.ffv1_check.proofs.TrackOne.{bool_same, EachAlike, each_back, same_count, alike_at, Distinct, HasBytes, tracks_by_one}
 use Rattle.ffv1_check.proofs.PartOne.{crc32_is_one, doc_is_one, records_if_one, content_is_one}
 
 -- ---- the parts of items
@@ -44,7 +43,7 @@ module _ (first : Option PlacedContent) (ts us : List Track) (alike : EachAlike 
       let element = same_some are.element others.element (sym are.known ∙ others.known) in
       let crc32 = crc32_is_one head bytes are.crc32 others.crc32 are.crc32_is others.crc32_is in
       let content = content_is_one ts us alike distinct (passes others.crc32) (child_ids head.id) (place + head.length) (drop head.length bytes) are.content others.content
-      (bytes_drop head.length bytes are_bytes) (subst (λ c. AreContentParts head.id ts (passes c) (place + head.length) (drop head.length bytes) are.content) crc32 are.content_is)
+      (AreBytes-drop head.length bytes are_bytes) (subst (λ c. AreContentParts head.id ts (passes c) (place + head.length) (drop head.length bytes) are.content) crc32 are.content_is)
       others.content_is in
       let doc = doc_is_one others.element place (drop head.length bytes) are.doc others.doc
       (subst (λ e. AreDocParts e place (drop head.length bytes) are.doc) element are.doc_is) others.doc_is in
@@ -67,15 +66,15 @@ module _ (first : Option PlacedContent) (ts us : List Track) (alike : EachAlike 
       → AreItemParts first us place items ys → xs ≡ ys
   parts_are_one place [] xs ys are_bytes are others = are ∙ sym others
   parts_are_one place (i ∷ items) xs ys are_bytes are others =
-      are.2 ∙ ap (λ z. z ++ are.1) (item_is_one i.kind place i.bytes are.0 others.0 (front_bytes i.bytes (bytes_of_items items) are_bytes) are.3 others.3)
-      ∙ ap (λ z. others.0 ++ z) (parts_are_one (place + length i.bytes) items are.1 others.1 (later_bytes i.bytes (bytes_of_items items) are_bytes) are.4 others.4)
+      are.2 ∙ ap (λ z. z ++ are.1) (item_is_one i.kind place i.bytes are.0 others.0 (AreBytes-front i.bytes (bytes_of_items items) are_bytes) are.3 others.3)
+      ∙ ap (λ z. others.0 ++ z) (parts_are_one (place + length i.bytes) items are.1 others.1 (AreBytes-rest i.bytes (bytes_of_items items) are_bytes) are.4 others.4)
       ∙ sym others.2
 
 -- ---- the first Tracks
 
 content_bytes : (k : Kind) (bytes : List ℕ) → AreBytes bytes → AreBytes (content_by k bytes)
 content_bytes (kind.Segment head) bytes are = no_bytes
-content_bytes (kind.Element head) bytes are = bytes_drop head.length bytes are
+content_bytes (kind.Element head) bytes are = AreBytes-drop head.length bytes are
 content_bytes (kind.Endless head) bytes are = no_bytes
 content_bytes kind.Unknown bytes are = no_bytes
 
@@ -83,8 +82,8 @@ pub first_bytes : (place : ℕ) (items : List ItemValue) → AreBytes (bytes_of_
 first_bytes place [] bytes = tt
 first_bytes place (i ∷ items) bytes =
     elim (is_tracks i.kind) as (λ b. HasBytes (cond b (Some record { place = place; content = content_by i.kind i.bytes }) (first_tracks (place + length i.bytes) items))) [
-      | true ↦ content_bytes i.kind i.bytes (front_bytes i.bytes (bytes_of_items items) bytes)
-      | false ↦ first_bytes (place + length i.bytes) items (later_bytes i.bytes (bytes_of_items items) bytes)
+      | true ↦ content_bytes i.kind i.bytes (AreBytes-front i.bytes (bytes_of_items items) bytes)
+      | false ↦ first_bytes (place + length i.bytes) items (AreBytes-rest i.bytes (bytes_of_items items) bytes)
     ]
 
 -- ---- counts

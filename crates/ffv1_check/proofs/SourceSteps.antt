@@ -2,13 +2,13 @@
 use Rattle.std.proofs.Common.{◌≡◌, ℕ, ◌+◌, ◌-◌, ◌^◌, ◌<◌, List, [], ◌∷◌, ◌++◌, length, refl, sym, ap, ◌∙◌, subst, arith, zero-add}
 use Rattle.std.specs.Prelude.{Option}
 use Rattle.std.proofs.lemmas.List.{length-append}
+use Rattle.ffv1_bits.proofs.Bytes.{no_bytes}
 use Rattle.ffv1_devices.specs.Logs.{ReadLog}
 use Rattle.ebml.specs.Items.{ItemValue, bytes_of_items}
 use Rattle.ffv1_devices.proofs.Steps.{Reads-nil}
 use Rattle.ebml_reader.specs.Reader.{Held, nothing_held, StandsAfter}
 use Rattle.ebml_reader.specs.declared.starts.ItemStart.{ItemStart}
 use Rattle.ebml_reader.specs.Starts.{StartsItem, EndsItem, PassesItemOf}
-use Rattle.ebml_reader.proofs.Steps.{no_bytes}
 use Rattle.ebml_reader.proofs.StartSteps.{stands_passed}
 use Rattle.ebml.proofs.ItemList.{some_bytes, bytes_of_snoc}
 use Rattle.matroska_parts.specs.SourceParts.{KnownTracks}

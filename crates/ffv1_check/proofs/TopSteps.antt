@@ -5,6 +5,7 @@ use Rattle.std.specs.List.{list_any}
 use Rattle.std.proofs.lemmas.List.Folds.{list_any-append}
 use Rattle.std.proofs.lemmas.List.Sums.{fold-append}
 use Rattle.std.proofs.lemmas.Bool.{eqb-true, eq-eqb}
+use Rattle.std.proofs.Math.Bool.{or-false}
 use Rattle.matroska_parts.specs.TopElements.{element_number}
 use Rattle.matroska_parts.specs.declared.top_elements.TopElement.{TopElement}
 use Rattle.matroska_parts.specs.declared.top_elements.TopElement.TheVariants as tops
@@ -14,12 +15,8 @@ use Rattle.ffv1_check.specs.declared.tops.Tops.{Tops}
 use Rattle.ffv1_check.specs.Before.{begins_any, begins_ebml, first_of, segment_in, first_segment, has_crc32, stamp}
 use Rattle.ffv1_check.specs.Inner.Stands.{TopsStand}
 
-or_false : (b : Bool) → (b || false) ≡ b
-or_false true = refl
-or_false false = refl
-
 pub any_more : {X : Type 0} (p : X → Bool) (xs : List X) (x : X) → list_any p (xs ++ x ∷ []) ≡ (list_any p xs || p x)
-any_more p xs x = list_any-append p xs (x ∷ []) ∙ ap (λ b. list_any p xs || b) (or_false (p x))
+any_more p xs x = list_any-append p xs (x ∷ []) ∙ ap (λ b. list_any p xs || b) (or-false (p x))
 
 first_none : {X : Type 0} (o : Option X) → first_of o None ≡ o
 first_none None = refl
@@ -38,7 +35,7 @@ true_with true = refl
 true_with false = refl
 
 pub kept : (b : Bool) → b ≡ (b || false)
-kept b = sym (or_false b)
+kept b = sym (or-false b)
 
 pub kept_segment : (o : Option Opening) → o ≡ first_of o None
 kept_segment o = sym (first_none o)

@@ -3,20 +3,19 @@ use Rattle.std.proofs.Common.{◌≡◌, ℕ, zero, suc, ◌+◌, Bool, true, fa
 use Rattle.std.specs.Prelude.{◌↔◌, ◌||◌, IsTrue, IsSome, filter, Option, Some, None, slice_get}
 use Rattle.std.specs.List.{AllByRecursion, flat_map, fold, list_any}
 use Rattle.std.proofs.lemmas.Bool.{eq-eqb}
-use Rattle.std.proofs.lemmas.List.{append_assoc, drop_at}
+use Rattle.std.proofs.lemmas.List.{append_assoc}
 use Rattle.std.proofs.lemmas.List.Folds.{list_any-append}
 use Rattle.ffv1_bits.specs.Parity.{AreBytes}
-use Rattle.ffv1_texts.proofs.PartSteps.{one_parting, no_parting}
+use Rattle.ffv1_bits.proofs.Bytes.{AreBytes-drop, AreBytes-front, no_bytes, AreBytes-rest}
 use Rattle.ebml.specs.Contents.{ElementValue, contents_with, AreContents, OfLast, PlacedBytes, placed_with, AreContentsAt, OfLastPlaced, last_among}
-use Rattle.ebml.proofs.Numbers.{bytes_drop}
-use Rattle.ebml.proofs.ContentList.{elements_are_one, contents_are_one}
+use Rattle.ebml.proofs.ContentList.{elements_are_one, contents_are_one, bytes_in}
 use Rattle.matroska.specs.Tracks.{number_found, bytes_found, place_found, IsStringOf, IsTrackOf, EachIsTrack, AreTracksOf, IsFfv1Header, HasRecord, IsRecordWrong, SaysParities, HasParities, IsFlac}
 use Rattle.matroska.specs.NamedTracks.{each_after, has_number, is_unnamed, named_tracks}
 use Rattle.matroska.specs.declared.track.Track.{Track}
 use Rattle.matroska_parts.specs.Payloads.{IsFfv1}
 use Rattle.matroska_parts.specs.ItemParts.{PlacedContent, AreNamedIn, AreTracksBy}
 use Rattle.matroska_parts.proofs.MasterSteps.{same_some}
-use Rattle.ffv1_check.proofs.DamageSteps.{front_bytes}
+use Rattle.matroska_parts.proofs.OpeningSteps.{string_is_one}
 
 -- ---- two truths
 
@@ -35,21 +34,12 @@ all_weaker P Q f (x ∷ xs) all = (f x all.0, all_weaker P Q f xs all.1)
 
 -- ---- contents are bytes
 
-pub no_bytes : AreBytes []
-no_bytes = λ i. omega arith
-
-pub later_bytes : (xs ys : List ℕ) → AreBytes (xs ++ ys) → AreBytes ys
-later_bytes xs ys bytes = subst AreBytes (drop_at xs ys (length xs) refl) (bytes_drop (length xs) (xs ++ ys) bytes)
-
-abbrev bytes_in : List ElementValue → List ℕ
-bytes_in elements = flat_map (λ element. element.bytes) elements
-
 elements_bytes : (elements : List ElementValue) (rest : List ℕ) → AreBytes (flat_map (λ element. element.bytes) elements ++ rest)
     → AllByRecursion (λ element. AreBytes element.bytes) elements
 elements_bytes [] rest bytes = tt
 elements_bytes (e ∷ es) rest bytes =
     let parted : AreBytes (e.bytes ++ (bytes_in es ++ rest)) = subst AreBytes (append_assoc e.bytes (bytes_in es) rest) bytes in
-    (front_bytes e.bytes (bytes_in es ++ rest) parted, elements_bytes es rest (later_bytes e.bytes (bytes_in es ++ rest) parted))
+    (AreBytes-front e.bytes (bytes_in es ++ rest) parted, elements_bytes es rest (AreBytes-rest e.bytes (bytes_in es ++ rest) parted))
 
 with_bytes : (id : ℕ) (elements : List ElementValue) → AllByRecursion (λ element. AreBytes element.bytes) elements → AllByRecursion AreBytes (contents_with id elements)
 with_bytes id [] all = tt
@@ -57,7 +47,7 @@ with_bytes id (e ∷ es) all =
     let rest = with_bytes id es all.1 in
     elim (eqb e.head.id id) as (λ t. AllByRecursion AreBytes (map (λ (element : ElementValue). drop element.head.length element.bytes)
     (cond t (e ∷ filter (λ element. eqb element.head.id id) es) (filter (λ element. eqb element.head.id id) es)))) [
-      | true ↦ (bytes_drop e.head.length e.bytes all.0, rest)
+      | true ↦ (AreBytes-drop e.head.length e.bytes all.0, rest)
       | false ↦ rest
     ]
 
@@ -73,7 +63,7 @@ placed_bytes id place (e ∷ es) all =
     let rest = placed_bytes id (place + length e.bytes) es all.1 in
     elim (eqb e.head.id id) as (λ t. AllByRecursion (λ (it : PlacedBytes). AreBytes it.bytes)
     (cond t (record { place = place + e.head.length; bytes = drop e.head.length e.bytes } ∷ placed_with id (place + length e.bytes) es) (placed_with id (place + length e.bytes) es))) [
-      | true ↦ (bytes_drop e.head.length e.bytes all.0, rest)
+      | true ↦ (AreBytes-drop e.head.length e.bytes all.0, rest)
       | false ↦ rest
     ]
 
@@ -108,16 +98,6 @@ of_one id bytes P Q are p q = record {
   other = subst (λ z. Q (last_among z)) (sym (contents_are_one id bytes p.0 q.0 are p.1 q.1)) q.2;
   bytes = last_bytes None p.0 no_bytes (contents_bytes id bytes p.0 are p.1);
 }
-
-string_is_one : (content a b : List ℕ) → IsStringOf content a → IsStringOf content b → a ≡ b
-string_is_one content a b is other =
-    elim is.ends [
-      | inl x ↦ elim other.ends [ inl y ↦ sym x ∙ y | inr y ↦ absurd (no_parting 0 a b y.0 is.no_zero (sym x ∙ y.1)) ]
-      | inr x ↦ elim other.ends [
-        | inl y ↦ absurd (no_parting 0 b a x.0 other.no_zero (sym y ∙ x.1))
-        | inr y ↦ (one_parting 0 a x.0 b y.0 is.no_zero other.no_zero (sym x.1 ∙ y.1)).0
-      ]
-    ]
 
 -- two tracks say the same
 pub record Alike (a b : Track) : Type 0 where
@@ -256,7 +236,7 @@ any_same number (x ∷ xs) [] each = absurd each
 any_same number (x ∷ xs) (y ∷ ys) each =
     ap (λ n. eqb n number || list_any (has_number number) xs) each.0.number ∙ ap (λ b. has_number number y || b) (any_same number xs ys each.1)
 
-abbrev if_named : List Track → Track → List Track
+abbrev pub if_named : List Track → Track → List Track
 if_named before track = cond (is_unnamed before track) [] (track ∷ [])
 
 named_alike : (before others xs ys : List Track) → EachAlike before others → EachAlike xs ys → EachAlike (each_after if_named before xs) (each_after if_named others ys)

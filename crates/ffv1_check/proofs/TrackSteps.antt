@@ -5,9 +5,9 @@ use Rattle.std.proofs.lemmas.List.{append-nil, take_all, drop_all}
 use Rattle.std.specs.Prelude.{◌&&◌, count_by, Option, Some, None, option_to_list}
 use Rattle.std.specs.List.{fold}
 use Rattle.std.proofs.lemmas.List.Sums.{fold-append, count_by-le-length, sum_by-append}
-use Rattle.std.proofs.lemmas.Bool.{eqb-true, eq-eqb}
+use Rattle.std.proofs.lemmas.Bool.{eqb-true, eq-eqb, ne_eqb}
 use Rattle.matroska.specs.NamedTracks.{by_those_before}
-use Rattle.matroska.proofs.NamedSteps.{by_those_before-append, not_equal}
+use Rattle.matroska.proofs.NamedSteps.{by_those_before-append}
 use Rattle.matroska_parts.specs.declared.parts.Part.{Part}
 use Rattle.matroska_parts.specs.declared.parts.Part.TheVariants as part
 use Rattle.matroska_parts.specs.declared.parts.BlockPart.{BlockPart}
@@ -91,7 +91,7 @@ not_of_unnamed parts index (Named named) none = absurd (none named refl)
 
 not_of_other : (parts : List Part) (index : ℕ) (named : TrackBlock) → (named.index ≡ index → ⊥) → IsNotOf parts index (Named named)
 not_of_other parts index named apart =
-    let other : eqb named.index index ≡ false = not_equal named.index index apart in
+    let other : eqb named.index index ≡ false = ne_eqb named.index index apart in
     (other, ap (λ b. b && is_checked named.is_vouched named.payload) other, ap (λ b. cond b (option_to_list (time_of parts named)) []) other)
 
 block_same : (parts : List Part) (block : BlockPart) (index : ℕ) (state : TrackState) → TrackStands parts index state → IsNotOf parts index block.standing

@@ -9,6 +9,7 @@ use Rattle.std.proofs.lemmas.Bool.{eqb-true, eq-eqb}
 use Rattle.std.proofs.lemmas.Grind.{flat_map-append}
 use Rattle.std.proofs.lemmas.List.{length-append, length-map, take_more, take-append-drop, take_all, append_assoc, append-nil}
 use Rattle.std.proofs.lemmas.List.Sums.{fold-append, sum_by-append, count_by-le-length}
+use Rattle.std.proofs.Math.Bool.{and-false}
 use Rattle.matroska_parts.specs.declared.parts.Part.{Part}
 use Rattle.matroska_parts.specs.declared.parts.Part.TheVariants as part
 use Rattle.matroska_parts.specs.declared.parts.Standing.{Standing}
@@ -116,10 +117,6 @@ all_vouched blocks k old now so_far end = record {
 
 -- ---- the counts of vouched parts
 
-and_false : (b : Bool) → (b && false) ≡ false
-and_false true = refl
-and_false false = refl
-
 one_block : (index at : ℕ) → times_in index (at ∷ []) ≡ one_if (eqb at index)
 one_block index at = count_cons (λ block. eqb block index) at [] ∙ omega arith
 
@@ -130,7 +127,7 @@ payload_counted index at v payload.Long is = omega arith
 payload_counted index at v (payload.Frame verdict) is = omega arith
 payload_counted index at v (payload.Flac right) is = omega arith
 payload_counted index at v payload.Other is =
-    let none : one_if (eqb at index && v) ≡ 0 = ap (λ b. one_if (eqb at index && b)) is ∙ ap one_if (and_false (eqb at index)) in
+    let none : one_if (eqb at index && v) ≡ 0 = ap (λ b. one_if (eqb at index && b)) is ∙ ap one_if (and-false (eqb at index)) in
     let all : one_if (eqb at index && true) ≡ one_if (eqb at index) = and_true (eqb at index) in
     omega (arith, none, all, one_block index at)
   where

@@ -1,8 +1,9 @@
 -- What the command `mend` makes of a list and copies is what becomes of the stretches that are listed.
-use Rattle.std.proofs.Common.{◌≡◌, ℕ, Bool, true, false, ◌&&◌, List, [], ◌∷◌, ◌++◌, length, map, replicate, Option, Some, refl, sym, ap, ◌∙◌, subst, append_assoc, append-nil, suc}
+use Rattle.std.proofs.Common.{◌≡◌, ℕ, true, List, [], ◌∷◌, ◌++◌, length, map, replicate, Option, Some, refl, sym, ap, ◌∙◌, subst, append_assoc, append-nil, suc}
 use Rattle.std.specs.List.{AllZip, list_all}
 use Rattle.std.proofs.lemmas.List.{length-map, length-replicate}
 use Rattle.std.proofs.lemmas.List.Sorted.{IsPermutation-refl}
+use Rattle.std.proofs.lemmas.Bool.{and_parts}
 use Rattle.ffv1_texts.proofs.LineSteps.{lines_are_one}
 use Rattle.ffv1_mend.specs.Laws.{IsVouched}
 use Rattle.ffv1_mend.specs.Mended.{MendedValue, is_good}
@@ -120,10 +121,6 @@ any_order_makes_one_file list other_list copies others stretches reordered one o
 
 -- ---- what is good
 
-pub both_true : (x y : Bool) → (x && y) ≡ true → (x ≡ true) × (y ≡ true)
-both_true true y all = (refl, all)
-both_true false y all = absurd (let no : false ≡ true = all in cc)
-
 -- what holds of each that is good holds of all, where all are good
 all_good : (P : StretchValue → MendedValue → Type 0) (stretches : List StretchValue) (mended : List MendedValue)
     → AllZip (λ stretch one. is_good one.state ≡ true → P stretch one) stretches mended → list_all (λ one. is_good one.state) mended ≡ true
@@ -132,7 +129,7 @@ all_good P [] [] each good = tt
 all_good P [] (m ∷ mended) each good = absurd each
 all_good P (s ∷ stretches) [] each good = absurd each
 all_good P (s ∷ stretches) (m ∷ mended) each good =
-    let all = both_true (is_good m.state) (list_all (λ one. is_good one.state) mended) good in
+    let all = and_parts (is_good m.state) (list_all (λ one. is_good one.state) mended) good in
     (each.0 all.0, all_good P stretches mended each.1 all.1)
 
 pub true_is_vouched : TrueIsVouched

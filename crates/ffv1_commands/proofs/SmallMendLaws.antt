@@ -1,5 +1,6 @@
 -- What `mend` makes of the stretches of copies is good, as the small definitions have it.
 use Rattle.std.proofs.Common.{◌≡◌, true, List, [], ◌∷◌, ◌++◌, ℕ, map, refl, sym, ap, ◌∙◌}
+use Rattle.std.proofs.lemmas.Bool.{and_parts}
 use Rattle.std.specs.List.{AllZip, flat_map, list_all}
 use Rattle.ffv1_mend.specs.Improved.{given_patches}
 use Rattle.ffv1_mend.specs.Mended.{MendedValue, is_good}
@@ -9,7 +10,7 @@ use Rattle.ffv1_stretches.specs.Laws.{AreStretchMends}
 use Rattle.ffv1_stretches.specs.Passes.{bytes_of}
 use Rattle.ffv1_stretches.specs.Stretches.{StretchValue}
 use Rattle.ffv1_commands.specs.SmallMends.{IsGoodStretch, TrueIsGood}
-use Rattle.ffv1_commands.proofs.MendCommandLaws.{listed_is_made, both_true}
+use Rattle.ffv1_commands.proofs.MendCommandLaws.{listed_is_made}
 
 -- the bytes of what becomes of each stretch
 abbrev all_bytes : List MendedValue → List (List ℕ)
@@ -21,7 +22,7 @@ good_stretches copies [] [] are good = tt
 good_stretches copies [] (m ∷ mended) are good = absurd are
 good_stretches copies (s ∷ stretches) [] are good = absurd are
 good_stretches copies (s ∷ stretches) (m ∷ mended) are good =
-    let all = both_true (is_good m.state) (list_all (λ one. is_good one.state) mended) good in (
+    let all = and_parts (is_good m.state) (list_all (λ one. is_good one.state) mended) good in (
       (given_patches s.parts m.parts, good_is_of_mend s.kind (versions_in (cells_of copies s)) are.0.from s.parts m are.0.mends all.0),
       good_stretches copies stretches mended are.1 all.1,
     )

@@ -4,6 +4,7 @@ use Rattle.std.specs.Prelude.{◌==◌, if◌then◌else◌}
 use Rattle.std.proofs.lemmas.Bool.Decides.{nat_tests}
 use Rattle.ffv1_devices.specs.Streams.{failures_after, CountsTry}
 use Rattle.ffv1_devices.specs.Logs.{Tries, GoesOn, GivesUp, HasFailed, HasCounted}
+use Rattle.ffv1_devices.proofs.Steps.{failed-after}
 
 -- a count after a failure
 record CountsOne (old new : ℕ) : Type 0 where
@@ -33,9 +34,6 @@ counted-more n old mid new h one =
     (λ (p : old + n ≤ mid). ⊎_elim (λ (q : mid < new). inl (omega arith)) (λ (q : 2 ^ 64 - 1 ≤ new). inr q) one.failed)
     (λ (p : 2 ^ 64 - 1 ≤ mid). inr (le_trans p one.least))
     h
-
-failed-after : (old mid new : ℕ) → old ≤ mid → HasFailed mid new → HasFailed old new
-failed-after old mid new h f = ⊎_elim (λ (p : mid < new). inl (omega arith)) (λ (p : 2 ^ 64 - 1 ≤ new). inr p) f
 
 row_more : (n mid new : ℕ) → n + 1 ≤ 2 ^ 64 - 1 → n ≤ mid → new ≡ failures_after true mid → n + 1 ≤ new
 row_more n mid new h le e = grind (arith, nat_tests)

@@ -1,5 +1,6 @@
 -- A write that failed, as a part of a longer one.
-use Rattle.std.proofs.Common.{ℕ, List, [], ◌++◌, Option, None, Some, refl, sym, ap, ◌∙◌, append_assoc, append-nil}
+use Rattle.std.proofs.Common.{◌≡◌, ℕ, ◌-◌, List, [], ◌++◌, length, take, drop, Option, None, Some, refl, sym, ap, ◌∙◌, append_assoc, append-nil, take-append-drop}
+use Rattle.std.proofs.lemmas.List.{take_rest}
 use Rattle.std.specs.Io.KnownBytes.{Keeps, Appends}
 use Rattle.std.proofs.KnownBytes.{Appends-trans}
 use Rattle.ffv1_devices.specs.Writing.{WritesFront}
@@ -23,3 +24,9 @@ appends_none (Some x) (Some y) p = p ∙ sym (append-nil x)
 -- nothing was written
 pub front_none : (a b : Option (List ℕ)) → Keeps a b → WritesFront a b []
 front_none a b kept = record { done = []; rest = []; split = refl; written = appends_none a b kept }
+
+-- what was written, with n items more, and what is still to come
+pub moves_front : (all done rest : List ℕ) (n : ℕ) → all ≡ done ++ rest → all ≡ (done ++ take n rest) ++ take (length rest - n) (drop n rest)
+moves_front all done rest n e =
+    e ∙ ap (λ l. done ++ l) (sym (take-append-drop n rest)) ∙ sym (append_assoc done (take n rest) (drop n rest))
+    ∙ ap (λ l. (done ++ take n rest) ++ l) (sym (take_rest rest n))

@@ -18,7 +18,7 @@ GoesOn-trans a b c p q = record {
       (λ (h : c ≡ b). ⊎_elim (λ (k : b.in_row ≡ 0). inl (ap (λ (t : Tries). t.in_row) h ∙ k)) (λ (k : b ≡ a). inr (h ∙ k)) p.last) q.last;
 }
 
-failed-after : (a b c : ℕ) → a ≤ b → HasFailed b c → HasFailed a c
+pub failed-after : (a b c : ℕ) → a ≤ b → HasFailed b c → HasFailed a c
 failed-after a b c le h = ⊎_elim (λ (p : b < c). inl (omega arith)) (λ (p : 2 ^ 64 - 1 ≤ c). inr p) h
 
 counted-after : (n a b c : ℕ) → a ≤ b → HasCounted n b c → HasCounted n a c

@@ -2,7 +2,7 @@
 use Rattle.std.proofs.Common.{◌≡◌, ℕ, ◌+◌, ◌-◌, ◌*◌, ◌^◌, ◌≤◌, Bool, List, ◌++◌, length, take, drop, get_or, Result, Ok, Err, Some, Contains, sym, ap, ◌∙◌, subst, arith, append_assoc, take-append-drop, length-append, length-drop}
 use Rattle.std.specs.Prelude.{◌==◌, slice_range}
 use Rattle.std.proofs.Math.Seq.{take-append_seam}
-use Rattle.std.proofs.lemmas.List.{take_all, take-take, drop-take, length-take-le}
+use Rattle.std.proofs.lemmas.List.{take_all, length-take-le}
 use Rattle.ffv1_bits.specs.Limits.{payload_limit}
 use Rattle.ffv1_range.specs.TileHeaders.{TileRules, tile_read}
 use Rattle.ffv1_range.specs.declared.head.HeadFault.{HeadFault}
@@ -11,8 +11,9 @@ use Rattle.ffv1_slice.specs.Chain.{size_before, footer_before, FooterGives, IsEn
 use Rattle.ffv1_slice.specs.Chain as chain
 use Rattle.ffv1_slice.specs.Chain.IsEnd.{last as all_of_it, before as before_link}
 use Rattle.ffv1_slice.specs.Slices as slices_of
-use Rattle.ffv1_slice.proofs.Places.{size_in, range_in}
+use Rattle.ffv1_slice.proofs.Places.{size_in, range_in, taken_on}
 use Rattle.ffv1_slice.proofs.NearLaws.{length-range, size_of_range}
+use Rattle.ffv1_slice.proofs.Links.{end_within}
 use Rattle.ffv1_holding.specs.TileState.{status_of}
 use Rattle.ffv1_holding.specs.Originals.{AreCopiesOfSlices}
 use Rattle.ffv1_holding.specs.Small.{footer, slice_size, content, error_status, FitsFooter, IsLink, IsTileSlice, IsFound, IsOriginalPayload, AreCopies}
@@ -78,17 +79,6 @@ link_from whole before slice payload (earlier {rest = rest} {other = other} link
     let at = ends_at whole rest other place within framed cut in
     link_from whole before slice rest link (length rest) (before_link is_end (cut_there whole rest other place within framed cut)) (omega arith)
     (before_there whole rest other place within framed cut)
-
-end_within : (whole : List ℕ) (place : ℕ) → IsEnd whole place → place ≤ length whole
-end_within whole place all_of_it = omega arith
-end_within whole place (before_link {q = next} is_end cut) = let below = end_within whole next is_end in omega arith
-
-taken_on : (whole : List ℕ) (from to : ℕ) → from ≤ to → take from whole ++ slice_range whole from to ≡ take to whole
-taken_on whole from to low =
-    let on : from + (to - from) ≡ to = omega arith in
-    ap (λ z. take from whole ++ z) (sym (drop-take from (to - from) whole) ∙ ap (λ n. drop from (take n whole)) on)
-    ∙ ap (λ z. z ++ drop from (take to whole)) (sym (take-take from to whole low))
-    ∙ take-append-drop from (take to whole)
 
 -- what a footer of the payload frames
 framed_there : (whole : List ℕ) (from to : ℕ) → to ≤ length whole → FooterGives whole from to → FitsFooter (slice_range whole from to)

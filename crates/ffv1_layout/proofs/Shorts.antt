@@ -1,9 +1,11 @@
 -- Slices are as long as their footers tell, at most.
-use Rattle.std.proofs.Common.{◌==◌, ℕ, ◌+◌, ◌-◌, ◌^◌, ◌<◌, ◌≤◌, Bool, true, false, if◌then◌else◌, List, [], ◌∷◌, ◌++◌, length, get_or, take, drop, refl, subst, inl, inr, arith}
+use Rattle.std.proofs.Common.{◌==◌, ℕ, ◌-◌, ◌^◌, ◌<◌, ◌≤◌, Bool, true, false, if◌then◌else◌, List, [], ◌∷◌, ◌++◌, length, get_or, drop, refl, subst, inl, inr, arith}
 use Rattle.std.specs.List.{slice_range}
 use Rattle.std.proofs.lemmas.Bool.{cases_lt, cases_order}
-use Rattle.std.proofs.lemmas.List.{get_or_append_left, get_or-append_right, get_or_past, get_or-take, get_or-drop, length-append, length-map, length-take}
+use Rattle.std.proofs.lemmas.List.{get_or_append_left, get_or-append_right, get_or_past, length-append, length-map, length-take}
 use Rattle.ffv1_bits.specs.Limits.{slice_limit}
+use Rattle.ffv1_bits.specs.Parity.{AreBytes}
+use Rattle.ffv1_bits.proofs.Bytes.{AreBytes-range}
 use Rattle.ffv1_range.specs.Setup.{RecordingValue}
 use Rattle.ffv1_slice.specs.Chain.{FooterLeads, size_of_footer}
 use Rattle.ffv1_layout.specs.Cuts.{footer_length, AreCutAt, FitFooters, AreSlicesOf}
@@ -12,22 +14,10 @@ use Rattle.ffv1_layout.specs.Layout.{listed_slice, contents_of}
 use Rattle.ffv1_layout.specs.Inner.Placing.{ArePlaced}
 use Rattle.ffv1_layout.specs.declared.layout.PlacedSlice.{PlacedSlice}
 
-abbrev AreBytes : List ℕ → Type 0
-AreBytes xs = (i : ℕ) → get_or xs i 0 < 256
-
 module _ (payload : List ℕ) (bytes : AreBytes payload) where
-  taken_bytes : (n : ℕ) (xs : List ℕ) → AreBytes xs → AreBytes (take n xs)
-  taken_bytes n xs are i = elim (cases_lt i n) [
-    | inl less ↦ rw (get_or-take n xs i 0 less) (are i)
-    | inr more ↦ rw (get_or_past (take n xs) i 0 (let le = length-take n xs in omega arith)) (omega arith)
-  ]
-
-  range_bytes : (from to : ℕ) → AreBytes (slice_range payload from to)
-  range_bytes from to = taken_bytes (to - from) (drop from payload) (λ i. rw (get_or-drop from payload i 0) (bytes (from + i)))
-
   size_small : (footer q : ℕ) → size_of_footer footer payload q < 2 ^ 24
   size_small footer q =
-      let are = range_bytes (q - footer) q in
+      let are = AreBytes-range payload (q - footer) q bytes in
       omega (arith, are 0, are 1, are 2)
 
   range_short : (footer p q : ℕ) → footer ≤ 8 → FooterLeads footer payload p q → length (slice_range payload p q) ≤ slice_limit

@@ -1,12 +1,10 @@
 -- The links of a payload whose chain is whole are the slices that it is cut into.
-use Rattle.std.proofs.Common.{◌≡◌, ℕ, zero, suc, ◌+◌, ◌-◌, ◌≤◌, List, [], ◌∷◌, ◌++◌, length, map, reverse, refl, sym, ap, subst, ◌∙◌, inl, inr, append-nil, append_assoc, arith}
-use Rattle.std.specs.Prelude.{◌⊎◌}
-use Rattle.std.proofs.lemmas.Bool.{cases_lt}
+use Rattle.std.proofs.Common.{◌≡◌, ℕ, zero, suc, ◌≤◌, List, [], ◌∷◌, ◌++◌, length, map, reverse, refl, sym, ap, subst, ◌∙◌, inl, inr, append-nil, append_assoc, arith}
 use Rattle.std.proofs.lemmas.List.{map-append, reverse-append}
-use Rattle.ffv1_slice.specs.Chain.{size_before, FooterGives, IsEnd, LinkValue, link_of}
+use Rattle.ffv1_slice.specs.Chain.{FooterGives, IsEnd, LinkValue, link_of}
 use Rattle.ffv1_slice.specs.Chain.IsEnd.{last, before}
 use Rattle.ffv1_slice.specs.Walk.{walked, links_of}
-use Rattle.ffv1_slice.proofs.Links.{walked-more, walked-none, least_end}
+use Rattle.ffv1_slice.proofs.Links.{walked-more, walked-none, cut_or_none, least_end}
 use Rattle.ffv1_layout.specs.Cuts.{AreCutAt}
 use Rattle.ffv1_layout.specs.Cuts.AreCutAt.{no_slice, one_slice}
 
@@ -14,13 +12,6 @@ abbrev bytes_of : List LinkValue → List (List ℕ)
 bytes_of links = map (λ link. link.bytes) (reverse links)
 
 module _ (payload : List ℕ) where
-  begins_or_not : (q : ℕ) → ((p : ℕ) × FooterGives payload p q) ⊎ ((p : ℕ) → FooterGives payload p q → ⊥)
-  begins_or_not q =
-      elim (cases_lt q (size_before payload q + 8)) [
-        | inl short ↦ inr (λ p cut. omega arith)
-        | inr fits ↦ inl (q - (size_before payload q + 8), omega arith)
-      ]
-
   -- A walk back from an end stops at one before which no slice ends, and the links that it gives are the slices between.
   record Stops (q : ℕ) (links : List LinkValue) : Type 0 where
     stop : ℕ
@@ -53,7 +44,7 @@ module _ (payload : List ℕ) where
   walk_stops zero q few is =
       subst (Stops q) (sym (walked-none payload zero q (λ p gives. omega arith))) (stops_here q is (λ p gives. omega arith))
   walk_stops (suc n) q few is =
-      elim (begins_or_not q) [
+      elim (cut_or_none payload q) [
         | inl some ↦
             let gives : FooterGives payload some.0 q = some.1 in
             subst (Stops q) (sym (walked-more payload n some.0 q gives))

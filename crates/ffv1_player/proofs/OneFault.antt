@@ -1,8 +1,7 @@
 -- A payload that gives no samples has one first fault.
-use Rattle.std.proofs.Common.{◌≡◌, ◌==◌, ℕ, ◌<◌, Bool, true, false, List, length, refl, sym, ap, ◌∙◌, subst, inl, inr, arith}
-use Rattle.std.specs.Prelude.{◌≢◌, ◌⊎◌, Option, None, Some, slice_index_or}
+use Rattle.std.proofs.Common.{◌≡◌, ◌==◌, ℕ, ◌<◌, false, List, length, refl, sym, ap, ◌∙◌, subst, inl, inr, arith}
+use Rattle.std.specs.Prelude.{◌≢◌, ◌⊎◌, Option, None, Some}
 use Rattle.std.proofs.lemmas.Bool.{cases_order}
-use Rattle.std.proofs.lemmas.Option.{slice_get_cases}
 use Rattle.ffv1_range.specs.Setup.{RecordingValue, IsInVersion3}
 use Rattle.ffv1_range.specs.declared.head.SliceHeader.{SliceHeader}
 use Rattle.ffv1_layout.specs.Cuts.{slice_content}
@@ -13,16 +12,15 @@ use Rattle.ffv1_layout.proofs.OneLayout.{one_layout, no_fault}
 use Rattle.ffv1_layout.proofs.OneFault as layout
 use Rattle.ffv1_samples.specs.Slices.{SlicePictureValue}
 use Rattle.ffv1_samples.specs.Faults.{IsSliceFault}
-use Rattle.ffv1_samples.specs.declared.faults.SliceFault.{SliceFault}
-use Rattle.ffv1_samples.proofs.Refusals.{refused_has_no_picture, refused_for_one}
-use Rattle.ffv1_player.specs.Frames.{LeftValue, HasEqual, is_key, BeginsWith, states_left_at, HavePictures}
+use Rattle.ffv1_samples.proofs.Refusals.{refused_for_one}
+use Rattle.ffv1_player.specs.Frames.{LeftValue, is_key, BeginsWith, states_left_at, HavePictures}
 use Rattle.ffv1_player.specs.Faults.{fault_of_layout, slice_fault, IsFirstStop, IsFirstSamplesFault}
 use Rattle.ffv1_player.specs.Fitting.{FitLast}
 use Rattle.ffv1_player.specs.declared.fault.ContentFault.{ContentFault}
 use Rattle.ffv1_player.specs.declared.fault.ContentFault.TheVariants as content_faults
 use Rattle.ffv1_player.specs.declared.fault.SamplesFault.{SamplesFault}
 use Rattle.ffv1_player.specs.declared.fault.SamplesFault.TheVariants.{Chain, Slice, Overlap, Uncovered, Previous, Content, Memory}
-use Rattle.ffv1_player.proofs.OneFrame.{before_by, content_fits, not_stopped}
+use Rattle.ffv1_player.proofs.OneFrame.{before_by, content_fits, not_stopped, not_refused}
 
 -- ---- stops
 
@@ -60,17 +58,6 @@ FaultOf r last slices headers fault = ⊥
 
 module _ (r : RecordingValue) (version : IsInVersion3 r) (last : Option (List LeftValue)) (fit : FitLast r last) (payload : List ℕ) where
   module _ (slices : List (List ℕ)) (headers : List SliceHeader) (laid_out : IsLaidOut r payload slices headers) where
-    -- a slice that has a picture has no fault
-    not_refused : (before : List LeftValue) → BeginsWith r headers last before → (pictures : List SlicePictureValue) (count place : ℕ) → HavePictures r slices before pictures count
-        → place < count → place < length slices → (fault : SliceFault)
-        → IsSliceFault r (slice_content r (listed_slice slices place)) (place == 0) (states_left_at before place) fault → ⊥
-    not_refused before begins pictures count place have less inside fault refused = elim (slice_get_cases pictures place).1 [
-      | inl some ↦
-          refused_has_no_picture r (slice_content r (listed_slice slices place)) (place == 0) (states_left_at before place) fault (slice_index_or pictures place some.0) version
-          (content_fits r version last fit payload slices headers laid_out before begins place inside) refused (have.1 place some.0 less)
-      | inr none ↦ absurd (omega (arith, none.0, less, have.0))
-    ]
-
     one_content_fault : (place other : ℕ) (cause more : ContentFault) → FaultOf r last slices headers (Content place cause)
         → FaultOf r last slices headers (Content other more) → ◌≡◌ {A = SamplesFault} (Content place cause) (Content other more)
     one_content_fault place other cause more a b =
@@ -84,8 +71,8 @@ module _ (r : RecordingValue) (version : IsInVersion3 r) (last : Option (List Le
               ∙ ap (Content other) (one_content cause more
               (refused_for_one r (slice_content r (listed_slice slices other)) (other == 0) (states_left_at a.0 other) (slice_fault cause) (slice_fault more) version
               (content_fits r version last fit payload slices headers laid_out a.0 a.1 other b.3) here refused))
-          | inr (inl less) ↦ absurd (not_refused a.0 a.1 b.2.0 other place have less a.3 (slice_fault cause) a.4)
-          | inr (inr less) ↦ absurd (not_refused a.0 a.1 a.2.0 place other a.2.1 less b.3 (slice_fault more) refused)
+          | inr (inl less) ↦ absurd (not_refused r version last fit payload slices headers laid_out a.0 a.1 b.2.0 other place have less a.3 (slice_fault cause) a.4)
+          | inr (inr less) ↦ absurd (not_refused r version last fit payload slices headers laid_out a.0 a.1 a.2.0 place other a.2.1 less b.3 (slice_fault more) refused)
         ]
 
     one_later : (fault other : SamplesFault) → FaultOf r last slices headers fault → FaultOf r last slices headers other → fault ≡ other

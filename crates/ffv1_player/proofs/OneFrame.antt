@@ -95,12 +95,13 @@ module _ (r : RecordingValue) (version : IsInVersion3 r) (last : Option (List Le
             | inr more ↦ absurd (omega (arith, more.1, goes.1.0))
           ]
 
-  not_refused : (pictures : List SlicePictureValue) → HavePictures r slices before pictures (length slices) → (place : ℕ) → place < length slices
+  -- a slice that has a picture has no fault
+  pub not_refused : (pictures : List SlicePictureValue) (count place : ℕ) → HavePictures r slices before pictures count → place < count → place < length slices
       → (fault : SliceFault) → IsSliceFault r (slice_content r (listed_slice slices place)) (place == 0) (states_left_at before place) fault → ⊥
-  not_refused pictures have place less fault refused = elim (slice_get_cases pictures place).1 [
+  not_refused pictures count place have less inside fault refused = elim (slice_get_cases pictures place).1 [
     | inl some ↦
         refused_has_no_picture r (slice_content r (listed_slice slices place)) (place == 0) (states_left_at before place) fault (slice_index_or pictures place some.0) version
-        (content_fits place less) refused (have.1 place some.0 less)
+        (content_fits place inside) refused (have.1 place some.0 less)
     | inr none ↦ absurd (omega (arith, none.0, less, have.0))
   ]
 
@@ -151,5 +152,5 @@ module _ (r : RecordingValue) (version : IsInVersion3 r) (last : Option (List Le
       let refused = subst (λ before. IsSliceFault r (slice_content r (listed_slice h.slices place)) (place == 0) (states_left_at before place) (slice_fault cause)) same
       (subst (λ slices. IsSliceFault r (slice_content r (listed_slice slices place)) (place == 0) (states_left_at f.3.0 place) (slice_fault cause)) e.0 f.3.4) in
       let inside : place < length h.slices = subst (λ slices. place < length slices) e.0 f.3.3 in
-      absurd (not_refused r version last fit payload h.slices h.headers h.laid_out h.before h.begins h.pictures h.have place inside (slice_fault cause) refused)
+      absurd (not_refused r version last fit payload h.slices h.headers h.laid_out h.before h.begins h.pictures (length h.slices) place h.have inside inside (slice_fault cause) refused)
   refused_has_no_frame Memory f = refl

@@ -1,23 +1,25 @@
 -- One range more of a scan.
-use Rattle.std.proofs.Common.{◌≡◌, ℕ, ◌+◌, ◌-◌, ◌<◌, ◌≤◌, Bool, true, ◌&&◌, List, [], ◌∷◌, ◌++◌, length, get_or, drop, take, arith, refl, sym, ap, subst, ◌∙◌, inl, inr, ⊎_elim, append_assoc, append-nil, length-append, length-drop, Ok, Err, suc}
+use Rattle.std.proofs.Common.{◌≡◌, cond, count_by, ℕ, ◌+◌, ◌-◌, ◌<◌, ◌≤◌, Bool, true, ◌&&◌, List, [], ◌∷◌, ◌++◌, length, get_or, drop, take, arith, refl, sym, ap, subst, ◌∙◌, inl, inr, ⊎_elim, append_assoc, append-nil, length-append, length-drop, Ok, Err, suc}
 use Rattle.std.proofs.Math.Seq.{drop-append_seam, take-length, drop-cons}
 use Rattle.std.proofs.lemmas.List.{drop-append-le, take-append-le, take-append-drop, length-take-le}
 use Rattle.std.proofs.lemmas.List.Folds.{list_all-append}
 use Rattle.std.proofs.Math.Bool.{and-true}
 use Rattle.std.specs.List.{list_all}
 use Rattle.std.specs.Io.KnownBytes.{IsAtEnd}
+use Rattle.std.proofs.lemmas.List.Sums.{sum_by-cons}
 use Rattle.ffv1_devices.specs.Logs.{ReadLog, WriteLog, Reads, BreaksOff, Writes, StopsWriting}
 use Rattle.ffv1_devices.specs.declared.exact.NextFault.{NextFault}
 use Rattle.ffv1_devices.specs.declared.exact.NextFault.TheVariants as nexts
 use Rattle.ffv1_devices.specs.Exact.{ReadsNext}
 use Rattle.ffv1_devices.proofs.ExactSteps.{EndsBefore-after}
 use Rattle.ffv1_devices.proofs.Steps.{Reads-nil, Reads-trans, BreaksOff-after, Writes-nil, Writes-trans, StopsWriting-after}
+use Rattle.ffv1_slice.specs.Chain.{LinkValue}
 use Rattle.ffv1_scan.specs.declared.ranges.ByteRange.{ByteRange}
 use Rattle.ffv1_scan.specs.declared.verdict.Verdict.{Verdict}
 use Rattle.ffv1_scan.specs.declared.scanning.ScanFault.{ScanFault}
 use Rattle.ffv1_scan.specs.declared.scanning.ScanFault.TheVariants as faults
 use Rattle.ffv1_scan.specs.Ranges.{Rises, ranges_end}
-use Rattle.ffv1_scan.specs.Verdicts.{IsVerdictOf, bytes_in, AreVerdictsOf, is_undamaged, verdict_line, verdict_lines}
+use Rattle.ffv1_scan.specs.Verdicts.{is_passing, IsVerdictOf, bytes_in, AreVerdictsOf, is_undamaged, verdict_line, verdict_lines}
 use Rattle.ffv1_scan.specs.Scans.{ScansFront, ScansRanges}
 use Rattle.ffv1_scan.specs.Inner.Steps.{JudgesNext, LineStops}
 use Rattle.ffv1_scan.specs.Steps.{scan_fault}
@@ -295,3 +297,8 @@ parted_at ranges i d lt = sym (take-append-drop i ranges) ∙ ap (λ (rs : List 
 
 pub number_at : (ranges : List ByteRange) (i : ℕ) → i < length ranges → i + 1 ≡ length (take i ranges) + 1
 number_at ranges i lt = omega (arith, length-take-le i ranges (omega arith))
+
+-- the passing ones of links are those after the first one, and this one, if it passes
+pub first_counted : {passing : Bool} {all links : List LinkValue} {link : LinkValue} → passing ≡ is_passing link → all ≡ link ∷ links
+    → count_by is_passing all ≡ cond passing 1 0 + count_by is_passing links
+first_counted {links = links} {link = link} is split = rw (split, is) (sum_by-cons (λ l. cond (is_passing l) 1 0) link links)

@@ -49,7 +49,7 @@ walked-none c (suc n) q h =
     (λ t. let fits : size_before c q + 8 ≤ q = leb-true (size_before c q + 8) q t in absurd (h (q - (size_before c q + 8)) (omega arith)))
     (λ f. refl)
 
-cut_or_none : (c : List ℕ) (q : ℕ) → ((p : ℕ) × FooterGives c p q) ⊎ ((p : ℕ) → FooterGives c p q → ⊥)
+pub cut_or_none : (c : List ℕ) (q : ℕ) → ((p : ℕ) × FooterGives c p q) ⊎ ((p : ℕ) → FooterGives c p q → ⊥)
 cut_or_none c q =
     elim (cases_lt q (size_before c q + 8)) [
       | inl short ↦ inr (λ p cut. omega arith)
@@ -140,12 +140,15 @@ are_links c =
 
 -- ---- where no slice ends is the least end
 
-same_cut : (c : List ℕ) (p t q : ℕ) → FooterGives c p q → FooterGives c t q → p ≡ t
+pub same_cut : (c : List ℕ) (p t q : ℕ) → FooterGives c p q → FooterGives c t q → p ≡ t
 same_cut c p t q h k = omega arith
 
 ends_below : (c : List ℕ) (top e : ℕ) → EndsFrom c top e → e ≤ top
 ends_below c top e here = omega arith
 ends_below c top e (more {q = q} r cut) = omega (arith, ends_below c top q r)
+
+pub end_within : (c : List ℕ) (e : ℕ) → IsEnd c e → e ≤ length c
+end_within c e h = ends_below c (length c) e (from_end c e h)
 
 -- of two ends one is reached from the other
 linear : (c : List ℕ) (top a b : ℕ) → EndsFrom c top a → EndsFrom c top b → EndsFrom c a b ⊎ EndsFrom c b a

@@ -1,11 +1,10 @@
 -- Copies near the frame of two slices, and one that is not.
-use Rattle.std.proofs.Common.{◌≡◌, ℕ, suc, zero, ◌<◌, ltb, true, false, List, [], ◌∷◌, ◌++◌, length, Ok, get_or, refl, ap, ◌∙◌, arith, inl, inr}
+use Rattle.std.proofs.Common.{◌≡◌, ℕ, suc, zero, ◌<◌, true, false, List, [], ◌∷◌, ◌++◌, length, Ok, get_or, refl, ap, ◌∙◌, arith, inl, inr}
 use Rattle.std.specs.Prelude.{◌⊎◌, ◌==◌}
-use Rattle.std.specs.List.{list_all}
-use Rattle.std.proofs.lemmas.Bool.{and_parts, ltb-true}
 use Rattle.ffv1_bits.specs.Bits.{number_bits, bits_of}
 use Rattle.ffv1_bits.specs.Parity.{polynomial_of, divided, remainder_of, AreBytes, DifferWithin32, PassesParity}
 use Rattle.ffv1_bits.proofs.Burst.{burst}
+use Rattle.ffv1_bits.proofs.Bytes.{bytes_by_test}
 use Rattle.ffv1_range.specs.Setup.{SetupValue}
 use Rattle.ffv1_range.specs.TileHeaders.{TileRules, profile_rules}
 use Rattle.ffv1_range.specs.Coding.{bit_at, slot_at, start_of}
@@ -16,11 +15,6 @@ use Rattle.ffv1_slice.specs.Slices.{IsSliceOf, IsFoundIn, IsOriginal, slice_read
 use Rattle.ffv1_slice.specs.Near.{starts_at, version_at, IsDamagedWithin32, IsNear, IsIntactIn}
 use Rattle.ffv1_slice.proofs.SliceLaws.{slice_found}
 use Rattle.ffv1_slice.proofs.NearLaws.{near_found}
-
-bytes_from : (xs : List ℕ) → list_all (λ b. ltb b 256) xs ≡ true → AreBytes xs
-bytes_from [] h i = omega arith
-bytes_from (x ∷ xs) h zero = ltb-true x 256 (and_parts (ltb x 256) (list_all (λ b. ltb b 256) xs) h).0
-bytes_from (x ∷ xs) h (suc i) = bytes_from xs (and_parts (ltb x 256) (list_all (λ b. ltb b 256) xs) h).1 i
 
 -- the slices of a frame of two tiles side by side
 abbrev pub first_slice : List ℕ
@@ -71,8 +65,8 @@ marked_passes = (omega arith, refl)
 
 not_within_32 : (at : ℕ) → DifferWithin32 first_slice marked_slice at → ⊥
 not_within_32 at differ =
-    let same : first_slice ≡ marked_slice = burst first_slice marked_slice at (bytes_from first_slice refl)
-    (bytes_from marked_slice refl) differ first_passes marked_passes in
+    let same : first_slice ≡ marked_slice = burst first_slice marked_slice at (bytes_by_test first_slice refl)
+    (bytes_by_test marked_slice refl) differ first_passes marked_passes in
     let status : get_or first_slice 6 0 ≡ get_or marked_slice 6 0 = ap (λ (s : List ℕ). get_or s 6 0) same in
     absurd (omega arith)
 
@@ -117,7 +111,7 @@ near_by : (copy : List ℕ) → AreBytes copy → length copy ≡ length frame
     → (version_at slices copy 0 ≡ first_slice) ⊎ IsDamagedWithin32 first_slice (version_at slices copy 0)
     → (version_at slices copy 1 ≡ second_slice) ⊎ IsDamagedWithin32 second_slice (version_at slices copy 1) → IsNear rules frame slices copy
 near_by copy bytes size first second =
-    record { is_original = is_original; original_bytes = bytes_from frame refl; copy_bytes = bytes; same_length = size; each = each }
+    record { is_original = is_original; original_bytes = bytes_by_test frame refl; copy_bytes = bytes; same_length = size; each = each }
   where
     each : (tile : ℕ) (d : List ℕ) → tile < 2 → (version_at slices copy tile ≡ get_or slices tile d)
         ⊎ IsDamagedWithin32 (get_or slices tile d) (version_at slices copy tile)
@@ -127,11 +121,11 @@ near_by copy bytes size first second =
 
 pub near : IsNear rules frame slices damaged_frame
 unfolding starts_at
-near = near_by damaged_frame (bytes_from damaged_frame refl) refl (inr damaged) (inl refl)
+near = near_by damaged_frame (bytes_by_test damaged_frame refl) refl (inr damaged) (inl refl)
 
 pub other_near : IsNear rules frame slices other_frame
 unfolding starts_at
-other_near = near_by other_frame (bytes_from other_frame refl) refl (inl refl) (inr other_damaged)
+other_near = near_by other_frame (bytes_by_test other_frame refl) refl (inl refl) (inr other_damaged)
 
 -- each copy has one slice intact
 pub second_intact : IsIntactIn slices damaged_frame 1 second_slice

@@ -3,7 +3,7 @@ use Rattle.std.proofs.Common.{◌≡◌, ℕ, suc, zero, ◌+◌, ◌-◌, ◌<�
 use Rattle.std.specs.Prelude.{◌==◌, slice_range}
 use Rattle.std.specs.List.{flat_map}
 use Rattle.std.proofs.Math.Seq.{drop-append-add, drop-append_seam, take-append_seam}
-use Rattle.std.proofs.lemmas.List.{append-nil, drop-append-le, take-append-le, take_more, length-append, length-drop}
+use Rattle.std.proofs.lemmas.List.{append-nil, drop-append-le, take-append-le, take_more, take-take, drop-take, length-append, length-drop}
 use Rattle.std.proofs.lemmas.Grind.{flat_map-append}
 use Rattle.std.proofs.lemmas.Bool.{ne_eqb}
 use Rattle.byteorder.specs.Endian.{big_number}
@@ -123,3 +123,11 @@ module _ (payload : List ℕ) (slices : List (List ℕ)) (is : FooterGivesAt pay
       let number : suc k ≡ k + 1 = omega arith in
       let same : starts_at slices (suc k) ≡ starts_at slices (k + 1) = ap (starts_at slices) number in
       ne_eqb (starts_at slices (suc k)) 0 (λ e. omega arith) ∙ sym (ne_eqb (suc k) 0 (λ e. omega arith))
+
+-- what stands before a place, with what stands between it and a later one
+pub taken_on : (whole : List ℕ) (from to : ℕ) → from ≤ to → take from whole ++ slice_range whole from to ≡ take to whole
+taken_on whole from to low =
+    let on : from + (to - from) ≡ to = omega arith in
+    ap (λ z. take from whole ++ z) (sym (drop-take from (to - from) whole) ∙ ap (λ n. drop from (take n whole)) on)
+    ∙ ap (λ z. z ++ drop from (take to whole)) (sym (take-take from to whole low))
+    ∙ take-append-drop from (take to whole)

@@ -1,5 +1,6 @@
 -- The links of an original, and divisions whose places are links.
-use Rattle.ffv1_splice.proofs.Common.{◌≡◌, ℕ, suc, ◌+◌, ◌-◌, ◌<◌, ◌≤◌, List, ◌∷◌, length, get_or, map, refl, sym, ap, ◌∙◌, subst, arith, inl, inr, All, slice_range, take_all, All-nil, All-cons, cases_lt, size_before, FooterGives, IsEnd, IsLinkOf, LinkValue, link_of, last, before, walked, walked-more, walked-none, walked-fuel, least_end, IsOfTwo, IsPiece, StandsAs, IsStop, SplicedValue, LieFrom, AreConsistentWith, Standing, Settled, Woven, Voted, Repaired, Disputed, Missing, Undivided, Place}
+use Rattle.ffv1_slice.proofs.Links.{same_cut}
+use Rattle.ffv1_splice.proofs.Common.{◌≡◌, ℕ, suc, ◌+◌, ◌-◌, ◌<◌, ◌≤◌, List, ◌∷◌, length, get_or, map, refl, sym, ap, ◌∙◌, subst, arith, inl, inr, All, slice_range, take_all, All-nil, All-cons, cases_lt, size_before, FooterGives, IsEnd, IsLinkOf, LinkValue, link_of, before, walked, walked-more, walked-none, walked-fuel, least_end, IsOfTwo, IsPiece, StandsAs, IsStop, SplicedValue, LieFrom, AreConsistentWith, Standing, Settled, Woven, Voted, Repaired, Disputed, Missing, Undivided, Place}
 use Rattle.ffv1_splice.proofs.PlaceSteps.{unwoven_weave}
 use Rattle.ffv1_splice.proofs.OneDivision.{woven_unsettled, missing_unsettled}
 use Rattle.ffv1_splice.proofs.Walks.{IsSpliceBefore}
@@ -8,10 +9,6 @@ use Rattle.ffv1_splice.proofs.SameBytes.{same_down}
 
 -- ---- the links of an original
 
-pub end_within : (original : List ℕ) (end : ℕ) → IsEnd original end → end ≤ length original
-end_within original end last = omega arith
-end_within original end (before {q = q} h cut) = omega (arith, end_within original q h)
-
 -- a link ends at each end after the first byte
 pub link_at : (original : List ℕ) → IsEnd original 0 → (end : ℕ) → IsEnd original end → 0 < end → (start : ℕ) × FooterGives original start end
 link_at original whole end is_end after =
@@ -19,9 +16,6 @@ link_at original whole end is_end after =
       | inl short ↦ absurd (omega (arith, least_end original end is_end (λ p cut. omega arith) 0 whole))
       | inr fits ↦ (end - (size_before original end + 8), omega arith)
     ]
-
-pub same_cut : (original : List ℕ) (s t end : ℕ) → FooterGives original s end → FooterGives original t end → s ≡ t
-same_cut original s t end h k = omega arith
 
 -- ---- a division whose places are links
 

@@ -1,6 +1,6 @@
 -- An original that is cut to the bytes from one end of its slices up to another, and its copies that are cut there too.
+use Rattle.ffv1_slice.proofs.Links.{end_within, same_cut}
 use Rattle.ffv1_splice.proofs.Common.{◌≡◌, ℕ, ◌+◌, ◌-◌, ◌<◌, ◌≤◌, List, [], ◌∷◌, length, map, sym, ap, ◌∙◌, subst, arith, refl, inl, inr, ◌⊎◌, ◌↔◌, All, Contains, slice_range, All-head, All-tail, PassesParity, AreBytes-range, FooterGives, IsEnd, IsLinkOf, link_of, last, before, IsOfTwo, IsDamagedWithin32, walked, walk_at, walked-none, turn_some, length-range, HasContent, IsClaimedStart, versions_at, LieFrom, AreCopiesOf, AreConsistentWith, IsTriedAt, AreWeavable, IsUndamaged, IsNearCopy, AreNearCopies, IsIntactInSome, Place}
-use Rattle.ffv1_splice.proofs.DividedLinks.{end_within, same_cut}
 use Rattle.ffv1_splice.proofs.Versions.{version_there, version_of}
 use Rattle.ffv1_splice.proofs.Narrowed.{range_of_range, cut_out, cut_in, versions_of_versions, piece_out, claim_in, claim_out}
 

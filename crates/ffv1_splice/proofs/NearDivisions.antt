@@ -1,7 +1,8 @@
 -- The pieces and claimed starts of copies that are near an original, and how they are divided.
+use Rattle.ffv1_slice.proofs.Links.{end_within, same_cut}
 use Rattle.ffv1_splice.proofs.Common.{◌≡◌, ℕ, ◌+◌, ◌<◌, ◌≤◌, List, length, get_or, sym, ap, ◌∙◌, subst, arith, inl, inr, Contains, slice_range, PassesParity, burst, AreBytes-range, size_before, FooterGives, IsEnd, IsLinkOf, link_of, last, same_size_field, length-range, size_of_range, HasContent, IsPiece, IsClaimedStart, StandsAs, IsStop, SplicedValue, IsDivisionOf, AreCopiesOf, AreConsistentWith, AreConsistentFromBelow, IsAmong, IsTriedAt, AreWeavable, IsUndamaged, IsIntact, IsNearCopy, AreNearCopies, IsIntactInSome, IsNearSplice, Standing, Settled, Woven, Voted, Repaired, Disputed, Missing, Undivided}
 use Rattle.ffv1_splice.proofs.PlaceSteps.{unwoven_weave}
-use Rattle.ffv1_splice.proofs.DividedLinks.{end_within, link_at, same_cut, AreLinkPlaces, link_places, settled_link, settled_where}
+use Rattle.ffv1_splice.proofs.DividedLinks.{link_at, AreLinkPlaces, link_places, settled_link, settled_where}
 use Rattle.ffv1_splice.proofs.Walks.{division_walk}
 
 -- ---- a near copy is cut where the original is

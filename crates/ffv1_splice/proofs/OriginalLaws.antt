@@ -1,8 +1,9 @@
 -- The splice of copies of which no piece contradicts an original.
+use Rattle.ffv1_slice.proofs.Links.{end_within}
 use Rattle.ffv1_splice.proofs.Common.{◌≡◌, ℕ, ◌+◌, ◌-◌, ◌<◌, ◌≤◌, List, [], ◌∷◌, length, get_or, sym, ap, ◌∙◌, subst, arith, inl, inr, All, slice_range, All-nil, All-cons, All-head, All-tail, All-append, All-weaker, cases_lt, FooterGives, IsEnd, IsLinkOf, LinkValue, link_of, last, before, HasContent, IsClaimedStart, PieceFrom, versions_at, SplicedValue, LieFrom, RiseFrom, IsSettledDown, IsSettledUp, IsCrossed, Crossing, AreCrossings, crossing_places, IsSpliceOf, moved_by, AreCopiesOf, AreConsistentWith, AreConsistentFromBelow, HaveEachLink, IsSplicedOriginal, OriginalIsSpliced, SettledIsOriginal, IsItsLink, SettledWalksAreOriginal, IsLinkIfSettled, WalkAcrossIsOriginal, Settled, Place}
 use Rattle.ffv1_splice.proofs.BoundSteps.{bound_within}
 use Rattle.ffv1_splice.proofs.Walks.{front_below}
-use Rattle.ffv1_splice.proofs.DividedLinks.{end_within, link_at, AreLinkPlaces, agree_one}
+use Rattle.ffv1_splice.proofs.DividedLinks.{link_at, AreLinkPlaces, agree_one}
 use Rattle.ffv1_splice.proofs.NarrowedOriginal.{next_end, link_out, links_of_places}
 use Rattle.ffv1_splice.proofs.Narrowed.{claim_in}
 use Rattle.ffv1_splice.proofs.Crossings.{crossed_rising, crossed_within, crossed_unsettled}

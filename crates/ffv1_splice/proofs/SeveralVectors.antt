@@ -1,6 +1,7 @@
 -- Two copies of a slice, of which one is damaged in its first byte, and the other in its size field, so that they claim two starts: it is
 -- woven from the one at which it begins.
-use Rattle.ffv1_splice.proofs.Common.{◌≡◌, ℕ, zero, suc, ◌<◌, true, List, [], ◌∷◌, length, get_or, map, replicate, refl, sym, ap, ◌∙◌, subst, arith, inl, inr, ltb, ltb-true, ◌⊎◌, Contains, slice_range, list_all, and_parts, ext_get_or, number_bits, bits_of, AreBytes, PassesParity, polynomial_of, divided, remainder_of, FooterGives, IsOfNone, splits, IsSegment, IsCombinationBy, IsTriedBy, IsWeaveOf, woven, missing, Slice, tried_combination, IsPiece, IsClaimedStart, versions_at, sized, StandsAs, Woven}
+use Rattle.ffv1_bits.proofs.Bytes.{bytes_by_test}
+use Rattle.ffv1_splice.proofs.Common.{◌≡◌, ℕ, zero, suc, ◌<◌, List, [], ◌∷◌, length, get_or, map, replicate, refl, sym, ap, ◌∙◌, subst, arith, inl, inr, ◌⊎◌, Contains, slice_range, ext_get_or, number_bits, bits_of, AreBytes, PassesParity, polynomial_of, divided, remainder_of, FooterGives, IsOfNone, splits, IsSegment, IsCombinationBy, IsTriedBy, IsWeaveOf, woven, missing, Slice, tried_combination, IsPiece, IsClaimedStart, versions_at, sized, StandsAs, Woven}
 use Rattle.ffv1_slice.proofs.NearVectors as vectors
 use Rattle.ffv1_splice.proofs.FirstSlices.{same_inside}
 use Rattle.ffv1_splice.proofs.SeveralSteps.{zeros_anywhere}
@@ -140,14 +141,9 @@ missing_of_later = (λ bytes valid. later_fails (subst PassesParity (twice_one l
 
 -- ---- from both
 
-pub bytes_by : (xs : List ℕ) → list_all (λ b. ltb b 256) xs ≡ true → AreBytes xs
-bytes_by [] h i = omega arith
-bytes_by (x ∷ xs) h zero = ltb-true x 256 (and_parts (ltb x 256) (list_all (λ b. ltb b 256) xs) h).0
-bytes_by (x ∷ xs) h (suc i) = bytes_by xs (and_parts (ltb x 256) (list_all (λ b. ltb b 256) xs) h).1 i
-
 are_bytes : (copy : List ℕ) → Contains damaged_copies copy → AreBytes copy
-are_bytes copy (zero, lt, is) = subst AreBytes is (bytes_by damaged_first refl)
-are_bytes copy (suc zero, lt, is) = subst AreBytes is (bytes_by damaged_size refl)
+are_bytes copy (zero, lt, is) = subst AreBytes is (bytes_by_test damaged_first refl)
+are_bytes copy (suc zero, lt, is) = subst AreBytes is (bytes_by_test damaged_size refl)
 are_bytes copy (suc (suc k), lt, is) = absurd (omega arith)
 
 -- how many combinations were tried from each place

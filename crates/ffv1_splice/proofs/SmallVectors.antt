@@ -4,7 +4,8 @@ use Rattle.ffv1_splice.proofs.Common.{◌≡◌, ℕ, zero, suc, List, [], ◌�
 use Rattle.ffv1_slice.proofs.NearVectors as vectors
 use Rattle.ffv1_splice.specs.Small.{PassesAsSlice, IsJoinedOf, IsPieceAt, IsSettledAt, IsClaimedAbove, IsWovenAt, IsNearAt, IsSplicedFrom}
 use Rattle.ffv1_splice.proofs.Vectors.{copies}
-use Rattle.ffv1_splice.proofs.SeveralVectors.{damaged_copies, damaged_stands, bytes_by}
+use Rattle.ffv1_splice.proofs.SeveralVectors.{damaged_copies, damaged_stands}
+use Rattle.ffv1_bits.proofs.Bytes.{bytes_by_test}
 use Rattle.ffv1_splice.proofs.SmallNear.{near_copies_settle}
 use Rattle.ffv1_splice.proofs.SmallSplices.{settled_is_spliced}
 use Rattle.ffv1_splice.proofs.SmallWoven.{stands_small}
@@ -52,26 +53,26 @@ IsNearVersion slice version = AreBytes version × ((version ≡ slice) ⊎ IsDam
 
 first_near : IsNearAt copies 0 vectors.first_slice
 unfolding number_bits bits_of
-first_near = record { passes = first_passes; bytes = bytes_by vectors.first_slice refl; near = near }
+first_near = record { passes = first_passes; bytes = bytes_by_test vectors.first_slice refl; near = near }
   where
     near : (version : List ℕ) → Contains (versions_at copies 0 11) version → IsNearVersion vectors.first_slice version
     near version (zero, lt, is) =
         subst (IsNearVersion vectors.first_slice) is (
-          bytes_by (slice_range vectors.damaged_frame 0 11) refl,
+          bytes_by_test (slice_range vectors.damaged_frame 0 11) refl,
           inr (record { at = 0; differ = record { same_length = refl; front = refl; back = refl }; size = refl }),
         )
-    near version (suc zero, lt, is) = subst (IsNearVersion vectors.first_slice) is (bytes_by vectors.first_slice refl, inl refl)
+    near version (suc zero, lt, is) = subst (IsNearVersion vectors.first_slice) is (bytes_by_test vectors.first_slice refl, inl refl)
     near version (suc (suc k), lt, is) = absurd (omega arith)
 
 second_near : IsNearAt copies 11 vectors.second_slice
 unfolding number_bits bits_of
-second_near = record { passes = second_passes; bytes = bytes_by vectors.second_slice refl; near = near }
+second_near = record { passes = second_passes; bytes = bytes_by_test vectors.second_slice refl; near = near }
   where
     near : (version : List ℕ) → Contains (versions_at copies 11 22) version → IsNearVersion vectors.second_slice version
-    near version (zero, lt, is) = subst (IsNearVersion vectors.second_slice) is (bytes_by vectors.second_slice refl, inl refl)
+    near version (zero, lt, is) = subst (IsNearVersion vectors.second_slice) is (bytes_by_test vectors.second_slice refl, inl refl)
     near version (suc zero, lt, is) =
         subst (IsNearVersion vectors.second_slice) is (
-          bytes_by (slice_range vectors.other_frame 11 22) refl,
+          bytes_by_test (slice_range vectors.other_frame 11 22) refl,
           inr (record { at = 56; differ = record { same_length = refl; front = refl; back = refl }; size = refl }),
         )
     near version (suc (suc k), lt, is) = absurd (omega arith)

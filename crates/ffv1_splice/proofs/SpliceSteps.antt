@@ -1,5 +1,5 @@
 -- The splice, place after place from the end.
-use Rattle.ffv1_splice.proofs.Common.{◌≡◌, ℕ, ◌+◌, ◌<◌, ◌≤◌, List, [], ◌∷◌, ◌++◌, Bor, length, take, drop, get_or, map, sym, ap, ◌∙◌, arith, drop-append_seam, append-nil, append_assoc, length-append, length-drop, length-take-le, drop_all, take_all, IsLeast, StandsAs, IsStop, written, length_at, HasOneLength, Place, value_at, length-values_of}
+use Rattle.ffv1_splice.proofs.Common.{◌≡◌, ℕ, ◌+◌, ◌<◌, ◌≤◌, List, [], ◌∷◌, ◌++◌, Bor, length, take, drop, get_or, map, sym, ap, ◌∙◌, arith, drop-append_seam, append-nil, append_assoc, length-append, length-drop, length-take-le, IsLeast, StandsAs, IsStop, written, length_at, HasOneLength, Place, value_at, length-values_of}
 use Rattle.ffv1_splice.proofs.Walks.{IsSpliceBefore}
 use Rattle.ffv1_splice.proofs.Walks.IsSpliceBefore.{stops, goes}
 
@@ -14,10 +14,6 @@ pub drop-written : (payload : List ℕ) (start : ℕ) (bytes : List ℕ) → sta
 drop-written payload start bytes h =
     let front : length (take start payload) ≡ start = length-take-le start payload (omega arith) in
     ap (λ n. drop n (written payload start bytes)) (sym front) ∙ drop-append_seam (take start payload) (bytes ++ drop (start + length bytes) payload)
-
--- what is written through a vector's slice is what the vector holds
-pub put_back : (len : ℕ) (new items : List ℕ) → len ≡ length items → length new ≡ length items → take len (new ++ drop (length new) items) ≡ new
-put_back len new items l n = grind (arith, drop_all, append-nil, take_all)
 
 -- ---- a turn
 

@@ -1,6 +1,6 @@
 -- When a link's slice is among the combinations that are tried there.
+use Rattle.ffv1_slice.proofs.Links.{end_within}
 use Rattle.ffv1_splice.proofs.Common.{◌≡◌, ℕ, ◌+◌, ◌-◌, ◌≤◌, List, length, map, refl, sym, ◌∙◌, subst, arith, Contains, slice_range, FooterGives, IsLinkOf, length-range, IsCombination, are_among_tried, few_changed, AllReach, HasContent, IsClaimedStart, versions_at, sized, LinksAreTried}
-use Rattle.ffv1_splice.proofs.DividedLinks.{end_within}
 use Rattle.ffv1_splice.proofs.FirstSlices.{combination_claim}
 use Rattle.ffv1_splice.proofs.Narrowed.{versions_of_versions, claim_out}
 use Rattle.ffv1_splice.proofs.SizedCombinations.{sized_placewise, sized_combination, sized_each_byte}

@@ -1,11 +1,11 @@
 -- Copies that are near the slices of a setup are near copies; two of the frame of two slices, of which each has one slice intact, are
 -- spliced to the frame; zeros, which read as a row of slices without content, have no places; a slice whose size field is lost in both
 -- copies is woven from the front; and places are written in words.
-use Rattle.ffv1_splice.proofs.Common.{◌≡◌, ℕ, zero, suc, ◌+◌, ◌-◌, ◌<◌, ◌≤◌, Bool, List, [], ◌∷◌, length, get_or, map, drop, replicate, refl, sym, ap, ◌∙◌, subst, arith, inl, inr, ◌⊎◌, ◌==◌, Contains, codes, slice_range, digits, nat_cmp, slice_cmp, ext_get_or, length-take, take-replicate, drop-replicate, All-nil, number_bits, bits_of, AreBytes, PassesParity, polynomial_of, divided, remainder_of, TileRules, size_before, FooterGives, IsEnd, IsLinkOf, IsSliceOf, IsOriginal, starts_at, version_at, IsDamagedWithin32, IsNear, starts_none, FooterGivesAt, end_of_tile, tile_of_cut, original_cut, bytes_of_tile, length-range, size_of_range, splits, IsCombinationBy, HasFew, IsTriedBy, AreFew, HasContent, IsLeast, versions_at, sized, StandsAs, IsStop, SplicedValue, IsSettledDown, IsSettledUp, IsDivisionOf, IsSpliceOf, IsUndamaged, IsIntact, IsNearCopy, AreNearCopies, IsIntactInSome, standing_word, place_words, Woven, Voted, Repaired}
+use Rattle.ffv1_splice.proofs.Common.{◌≡◌, ℕ, zero, suc, ◌+◌, ◌-◌, ◌<◌, ◌≤◌, List, [], ◌∷◌, length, get_or, map, drop, replicate, refl, sym, ap, ◌∙◌, subst, arith, inl, inr, ◌⊎◌, ◌==◌, Contains, codes, slice_range, digits, nat_cmp, slice_cmp, ext_get_or, take-replicate, drop-replicate, All-nil, number_bits, bits_of, AreBytes, PassesParity, polynomial_of, divided, remainder_of, TileRules, size_before, FooterGives, IsEnd, IsLinkOf, IsOriginal, starts_at, version_at, IsDamagedWithin32, IsNear, starts_none, FooterGivesAt, end_of_tile, tile_of_cut, original_cut, bytes_of_tile, length-range, size_of_range, splits, IsCombinationBy, HasFew, IsTriedBy, AreFew, HasContent, IsLeast, versions_at, sized, StandsAs, IsStop, SplicedValue, IsSettledDown, IsSettledUp, IsDivisionOf, IsSpliceOf, IsUndamaged, IsIntact, IsNearCopy, AreNearCopies, IsIntactInSome, standing_word, place_words, Woven, Voted, Repaired}
 use Rattle.ffv1_slice.proofs.NearVectors as vectors
 use Rattle.ffv1_slice.proofs.SliceFacts.{slice_filled}
+use Rattle.ffv1_slice.proofs.Links.{end_within}
 use Rattle.ffv1_splice.specs.Laws as laws
-use Rattle.ffv1_splice.proofs.DividedLinks.{end_within}
 use Rattle.ffv1_splice.proofs.NearCopies.{near_copies_splice}
 
 -- ---- slices of a setup

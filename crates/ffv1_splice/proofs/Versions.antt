@@ -1,13 +1,9 @@
 -- What copies have between two places.
-use Rattle.ffv1_splice.proofs.Common.{◌≡◌, ℕ, ◌+◌, ◌-◌, ◌*◌, ◌/◌, ◌%◌, ◌<◌, ◌≤◌, List, [], ◌∷◌, ◌++◌, Bor, length, get_or, take, map, sym, ap, ◌∙◌, subst, arith, All, Contains, bit_xor, slice_range, get_or-map, length-map, take_more, Contains-get_or, length-range, HasSameMembers, HaveLength, woven, inverted, IsRepair, length-written, mapped_there, mapped_of, same_mapped, AllReach, versions_at, IsWeaveAt, IsVoteAt, IsRepairAt, value_at, length-values_of, value_there}
-use Rattle.std.specs.Prelude.{◌^◌}
+use Rattle.ffv1_weave.proofs.OneBit.{length-inverted}
+use Rattle.ffv1_splice.proofs.Common.{◌≡◌, ℕ, ◌+◌, ◌-◌, ◌<◌, ◌≤◌, List, [], ◌∷◌, ◌++◌, Bor, length, get_or, take, map, sym, ap, ◌∙◌, subst, arith, All, Contains, slice_range, get_or-map, length-map, take_more, Contains-get_or, length-range, HasSameMembers, HaveLength, woven, IsRepair, mapped_there, mapped_of, same_mapped, AllReach, versions_at, IsWeaveAt, IsVoteAt, IsRepairAt, value_at, length-values_of, value_there}
 use Rattle.ffv1_splice.proofs.PlaceSteps.{unwoven_weave}
 
 -- ---- versions
-
-length-inverted : (bytes : List ℕ) (bit : ℕ) → bit < 8 * length bytes → length (inverted bytes bit) ≡ length bytes
-length-inverted bytes bit inside =
-    length-written bytes (bit / 8) (bit_xor (get_or bytes (bit / 8) 0) (2 ^ (7 - bit % 8)) ∷ []) (omega arith)
 
 module _ (copies : List (List ℕ)) (start end : ℕ) where
   -- each copy has a version, ..

@@ -1,7 +1,8 @@
 -- What is woven of copies of an original.
+use Rattle.ffv1_slice.proofs.Links.{end_within}
 use Rattle.ffv1_splice.proofs.Common.{◌≡◌, ℕ, ◌<◌, List, length, get_or, map, refl, sym, ◌∙◌, subst, arith, inl, inr, All, Contains, slice_range, All-contains_itself, cases_eq, AreBytes, PassesParity, AreBytes-range, FooterGives, IsEnd, IsLinkOf, IsFramed, last, IsOnly, IsOfTwo, length-range, size_of_range, IsAmongTried, KeepsOriginal, Weave, IsWeaveOf, AreMany, Slice, original_is_woven, IsClaimedStart, versions_at, sized, IsWeaveAt, IsUnwovenAt, IsWeaveOfSeveral, StandsAs, SplicedValue, IsDivisionOf, IsSpliceOf, IsSettledOrWoven, IsGivenBack, AreCopiesOf, IsTriedAt, AreWeavable, KeepsLink, WovenIsOriginal, GivenBackIsOriginal, Standing, Settled, Woven, Voted, Repaired, Disputed, Missing, Undivided, Place}
 use Rattle.ffv1_weave.specs.Weave.Weave.{woven as weave_woven, missing as weave_missing}
-use Rattle.ffv1_splice.proofs.DividedLinks.{end_within, link_at, AreLinkPlaces, link_places, settled_link, same_payload}
+use Rattle.ffv1_splice.proofs.DividedLinks.{link_at, AreLinkPlaces, link_places, settled_link, same_payload}
 use Rattle.ffv1_splice.proofs.Versions.{version_of}
 use Rattle.ffv1_splice.proofs.PlaceSteps.{claim_below, unwoven_weave, missing_unwoven}
 use Rattle.ffv1_splice.proofs.NarrowedOriginal.{AreWeavableDown, copies_narrowed, weavable_narrowed}

@@ -1,19 +1,14 @@
 -- The next stretch of a copy, after what stands before it.
-use Rattle.std.proofs.Common.{◌≡◌, ℕ, ◌+◌, ◌-◌, ◌≤◌, List, ◌++◌, length, take, refl, arith, inl, inr, ⊎_elim, Err, length-append}
+use Rattle.std.proofs.Common.{◌≡◌, ℕ, ◌+◌, ◌-◌, ◌≤◌, List, ◌++◌, length, take, refl, arith, Err, length-append}
 use Rattle.std.proofs.lemmas.List.{length-take-le}
-use Rattle.std.specs.Io.KnownBytes.{IsAtEnd}
-use Rattle.ffv1_devices.specs.Logs.{ReadLog, Reads, BreaksOff}
-use Rattle.ffv1_devices.specs.Exact.{StopsReading, ReadsNext}
+use Rattle.ffv1_devices.specs.Logs.{ReadLog, Reads}
+use Rattle.ffv1_devices.specs.Exact.{ReadsNext}
 use Rattle.ffv1_devices.specs.declared.exact.NextFault.{NextFault}
 use Rattle.ffv1_devices.specs.declared.exact.NextFault.TheVariants as faults
-use Rattle.ffv1_devices.proofs.Steps.{Reads-trans, BreaksOff-after}
+use Rattle.ffv1_devices.proofs.Steps.{Reads-trans}
+use Rattle.ffv1_devices.proofs.ExactSteps.{StopsReading-after}
 use Rattle.ffv1_stretches.specs.Copies.{CopyState}
 use Rattle.ffv1_stretches.specs.Inner.Copies.{ReadsStretch, ReadsCopy}
-
-pub stops_after : (a b c : ReadLog) (before bytes : List ℕ) → Reads a b before → StopsReading b c bytes → StopsReading a c (before ++ bytes)
-stops_after a b c before bytes read stops =
-    ⊎_elim (λ (broken : BreaksOff b c bytes). inl (BreaksOff-after a b c before bytes read broken))
-    (λ (ended : Reads b c bytes × IsAtEnd c.remaining). inr (Reads-trans a b c before bytes read ended.0, ended.1)) stops
 
 -- it did not come whole
 pub copy_stops : (T : Type 0) (place size : ℕ) (old new : CopyState) (between : ReadLog) (room before : List ℕ) (fault : NextFault)
@@ -21,7 +16,7 @@ pub copy_stops : (T : Type 0) (place size : ℕ) (old new : CopyState) (between 
     → ReadsCopy {T = T} place size (Err fault) old new
 copy_stops T place size old new between room before faults.Read read long stops = (
   before ++ stops.0,
-  stops_after old.log between new.log before stops.0 read stops.1,
+  StopsReading-after old.log between new.log before stops.0 read stops.1,
   omega (arith, length-append before stops.0, long, stops.2),
 )
 copy_stops T place size old new between room before faults.Memory read long stops = (

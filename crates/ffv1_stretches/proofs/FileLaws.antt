@@ -1,11 +1,12 @@
 -- The laws of what becomes of the stretches of a file.
-use Rattle.std.proofs.Common.{◌≡◌, ℕ, zero, suc, ◌<◌, Bool, true, false, ◌&&◌, List, [], ◌∷◌, ◌++◌, Option, Some, None, length, get_or, map, replicate, refl, sym, ap, ◌∙◌, subst, arith, inl, Contains}
+use Rattle.std.proofs.Common.{◌≡◌, ℕ, zero, suc, ◌<◌, List, [], ◌∷◌, ◌++◌, Option, Some, None, length, get_or, map, replicate, refl, sym, ap, ◌∙◌, subst, arith, inl, Contains}
 use Rattle.std.specs.List.{list_all, sum_by, zip}
 use Rattle.std.specs.List.Sorted.{IsPermutation}
 use Rattle.std.proofs.lemmas.List.Sorted.{IsPermutation-map, IsPermutation-sym, Contains-permutation, sum_by-IsPermutation}
 use Rattle.std.proofs.Math.ListN.{get_or-map}
 use Rattle.std.proofs.lemmas.List.{length-replicate}
 use Rattle.std.proofs.lemmas.List.Sums.{sum_by-cons}
+use Rattle.std.proofs.lemmas.Bool.{and_parts}
 use Rattle.ffv1_slice.specs.Members.{HasSameMembers}
 use Rattle.ffv1_mend.specs.Mended.{MendedValue, IsMendOf, is_good}
 use Rattle.ffv1_mend.proofs.MendLaws.{same_versions_mend}
@@ -115,10 +116,6 @@ good_stretches_are_vouched files (s ∷ ss) (m ∷ ms) outcomes = (
 
 -- ---- an original
 
-both_true : (x y : Bool) → (x && y) ≡ true → (x ≡ true) × (y ≡ true)
-both_true true y all = (refl, all)
-both_true false y all = absurd (let no : false ≡ true = all in cc)
-
 pub original_file_is_mended : OriginalFileIsMended
 original_file_is_mended files [] [] [] outcomes originals good = refl
 original_file_is_mended files [] [] (o ∷ os) outcomes originals good = absurd originals
@@ -126,7 +123,7 @@ original_file_is_mended files [] (m ∷ ms) os outcomes originals good = absurd 
 original_file_is_mended files (s ∷ ss) [] os outcomes originals good = absurd outcomes
 original_file_is_mended files (s ∷ ss) (m ∷ ms) [] outcomes originals good = absurd originals
 original_file_is_mended files (s ∷ ss) (m ∷ ms) (o ∷ os) outcomes originals good =
-    let all = both_true (is_good m.state) (list_all (λ one. is_good one.state) ms) good in
+    let all = and_parts (is_good m.state) (list_all (λ one. is_good one.state) ms) good in
     ap (λ bytes. bytes ++ bytes_of ms)
     (original_is_mended.original s.kind o (versions_in (cells_of files s)) outcomes.0.from s.parts m originals.0 outcomes.0.mends (inl all.0))
     ∙ ap (λ rest. o ++ rest) (original_file_is_mended files ss ms os outcomes.1 originals.1 all.1)

@@ -8,6 +8,7 @@ use Rattle.std.proofs.lemmas.List.Elements.{All-nil, All-cons}
 use Rattle.ffv1_devices.specs.Logs.{ReadLog, Reads}
 use Rattle.ffv1_devices.specs.Exact.{StopsReading}
 use Rattle.ffv1_devices.proofs.Steps.{Reads-trans}
+use Rattle.ffv1_devices.proofs.ExactSteps.{StopsReading-after}
 use Rattle.ffv1_mend.specs.Mended.{MendedValue}
 use Rattle.ffv1_stretches.specs.Stretches.{StretchValue, HasPlace, IsAfter, end_after, ends_after, AreInOrder}
 use Rattle.ffv1_stretches.specs.Cells.{cell_of, cells_of, IsStretchMend}
@@ -16,7 +17,6 @@ use Rattle.ffv1_stretches.specs.Copies.{CopyState}
 use Rattle.ffv1_stretches.specs.Lines.{stretch_text, mend_text}
 use Rattle.ffv1_stretches.specs.Inner.PassSteps.{StepsCopy, StopsCopy, CopyStep}
 use Rattle.ffv1_stretches.specs.Passes.{AreRead, AreReadBut}
-use Rattle.ffv1_stretches.proofs.CopySteps.{stops_after}
 use Rattle.ffv1_stretches.proofs.EndSteps.{moved_ends, length-moved_ends}
 use Rattle.ffv1_stretches.proofs.CellLemmas.{held_at}
 
@@ -170,7 +170,7 @@ module _ (size : ℕ) where
   but_one_read [] old new more rest [] files stop read = absurd read
   but_one_read [] old new more rest (o ∷ olds) [] stop read = absurd read
   but_one_read [] old new more rest (o ∷ olds) (f ∷ files) stop read =
-      (stops_after o old.log new.log f more read.0.0 stop, rest_read olds rest files read.1)
+      (StopsReading-after o old.log new.log f more read.0.0 stop, rest_read olds rest files read.1)
   but_one_read (s ∷ steps) old new more rest [] files stop read = absurd read
   but_one_read (s ∷ steps) old new more rest (o ∷ olds) [] stop read = absurd read
   but_one_read (s ∷ steps) old new more rest (o ∷ olds) (f ∷ files) stop read =

@@ -6,6 +6,8 @@ use Rattle.std.proofs.Math.ListN.{get_or-map}
 use Rattle.std.proofs.lemmas.Grind.{flat_map-append}
 use Rattle.std.proofs.lemmas.List.{take_more, append_assoc, append-nil, take_all, length-map, length-take-le}
 use Rattle.std.proofs.lemmas.Slice.Zip.{length-zip, get_or-zip}
+use Rattle.std.proofs.lemmas.Bool.{and_parts}
+use Rattle.std.proofs.Math.Bool.{and-false}
 use Rattle.ffv1_mend.specs.Improved.{PartValue, part_value}
 use Rattle.ffv1_mend.specs.declared.part.MendedPart.{MendedPart}
 use Rattle.ffv1_mend.specs.declared.part.Part.{Part}
@@ -14,10 +16,6 @@ use Rattle.ffv1_stretches.specs.Lines.{cells_between, frame_lines, part_lines, p
 use Rattle.ffv1_stretches.proofs.CellLemmas.{cell_at}
 
 -- ---- tests of all
-
-and_parts : (a b : Bool) → (a && b) ≡ true → (a ≡ true) × (b ≡ true)
-and_parts true b e = (refl, e)
-and_parts false b e = absurd (let no : false ≡ true = e in cc)
 
 pub list_all_more : {X : Type 0} (test : X → Bool) (xs : List X) (i : ℕ) (d : X) → i < length xs → list_all test (take i xs) ≡ true
     → test (get_or xs i d) ≡ true → list_all test (take (i + 1) xs) ≡ true
@@ -36,11 +34,7 @@ list_all_more test xs i d lt so_far here =
 pub list_all_not : {X : Type 0} (test : X → Bool) (xs : List X) (i : ℕ) (d : X) → i < length xs → test (get_or xs i d) ≡ false → list_all test xs ≡ false
 list_all_not test [] i d lt here = absurd (omega arith)
 list_all_not test (x ∷ xs) zero d lt here = ap (λ b. b && list_all test xs) here
-list_all_not test (x ∷ xs) (suc i) d lt here = ap (λ b. test x && b) (list_all_not test xs i d (omega arith) here) ∙ and_false (test x)
-  where
-    and_false : (a : Bool) → (a && false) ≡ false
-    and_false true = refl
-    and_false false = refl
+list_all_not test (x ∷ xs) (suc i) d lt here = ap (λ b. test x && b) (list_all_not test xs i d (omega arith) here) ∙ and-false (test x)
 
 -- ---- what is made of the cells, one by one
 

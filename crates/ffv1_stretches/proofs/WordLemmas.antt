@@ -5,6 +5,7 @@ use Rattle.std.proofs.lemmas.List.{take_all, length-drop}
 use Rattle.std.specs.Prelude.{codes, ◌↔◌, Bool, IsTrue}
 use Rattle.std.proofs.lemmas.Str.Parse.{digit_from_value}
 use Rattle.ffv1_texts.specs.Numbers.{IsNumber}
+use Rattle.ffv1_texts.proofs.NumberSteps.{one_value}
 use Rattle.ffv1_mend.specs.declared.kind.Kind.{Kind}
 use Rattle.ffv1_mend.specs.declared.kind.Kind.TheVariants.{Frame, Crc32, Record, Flac, Plain}
 use Rattle.ffv1_mend.specs.declared.part.Part.{Part}
@@ -13,9 +14,6 @@ use Rattle.ffv1_mend.specs.declared.part.Sort.TheVariants as sorts
 use Rattle.ffv1_stretches.specs.Stretches.{StretchValue}
 use Rattle.ffv1_stretches.specs.Listed.{kind_word, part_word, sort_words, IsPlaceWord, AreStretchWords, ArePartWords}
 use Rattle.ffv1_stretches.specs.Inner.ListSteps.{BeginsPart}
-
-pub one_number : (word : List ℕ) (m n : ℕ) → IsNumber word m → IsNumber word n → m ≡ n
-one_number word m n p q = sym p.value ∙ q.value
 
 -- texts that differ at a place
 differ : (a b : List ℕ) (i : ℕ) → a ≡ b → get_or a i 0 ≡ get_or b i 0
@@ -74,7 +72,7 @@ one_place : (word : List ℕ) (p q : Option ℕ) → IsPlaceWord word p → IsPl
 one_place word None None h k = refl
 one_place word None (Some q) h k = absurd (hyphen_is_no_number word q h k)
 one_place word (Some p) None h k = absurd (hyphen_is_no_number word p k h)
-one_place word (Some p) (Some q) h k = ap Some (one_number word p q h k)
+one_place word (Some p) (Some q) h k = ap Some (one_value word p q h k)
 
 pub same_places : (words : List (List ℕ)) (ps qs : List (Option ℕ)) → AllZip IsPlaceWord words ps → AllZip IsPlaceWord words qs → ps ≡ qs
 same_places [] [] [] h k = refl
@@ -109,8 +107,8 @@ one_stretch copies words s t a b =
     let from_words : a.from_word ≡ b.from_word = cc in
     let place_words : a.place_words ≡ b.place_words = cc in
     let kinds = one_kind s.kind t.kind kind_words in
-    let sizes = one_number b.size_word s.size t.size (subst (λ w. IsNumber w s.size) size_words a.size) b.size in
-    let froms' = one_number b.from_word (s.from + 1) (t.from + 1) (subst (λ w. IsNumber w (s.from + 1)) from_words a.from) b.from in
+    let sizes = one_value b.size_word s.size t.size (subst (λ w. IsNumber w s.size) size_words a.size) b.size in
+    let froms' = one_value b.from_word (s.from + 1) (t.from + 1) (subst (λ w. IsNumber w (s.from + 1)) from_words a.from) b.from in
     let froms : s.from ≡ t.from = omega arith in
     let places = same_places b.place_words s.places t.places (subst (λ ws. AllZip IsPlaceWord ws s.places) place_words a.each) b.each in
     let parts : s.parts ≡ t.parts = a.alone ∙ sym b.alone in
@@ -121,8 +119,8 @@ one_part words p q a b =
     let same : part_word ∷ a.start_word ∷ a.size_word ∷ sort_words p.sort ≡ part_word ∷ b.start_word ∷ b.size_word ∷ sort_words q.sort = sym a.are ∙ b.are in
     let start_words : a.start_word ≡ b.start_word = cc in
     let size_words : a.size_word ≡ b.size_word = cc in
-    let starts = one_number b.start_word p.start q.start (subst (λ w. IsNumber w p.start) start_words a.starts) b.starts in
-    let sizes = one_number b.size_word a.size b.size (subst (λ w. IsNumber w a.size) size_words a.has) b.has in
+    let starts = one_value b.start_word p.start q.start (subst (λ w. IsNumber w p.start) start_words a.starts) b.starts in
+    let sizes = one_value b.size_word a.size b.size (subst (λ w. IsNumber w a.size) size_words a.has) b.has in
     let ends : p.end ≡ q.end = a.ends ∙ ap (λ n. n + a.size) starts ∙ ap (λ n. q.start + n) sizes ∙ sym b.ends in
     let words_of_sort : sort_words p.sort ≡ sort_words q.sort = cc in
     same_part p q starts ends (one_sort p.sort q.sort words_of_sort)

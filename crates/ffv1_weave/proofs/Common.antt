@@ -21,7 +21,7 @@ pub use Rattle.std.specs.Prelude.{All, Contains, IfOk, MatchBool, MatchOption, b
 pub use Rattle.std.specs.Str.{bytes_eq}
 pub use Rattle.std.specs.declared.alloc.AllocError.{AllocError}
 pub use Rattle.ebml.proofs.CrcElements.{element_changes, right_leaves_none}
-pub use Rattle.ffv1_bits.proofs.Burst.{length-bits}
+pub use Rattle.ffv1_bits.proofs.Burst.{bits_of-zeros, length-bits}
 pub use Rattle.ffv1_bits.proofs.Division.{divided-xor, divided_low, fold_injective, reduced_low, remainder_is_fold}
 unfoldable pub use Rattle.ffv1_bits.proofs.Division.{shifted}
 pub use Rattle.ffv1_bits.proofs.Register.{remainder_push}

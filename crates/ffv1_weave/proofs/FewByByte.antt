@@ -1,26 +1,21 @@
 -- Where the bytes of versions are changed place by place, in all versions alike, there are no more combinations at distance 0 than before.
-use Rattle.ffv1_weave.proofs.Common.{◌≡◌, ℕ, zero, suc, ◌+◌, ◌-◌, ◌<◌, ◌≤◌, List, [], ◌∷◌, ◌++◌, length, get_or, map, refl, sym, ap, ◌∙◌, subst, arith, inl, inr, ◌⊎◌, Contains, cases_lt, cases_eq, ext_get_or, get_or_default, length_push, Contains-append_left, Contains-get_or, Contains-push, HaveLength, DifferAt, IsSegment, AreNumbered, IsCombinationBy, HasFewByByte, HasEachByte, Pairs}
+use Rattle.ffv1_weave.proofs.Common.{◌≡◌, ℕ, zero, suc, ◌+◌, ◌-◌, ◌<◌, ◌≤◌, List, [], ◌∷◌, ◌++◌, length, get_or, map, refl, sym, ap, ◌∙◌, subst, arith, inl, inr, ◌⊎◌, Contains, cases_lt, ext_get_or, get_or_default, length_push, Contains-append_left, Contains-get_or, Contains-push, HaveLength, DifferAt, IsSegment, AreNumbered, IsCombinationBy, HasFewByByte, HasEachByte, Pairs}
 use Rattle.ffv1_weave.proofs.Agreeing.{agree_or_differ, two_differ}
 use Rattle.ffv1_weave.proofs.ChoiceSteps.{listed_at, pushed_at, once_pushed}
 use Rattle.ffv1_weave.proofs.Choices.{range_at}
 use Rattle.ffv1_weave.proofs.Mapped.{mapped_there, mapped_of}
 use Rattle.ffv1_weave.proofs.BoundarySteps.{boundary_before, boundary_after}
 use Rattle.ffv1_weave.proofs.AmongTried.{bytes_combine}
+use Rattle.ffv1_weave.proofs.MostSteps.{same_or_not}
 
 -- ---- byte strings that are equal, or listed, or not
-
-same_or_apart : (a b : List ℕ) → (a ≡ b) ⊎ (a ≡ b → ⊥)
-same_or_apart [] [] = inl refl
-same_or_apart [] (y ∷ ys) = inr (λ same. cc)
-same_or_apart (x ∷ xs) [] = inr (λ same. cc)
-same_or_apart (x ∷ xs) (y ∷ ys) = grind (arith, cases_eq, same_or_apart xs ys)
 
 listed_or_not : (listed : List (List ℕ)) (one : List ℕ) → (n : ℕ) → n ≤ length listed
     → Contains listed one ⊎ ((k : ℕ) → k < n → get_or listed k [] ≡ one → ⊥)
 listed_or_not listed one zero low = inr (λ k lt same. absurd (omega arith))
 listed_or_not listed one (suc n) low = elim (listed_or_not listed one n (omega arith)) [
   | inl there ↦ inl there
-  | inr absent ↦ elim (same_or_apart (get_or listed n []) one) [
+  | inr absent ↦ elim (same_or_not (get_or listed n []) one) [
     | inl same ↦ inl (subst (Contains listed) same (Contains-get_or listed n [] (omega arith)))
     | inr apart ↦ grind (arith, cases_lt)
   ]

@@ -14,7 +14,7 @@ choice_of_some (Most distance) versions start end choice h = h.0
 
 -- ---- whether byte strings are the same
 
-same_or_not : (one other : List ℕ) → (one ≡ other) ⊎ (one ≡ other → ⊥)
+pub same_or_not : (one other : List ℕ) → (one ≡ other) ⊎ (one ≡ other → ⊥)
 same_or_not one other = elim (bytes_eq one other) as (λ b. Decides b (one ≡ other) → (one ≡ other) ⊎ (one ≡ other → ⊥)) [
   | true ↦ λ e. inl (e.0 refl)
   | false ↦ λ e. inr (λ is. false≢true (e.1 is))

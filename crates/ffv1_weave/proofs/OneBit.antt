@@ -1,5 +1,5 @@
 -- One inverted bit changes the remainder by what is left of its power of x.
-use Rattle.ffv1_weave.proofs.Common.{◌≡◌, ℕ, zero, suc, ◌+◌, ◌-◌, ◌*◌, ◌/◌, ◌%◌, ◌^◌, ◌<◌, Bool, false, List, [], ◌∷◌, ◌++◌, length, get_or, set, take, drop, replicate, refl, sym, ap, ◌∙◌, arith, lit<, add-zero, zero-add, append_assoc, eq-eqb, bit_xor, fold, bit_at, xor_block, xor_comm, xor_self, xor_zero_l, xor_zero_r, xor_lt, mod-eq_of_lt, pow-suc, pow-lt, flat_map-append, length-drop, length-replicate, take-append-drop, drop_more, take-set, drop-set, set-set, set-get_or, get_or-set_same, fold-append, number_bits, bits_of, divided, remainder_of, polynomial_of, reduced_at, length-bits, shifted, remainder_is_fold, divided-xor, divided_low, reduced_low, remainder_push, all_kept, fold_changes, xor_twice, PassesBy, written, times_x, inverted, Slice}
+use Rattle.ffv1_weave.proofs.Common.{◌≡◌, ℕ, zero, suc, ◌+◌, ◌-◌, ◌*◌, ◌/◌, ◌%◌, ◌^◌, ◌<◌, Bool, false, List, [], ◌∷◌, ◌++◌, length, get_or, set, take, drop, replicate, refl, sym, ap, ◌∙◌, arith, lit<, add-zero, zero-add, append_assoc, eq-eqb, bit_xor, fold, bit_at, xor_block, xor_comm, xor_self, xor_zero_l, xor_zero_r, xor_lt, mod-eq_of_lt, pow-suc, pow-lt, flat_map-append, length-drop, length-replicate, take-append-drop, drop_more, take-set, drop-set, set-set, set-get_or, get_or-set_same, fold-append, number_bits, bits_of, divided, remainder_of, polynomial_of, reduced_at, length-bits, bits_of-zeros, shifted, remainder_is_fold, divided-xor, divided_low, reduced_low, remainder_push, all_kept, fold_changes, xor_twice, PassesBy, written, times_x, inverted, Slice}
 use Rattle.ffv1_weave.proofs.Choices.{length-written}
 
 -- ---- what is left of a power of x
@@ -97,13 +97,6 @@ power_shifted bytes bit more inside small passes =
 
 -- ---- eight bytes of zeros
 
-zero_bytes : (n : ℕ) → bits_of (replicate n 0) ≡ replicate (8 * n) false
-unfolding bits_of number_bits
-zero_bytes zero = refl
-zero_bytes (suc n) =
-    let eight : suc (suc (suc (suc (suc (suc (suc (suc (8 * n)))))))) ≡ 8 * suc n = omega arith in
-    ap (λ bits. false ∷ false ∷ false ∷ false ∷ false ∷ false ∷ false ∷ false ∷ bits) (zero_bytes n) ∙ ap (λ m. replicate m false) eight
-
 one_left : remainder_of (bits_of (1 ∷ [])) ≡ 1
 unfolding bits_of number_bits remainder_of divided polynomial_of reduced_at
 one_left = refl
@@ -111,14 +104,14 @@ one_left = refl
 -- what is left of 1 and so many bytes of zeros
 power_of_bytes : (n : ℕ) → remainder_of (bits_of (1 ∷ replicate n 0)) ≡ power_left (8 * n)
 power_of_bytes n =
-    remainder_append (1 ∷ []) (replicate n 0) ∙ ap (λ r. fold shifted r (bits_of (replicate n 0))) one_left ∙ ap (fold shifted 1) (zero_bytes n) ∙ zeros_after 0 (8 * n) ∙ ap power_left (zero-add (8 * n))
+    remainder_append (1 ∷ []) (replicate n 0) ∙ ap (λ r. fold shifted r (bits_of (replicate n 0))) one_left ∙ ap (fold shifted 1) (bits_of-zeros n) ∙ zeros_after 0 (8 * n) ∙ ap power_left (zero-add (8 * n))
 
 pub eight_zeros : (i power next : ℕ) → power ≡ power_left (64 * i)
     → ((front : List ℕ) → power ≡ remainder_of (bits_of front) → next ≡ remainder_of (bits_of (front ++ replicate 8 0))) → next ≡ power_left (64 * i + 64)
 eight_zeros i power next is after =
     let bits : 8 * (8 * i) ≡ 64 * i = omega arith in
     after (1 ∷ replicate (8 * i) 0) (is ∙ sym (power_of_bytes (8 * i) ∙ ap power_left bits))
-    ∙ remainder_append (1 ∷ replicate (8 * i) 0) (replicate 8 0) ∙ ap (fold shifted (remainder_of (bits_of (1 ∷ replicate (8 * i) 0)))) (zero_bytes 8)
+    ∙ remainder_append (1 ∷ replicate (8 * i) 0) (replicate 8 0) ∙ ap (fold shifted (remainder_of (bits_of (1 ∷ replicate (8 * i) 0)))) (bits_of-zeros 8)
     ∙ ap (λ r. fold shifted r (replicate 64 false)) (power_of_bytes (8 * i) ∙ ap power_left bits) ∙ zeros_after (64 * i) 64
 
 -- ---- as the code has them

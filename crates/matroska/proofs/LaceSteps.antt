@@ -10,7 +10,7 @@ use Rattle.std.proofs.lemmas.List.Folds.{concat-append}
 use Rattle.std.proofs.lemmas.List.Concat.{length-flat_map}
 use Rattle.std.proofs.lemmas.List.Sums.{sum_by_more_le}
 use Rattle.ffv1_bits.specs.Parity.{AreBytes}
-use Rattle.ebml.proofs.Numbers.{bytes_drop}
+use Rattle.ffv1_bits.proofs.Bytes.{AreBytes-drop, AreBytes-rest}
 use Rattle.ebml.proofs.Heads.{after}
 use Rattle.matroska.specs.Laces.{AreFrames, SizesFollow, GiveSizes, AreCutBy, AreLaced, FramesAreOne}
 use Rattle.matroska.specs.Inner.Sizes.{FitIn, NoneGiven}
@@ -112,8 +112,7 @@ follow_same lacing before bytes (a ∷ sizes) rest [] other_rest are_bytes long 
 follow_same lacing before bytes (a ∷ sizes) rest (b ∷ others) other_rest are_bytes long follow others_follow =
     let one = sizes_same lacing bytes follow.0 follow.1 others_follow.0 others_follow.1 before a b are_bytes follow.2 others_follow.2 follow.3 others_follow.3 in
     let after_bytes : AreBytes others_follow.1 =
-    subst AreBytes (ap (drop (length others_follow.0)) others_follow.2 ∙ drop_at others_follow.0 others_follow.1 (length others_follow.0) refl)
-    (bytes_drop (length others_follow.0) bytes are_bytes) in
+    AreBytes-rest others_follow.0 others_follow.1 (subst AreBytes others_follow.2 are_bytes) in
     let more = follow_same lacing (Some b) others_follow.1 sizes rest others other_rest after_bytes (omega (arith, long))
     (subst (λ z. SizesFollow lacing (Some b) z sizes rest) one.1 (subst (λ z. SizesFollow lacing (Some z) follow.1 sizes rest) one.0 follow.4)) others_follow.4 in
     (ap (λ z. z ∷ sizes) one.0 ∙ ap (λ z. b ∷ z) more.0, more.1)
@@ -143,7 +142,7 @@ laced_same lacing payload frames others are_bytes laced others_laced =
     let fronts : length laced.sizes ∷ laced.bytes ≡ length others_laced.sizes ∷ others_laced.bytes = sym laced.counted ∙ others_laced.counted in
     let long : length laced.sizes ≡ length others_laced.sizes = cc in
     let tails : laced.bytes ≡ others_laced.bytes = cc in
-    let after_bytes : AreBytes others_laced.bytes = subst AreBytes (ap (drop 1) others_laced.counted) (bytes_drop 1 payload are_bytes) in
+    let after_bytes : AreBytes others_laced.bytes = subst AreBytes (ap (drop 1) others_laced.counted) (AreBytes-drop 1 payload are_bytes) in
     let same = given_same lacing others_laced.bytes laced.sizes laced.rest others_laced.sizes others_laced.rest after_bytes long
     (subst (λ z. GiveSizes lacing z laced.sizes laced.rest) tails laced.given) others_laced.given in
     frames_cut_same others_laced.sizes others_laced.rest frames others
@@ -176,7 +175,7 @@ pub no_frames : (lacing : Lacing) (payload : List ℕ) (count : ℕ) (sizes rest
     → GiveSizes lacing (after payload 1) sizes rest → length sizes ≡ count → length rest < sum sizes → (frames : List (List ℕ)) → AreLaced lacing payload frames → ⊥
 no_frames lacing payload count sizes rest are_bytes some is given counted short frames laced =
     let same = same_parts payload count (length laced.sizes) laced.bytes (parts_of_payload payload count some is) laced.counted in
-    let after_bytes : AreBytes (after payload 1) = subst AreBytes (sym (take_rest payload 1)) (bytes_drop 1 payload are_bytes) in
+    let after_bytes : AreBytes (after payload 1) = subst AreBytes (sym (take_rest payload 1)) (AreBytes-drop 1 payload are_bytes) in
     let one = given_same lacing (after payload 1) laced.sizes laced.rest sizes rest after_bytes (same.0 ∙ sym counted)
     (subst (λ z. GiveSizes lacing z laced.sizes laced.rest) same.1 laced.given) given in
     let room = room_for laced.sizes laced.rest frames laced.cut in

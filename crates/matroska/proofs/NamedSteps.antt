@@ -7,8 +7,9 @@ use Rattle.std.specs.BTreeMap.{BTreeMap, get}
 use Rattle.std.proofs.lemmas.List.{append_assoc, append-nil}
 use Rattle.std.proofs.lemmas.List.Folds.{list_any-append}
 use Rattle.std.proofs.lemmas.Iterator.Adapters.{position_from-zero}
-use Rattle.std.proofs.lemmas.Bool.{eqb-true, eq-eqb}
+use Rattle.std.proofs.lemmas.Bool.{eqb-true, eq-eqb, ne_eqb}
 use Rattle.std.proofs.lemmas.Bool.Decides.{nat_tests}
+use Rattle.std.proofs.Math.Bool.{or-false}
 use Rattle.matroska.specs.NamedTracks.{each_after, by_those_before, has_number, is_unnamed, named_tracks}
 use Rattle.matroska.specs.declared.track.Track.{Track}
 
@@ -65,13 +66,9 @@ pub record NamedSoFar (tracks named : List Track) (places : BTreeMap ℕ ℕ) : 
 same_number : (a b : ℕ) → is_eq (nat_cmp a b) ≡ eqb a b
 same_number a b = grind (arith, nat_tests)
 
-or_false : (b : Bool) → (b || false) ≡ b
-or_false true = refl
-or_false false = refl
-
 any_more : (number : ℕ) (tracks : List Track) (track : Track) → list_any (has_number number) (tracks ++ track ∷ []) ≡ (list_any (has_number number) tracks || has_number number track)
 any_more number tracks track =
-    list_any-append (has_number number) tracks (track ∷ []) ∙ ap (λ b. list_any (has_number number) tracks || b) (or_false (has_number number track))
+    list_any-append (has_number number) tracks (track ∷ []) ∙ ap (λ b. list_any (has_number number) tracks || b) (or-false (has_number number track))
 
 is_none : (o : Option ℕ) → is_some o ≡ false → o ≡ None
 is_none None e = refl
@@ -87,9 +84,6 @@ named_places number own count old other true e none same =
     ap (λ o. found_or o (Some count)) (sym (none (eqb-true own number e)))
 named_places number own count old other false e none same = same ∙ sym (kept_found old)
 
-pub not_equal : (a b : ℕ) → (a ≡ b → ⊥) → eqb a b ≡ false
-not_equal a b differ = elim (eqb a b) as (λ t. eqb a b ≡ t → t ≡ false) [ true ↦ λ e. absurd (differ (eqb-true a b e)) | false ↦ λ _. refl ] refl
-
 pub one_named : (tracks named grown : List Track) (places grown_places : BTreeMap ℕ ℕ) (track : Track) → NamedSoFar tracks named places
     → (track.number ≡ 0 → ⊥) → is_some (get nat_cmp places track.number) ≡ false → grown ≡ named ++ track ∷ []
     → ((number : ℕ) → get nat_cmp grown_places number ≡ cond (is_eq (nat_cmp track.number number)) (Some (length named)) (get nat_cmp places number))
@@ -98,7 +92,7 @@ one_named tracks named grown places grown_places track so_far some absent grown_
     let none : position (has_number track.number) named ≡ None = sym (so_far.found track.number) ∙ is_none (get nat_cmp places track.number) absent in
     let unused : list_any (has_number track.number) tracks ≡ false =
     so_far.same track.number some ∙ any_is_position (has_number track.number) named ∙ ap is_some none in
-    let is_new : is_unnamed tracks track ≡ false = ap (λ b. b || list_any (has_number track.number) tracks) (not_equal track.number 0 some) ∙ unused in
+    let is_new : is_unnamed tracks track ≡ false = ap (λ b. b || list_any (has_number track.number) tracks) (ne_eqb track.number 0 some) ∙ unused in
     record {
       named_are = grown_is ∙ ap (λ xs. xs ++ track ∷ []) so_far.named_are
           ∙ ap (λ b. named_tracks tracks ++ cond b [] (track ∷ [])) (sym is_new)

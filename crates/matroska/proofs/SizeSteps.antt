@@ -3,12 +3,13 @@ use Rattle.std.proofs.Common.{◌≡◌, ℕ, zero, suc, ◌+◌, ◌-◌, ◌*�
 use Rattle.std.specs.Prelude.{Option, Some, None}
 use Rattle.std.proofs.Math.Nat.{pow-le-pow_right, mul-mod_right}
 use Rattle.std.proofs.Math.Seq.{drop-cons}
-use Rattle.std.proofs.lemmas.List.{take-append-drop, append_assoc, append_cancel_left, length-append, take_more, length-take-le, take_rest, drop_at}
+use Rattle.std.proofs.lemmas.List.{take-append-drop, append_assoc, append_cancel_left, length-append, take_more, length-take-le, take_rest}
 use Rattle.ebml.specs.Vint.{data_of, IsVint, HasData}
 use Rattle.ebml.specs.declared.vint.VintData.{VintData}
 use Rattle.ffv1_bits.specs.Parity.{AreBytes}
+use Rattle.ffv1_bits.proofs.Bytes.{AreBytes-rest}
 use Rattle.ebml.proofs.Elements.{front_is, within_is}
-use Rattle.ebml.proofs.Numbers.{one_vint, bytes_drop}
+use Rattle.ebml.proofs.Numbers.{one_vint}
 use Rattle.ebml.proofs.Heads.{none_there, same_there, after}
 use Rattle.matroska.specs.Laces.{IsXiphSize, IsFrameSize, SizesFollow}
 use Rattle.matroska.specs.Inner.Sizes.{ReadsSize, GivesSize, FitIn, NoneGiven, NoneFollow}
@@ -182,7 +183,7 @@ module _ (lacing : Lacing) (bytes found grown left : List ℕ) (before : Option 
   fewer sizes few = let long = ap length same in omega (arith, few, long, length-append found (size ∷ []))
 
   left_bytes : AreBytes left
-  left_bytes = subst AreBytes (ap (drop (length so_far.front)) so_far.suffix ∙ drop_at so_far.front left (length so_far.front) refl) (bytes_drop (length so_far.front) bytes are_bytes)
+  left_bytes = AreBytes-rest so_far.front left (subst AreBytes so_far.suffix are_bytes)
 
   next_only : (sizes end tail : List ℕ) → sizes ≡ found ++ tail → SizesFollow lacing before left tail end → FitIn end tail → length grown ≤ length sizes
       → (tail : List ℕ) × (sizes ≡ grown ++ tail) × SizesFollow lacing (Some size) rest tail end × FitIn end tail

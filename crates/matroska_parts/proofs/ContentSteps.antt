@@ -1,14 +1,14 @@
 -- What holds of the content of an element of the top and of its parts, as it holds of what it is put together of.
-use Rattle.std.proofs.Common.{◌≡◌, ℕ, zero, suc, ◌+◌, Bool, List, [], ◌∷◌, ◌++◌, length, take, drop, refl, sym, ap, ◌∙◌, subst, arith}
+use Rattle.std.proofs.Common.{◌≡◌, ℕ, zero, suc, ◌+◌, Bool, List, [], ◌∷◌, ◌++◌, length, take, drop, sym, ap, ◌∙◌, subst, arith}
 use Rattle.std.specs.Prelude.{Option, Some, None}
 use Rattle.std.specs.List.{AllByRecursion, concat, Contains}
-use Rattle.std.proofs.lemmas.List.{take-append-drop, append_assoc, drop_at, take_at}
+use Rattle.std.proofs.lemmas.List.{take-append-drop, append_assoc}
 use Rattle.ffv1_bits.specs.Parity.{AreBytes}
+use Rattle.ffv1_bits.proofs.Bytes.{AreBytes-rest, AreBytes-front}
 use Rattle.ebml.specs.Children.{IsChild}
 use Rattle.ebml.specs.Masters.{only_ids, block_group_ids}
 use Rattle.ebml.specs.declared.head.Head.{Head}
 use Rattle.ebml.proofs.Heads.{one_head}
-use Rattle.ebml.proofs.Numbers.{bytes_drop, bytes_take}
 use Rattle.matroska.specs.declared.track.Track.{Track}
 use Rattle.matroska_parts.specs.declared.parts.Part.{Part}
 use Rattle.matroska_parts.specs.declared.parts.Part.TheVariants as part
@@ -101,8 +101,8 @@ module _ (tracks : List Track) (vouched : Bool) where
   track_children place [] rest parts bytes all each = each
   track_children place (p ∷ ps) rest parts bytes all each =
       let parted : AreBytes (p ++ (concat ps ++ rest)) = subst AreBytes (append_assoc p (concat ps) rest) bytes in
-      let here : AreBytes p = subst AreBytes (take_at p (concat ps ++ rest) (length p) refl) (bytes_take (length p) (p ++ (concat ps ++ rest)) parted) in
-      let later : AreBytes (concat ps ++ rest) = subst AreBytes (drop_at p (concat ps ++ rest) (length p) refl) (bytes_drop (length p) (p ++ (concat ps ++ rest)) parted) in
+      let here : AreBytes p = AreBytes-front p (concat ps ++ rest) parted in
+      let later : AreBytes (concat ps ++ rest) = AreBytes-rest p (concat ps ++ rest) parted in
       each.2 ∙ ap (λ z. z ++ each.1) (track_child place p each.0 here all.0 each.3)
       ∙ track_children (place + length p) ps rest each.1 later all.1 each.4
 

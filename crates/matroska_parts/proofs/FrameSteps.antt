@@ -1,5 +1,5 @@
 -- How many bytes the links of a frame have that pass.
-use Rattle.std.proofs.Common.{◌≡◌, ℕ, ◌+◌, ◌-◌, ◌*◌, ◌^◌, ◌≤◌, ◌<◌, Bool, true, false, cond, List, [], ◌∷◌, length, count_by, drop, arith, sym, subst}
+use Rattle.std.proofs.Common.{◌≡◌, ℕ, ◌+◌, ◌-◌, ◌*◌, ◌^◌, ◌≤◌, ◌<◌, Bool, true, false, cond, List, [], ◌∷◌, length, drop, arith, sym, subst}
 use Rattle.std.specs.Prelude.{slice_range}
 use Rattle.std.specs.List.{AllByRecursion}
 use Rattle.std.proofs.lemmas.List.{length-take, length-drop}
@@ -7,11 +7,6 @@ use Rattle.std.proofs.lemmas.List.Sums.{sum_by-cons}
 use Rattle.ffv1_slice.specs.Chain.{LinkValue, IsLinkOf, link_of, AreLinksOf}
 use Rattle.ffv1_scan.specs.Verdicts.{is_passing}
 use Rattle.matroska_parts.specs.Payloads.{frame_limit, passing_size}
-
--- the passing ones of links are those after the first one, and this one, if it passes
-pub first_counted : {passing : Bool} {all links : List LinkValue} {link : LinkValue} → passing ≡ is_passing link → all ≡ link ∷ links
-    → count_by is_passing all ≡ cond passing 1 0 + count_by is_passing links
-first_counted {links = links} {link = link} is split = rw (split, is) (sum_by-cons (λ l. cond (is_passing l) 1 0) link links)
 
 -- so are their bytes
 pub first_sized : {passing : Bool} {all links : List LinkValue} {link : LinkValue} → passing ≡ is_passing link → all ≡ link ∷ links

@@ -1,12 +1,12 @@
 -- The parts in the content of an element of the top are one list, where those of each block are.
-use Rattle.std.proofs.Common.{◌≡◌, ℕ, ◌+◌, Bool, List, [], ◌∷◌, ◌++◌, length, drop, refl, sym, ap, ◌∙◌, subst}
+use Rattle.std.proofs.Common.{◌≡◌, ℕ, ◌+◌, Bool, List, [], ◌∷◌, ◌++◌, length, drop, sym, ap, ◌∙◌, subst}
 use Rattle.std.specs.Prelude.{Option, Some, None}
 use Rattle.std.specs.List.{concat}
-use Rattle.std.proofs.lemmas.List.{append_assoc, take_at, drop_at}
+use Rattle.std.proofs.lemmas.List.{append_assoc}
 use Rattle.ffv1_bits.specs.Parity.{AreBytes}
+use Rattle.ffv1_bits.proofs.Bytes.{AreBytes-drop, AreBytes-front, AreBytes-rest}
 use Rattle.ebml.specs.Masters.{block_group_ids}
 use Rattle.ebml.specs.declared.head.Head.{Head}
-use Rattle.ebml.proofs.Numbers.{bytes_drop, bytes_take}
 use Rattle.ebml.proofs.Heads.{one_head}
 use Rattle.ebml.proofs.Elements.{children_are_one}
 use Rattle.matroska.specs.declared.track.Track.{Track}
@@ -14,12 +14,6 @@ use Rattle.matroska_parts.specs.declared.parts.Part.{Part}
 use Rattle.matroska_parts.specs.declared.masters.ChildKind.{ChildKind}
 use Rattle.matroska_parts.specs.declared.masters.ChildKind.TheVariants as child
 use Rattle.matroska_parts.specs.MasterParts.{child_kind, EachHasParts, unknown_parts, AreMasterParts, IsOneBlock, IsGroupChildBy, IsGroupChild, IsMasterChildBy, IsMasterChild, AreContentPartsBy}
-
-front_bytes : (xs ys : List ℕ) → AreBytes (xs ++ ys) → AreBytes xs
-front_bytes xs ys bytes = subst AreBytes (take_at xs ys (length xs) refl) (bytes_take (length xs) (xs ++ ys) bytes)
-
-later_bytes : (xs ys : List ℕ) → AreBytes (xs ++ ys) → AreBytes ys
-later_bytes xs ys bytes = subst AreBytes (drop_at xs ys (length xs) refl) (bytes_drop (length xs) (xs ++ ys) bytes)
 
 -- ---- pieces that follow each other
 
@@ -31,8 +25,8 @@ each_is_one : (H K : ℕ → List ℕ → List Part → Type 0) → AreOne H K �
 each_is_one H K one place [] rest xs ys bytes are others = are ∙ sym others
 each_is_one H K one place (p ∷ ps) rest xs ys bytes are others =
     let parted : AreBytes (p ++ (concat ps ++ rest)) = subst AreBytes (append_assoc p (concat ps) rest) bytes in
-    are.2 ∙ ap (λ z. z ++ are.1) (one place p are.0 others.0 (front_bytes p (concat ps ++ rest) parted) are.3 others.3)
-    ∙ ap (λ z. others.0 ++ z) (each_is_one H K one (place + length p) ps rest are.1 others.1 (later_bytes p (concat ps ++ rest) parted) are.4 others.4) ∙ sym others.2
+    are.2 ∙ ap (λ z. z ++ are.1) (one place p are.0 others.0 (AreBytes-front p (concat ps ++ rest) parted) are.3 others.3)
+    ∙ ap (λ z. others.0 ++ z) (each_is_one H K one (place + length p) ps rest are.1 others.1 (AreBytes-rest p (concat ps ++ rest) parted) are.4 others.4) ∙ sym others.2
 
 master_is_one : (H K : ℕ → List ℕ → List Part → Type 0) → AreOne H K → (ids : List ℕ) (place : ℕ) (content : List ℕ) (xs ys : List Part) → AreBytes content
     → AreMasterParts H ids place content xs → AreMasterParts K ids place content ys → xs ≡ ys
@@ -60,7 +54,7 @@ module _ (ts us : List Track) (vouched : Bool)
     group_child : AreOne (IsGroupChild ts vouched) (IsGroupChild us vouched)
     group_child place element xs ys bytes is other =
         let same : is.0 ≡ other.0 = one_head element is.0 other.0 bytes is.1.has other.1.has in
-        group_child_by (child_kind other.0.id) place element (drop other.0.length element) xs ys (bytes_drop other.0.length element bytes)
+        group_child_by (child_kind other.0.id) place element (drop other.0.length element) xs ys (AreBytes-drop other.0.length element bytes)
         (subst (λ (h : Head). IsGroupChildBy (child_kind h.id) ts vouched place element (drop h.length element) xs) same is.2) other.2
 
     master_child_by : (k : ChildKind) (place n : ℕ) (element content : List ℕ) (xs ys : List Part) → AreBytes content
@@ -74,7 +68,7 @@ module _ (ts us : List Track) (vouched : Bool)
     master_child : AreOne (IsMasterChild ts vouched) (IsMasterChild us vouched)
     master_child place element xs ys bytes is other =
         let same : is.0 ≡ other.0 = one_head element is.0 other.0 bytes is.1.has other.1.has in
-        master_child_by (child_kind other.0.id) place other.0.length element (drop other.0.length element) xs ys (bytes_drop other.0.length element bytes)
+        master_child_by (child_kind other.0.id) place other.0.length element (drop other.0.length element) xs ys (AreBytes-drop other.0.length element bytes)
         (subst (λ (h : Head). IsMasterChildBy (child_kind h.id) ts vouched place h.length element (drop h.length element) xs) same is.2) other.2
 
     pub contents_have_one : (ids : Option (List ℕ)) (place : ℕ) (content : List ℕ) (xs ys : List Part) → AreBytes content → AreContentPartsBy ids ts vouched place content xs

@@ -1,9 +1,10 @@
 -- Sizes of elements, and the DocType of an EBML.
-use Rattle.std.proofs.Common.{◌≡◌, ℕ, ◌-◌, ◌*◌, ◌^◌, ◌<◌, ◌≤◌, Bool, true, false, cond, List, [], ◌∷◌, ◌++◌, length, take, drop, refl, sym, ap, ◌∙◌, subst, arith, inl, inr}
-use Rattle.std.specs.Prelude.{◌≢◌, ◌↔◌, IsTrue, Option, Some, None}
-use Rattle.std.specs.List.{AllByRecursion, fold}
+use Rattle.std.proofs.Common.{◌≡◌, ℕ, ◌-◌, ◌*◌, ◌^◌, ◌<◌, ◌≤◌, Bool, true, false, cond, List, [], ◌∷◌, length, take, drop, refl, sym, ◌∙◌, subst, arith, inl, inr}
+use Rattle.std.specs.Prelude.{◌↔◌, IsTrue, Option, Some, None}
+use Rattle.std.specs.List.{fold}
 use Rattle.std.proofs.Math.Nat.{pow-le-pow_right}
 use Rattle.std.proofs.lemmas.List.{length-take-le}
+use Rattle.ffv1_texts.proofs.PartSteps.{one_parting, no_parting}
 use Rattle.ffv1_bits.specs.Parity.{AreBytes}
 use Rattle.ebml.specs.Vint.{marker}
 use Rattle.ebml.specs.Head.{HasHead}
@@ -41,25 +42,14 @@ head_small bytes head has =
 
 -- ---- DocType
 
-strings_same : (a b rest_a rest_b : List ℕ) → AllByRecursion (λ byte. byte ≢ 0) a → AllByRecursion (λ byte. byte ≢ 0) b → a ++ 0 ∷ rest_a ≡ b ++ 0 ∷ rest_b → a ≡ b
-strings_same [] [] ra rb some_a some_b e = refl
-strings_same [] (y ∷ ys) ra rb some_a some_b e = let zero_is : y ≡ 0 = cc in absurd (some_b.0 zero_is)
-strings_same (x ∷ xs) [] ra rb some_a some_b e = let zero_is : x ≡ 0 = cc in absurd (some_a.0 zero_is)
-strings_same (x ∷ xs) (y ∷ ys) ra rb some_a some_b e =
-    let head : x ≡ y = cc in let tail : xs ++ 0 ∷ ra ≡ ys ++ 0 ∷ rb = cc in
-    ap (λ z. z ∷ xs) head ∙ ap (λ z. y ∷ z) (strings_same xs ys ra rb some_a.1 some_b.1 tail)
-
-no_zero_in : (a b rest : List ℕ) → AllByRecursion (λ byte. byte ≢ 0) a → a ≡ b ++ 0 ∷ rest → ⊥
-no_zero_in [] [] rest some e = cc
-no_zero_in [] (y ∷ ys) rest some e = cc
-no_zero_in (x ∷ xs) [] rest some e = let zero_is : x ≡ 0 = cc in some.0 zero_is
-no_zero_in (x ∷ xs) (y ∷ ys) rest some e = let tail : xs ≡ ys ++ 0 ∷ rest = cc in no_zero_in xs ys rest some.1 tail
-
-one_string : (content a b : List ℕ) → IsStringOf content a → IsStringOf content b → a ≡ b
-one_string content a b is_a is_b =
-    elim is_a.ends [
-      | inl x ↦ elim is_b.ends [ inl y ↦ sym x ∙ y | inr y ↦ absurd (no_zero_in a b y.0 is_a.no_zero (sym x ∙ y.1)) ]
-      | inr x ↦ elim is_b.ends [ inl y ↦ absurd (no_zero_in b a x.0 is_b.no_zero (sym y ∙ x.1)) | inr y ↦ strings_same a b x.0 y.0 is_a.no_zero is_b.no_zero (sym x.1 ∙ y.1) ]
+pub string_is_one : (content a b : List ℕ) → IsStringOf content a → IsStringOf content b → a ≡ b
+string_is_one content a b is other =
+    elim is.ends [
+      | inl x ↦ elim other.ends [ inl y ↦ sym x ∙ y | inr y ↦ absurd (no_parting 0 a b y.0 is.no_zero (sym x ∙ y.1)) ]
+      | inr x ↦ elim other.ends [
+        | inl y ↦ absurd (no_parting 0 b a x.0 other.no_zero (sym y ∙ x.1))
+        | inr y ↦ (one_parting 0 a x.0 b y.0 is.no_zero other.no_zero (sym x.1 ∙ y.1)).0
+      ]
     ]
 
 head_same : (a b : List ℕ) → a ∷ [] ≡ b ∷ [] → a ≡ b
@@ -68,7 +58,7 @@ head_same a b e = cc
 texts_are_one : (content a b : List ℕ) → AreBytes content → HasDocType content a → HasDocType content b → a ≡ b
 texts_are_one content a b bytes is_a is_b =
     let names = head_same is_a.name is_b.name (contents_are_one 0x4282 content (is_a.name ∷ []) (is_b.name ∷ []) bytes is_a.one is_b.one) in
-    one_string is_b.name a b (subst (λ z. IsStringOf z a) names is_a.text_of) is_b.text_of
+    string_is_one is_b.name a b (subst (λ z. IsStringOf z a) names is_a.text_of) is_b.text_of
 
 pub matroska_by : (content text : List ℕ) (known : Bool) → AreBytes content → HasDocType content text → (IsTrue known ↔ IsMatroskaName text)
     → IsTrue known ↔ IsMatroska content

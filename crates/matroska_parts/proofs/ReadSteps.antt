@@ -1,11 +1,11 @@
 -- The items that were read of a file, by all that it has: the first Tracks, and the parts so far.
-use Rattle.std.proofs.Common.{◌≡◌, ℕ, ◌+◌, Bool, true, false, cond, List, [], ◌∷◌, ◌++◌, length, drop, refl, sym, ap, ◌∙◌, subst, arith, inl, inr, zero-add}
+use Rattle.std.proofs.Common.{◌≡◌, ℕ, ◌+◌, Bool, true, false, cond, List, [], ◌∷◌, ◌++◌, length, refl, sym, ap, ◌∙◌, subst, arith, inl, inr, zero-add}
 use Rattle.std.specs.Prelude.{IsTrue, Option, Some, None, option_map}
-use Rattle.std.proofs.lemmas.List.{append_assoc, append-nil, append_cancel_left, length-append, drop_at}
+use Rattle.std.proofs.lemmas.List.{append_assoc, append-nil, append_cancel_left, length-append}
 use Rattle.ffv1_bits.specs.Parity.{AreBytes}
+use Rattle.ffv1_bits.proofs.Bytes.{AreBytes-rest}
 use Rattle.ffv1_devices.specs.Logs.{ReadLog}
 use Rattle.ebml.specs.Items.{ItemValue, IsItem, bytes_of_items, AreItems, EachBefore}
-use Rattle.ebml.proofs.Numbers.{bytes_drop}
 use Rattle.ebml.proofs.ItemList.{some_bytes, one_item, same_item, items_are_one, bytes_of_snoc}
 use Rattle.ebml_reader.specs.Reader.{ReaderState, StandsAfter, AreAllItems, GivesItem}
 use Rattle.ebml_reader.specs.declared.settled.FoundItem.{FoundItem}
@@ -50,7 +50,7 @@ begins_with (x ∷ xs) rest (b ∷ bs) bytes each are =
     let rests : bytes_of_items xs ++ rest ≡ bytes_of_items bs =
     append_cancel_left b.bytes (bytes_of_items xs ++ rest) (bytes_of_items bs) (ap (λ z. z ++ (bytes_of_items xs ++ rest)) (sym one.1) ∙ sym at ∙ are.joined) in
     let left : AreBytes (bytes_of_items xs ++ rest) =
-    subst AreBytes (ap (drop (length x.bytes)) at ∙ drop_at x.bytes (bytes_of_items xs ++ rest) (length x.bytes) refl) (bytes_drop (length x.bytes) (bytes_of_items (x ∷ xs) ++ rest) bytes) in
+    AreBytes-rest x.bytes (bytes_of_items xs ++ rest) (subst AreBytes at bytes) in
     let more = begins_with xs rest bs left each.1 record { joined = rests; each = are.each.1 } in
     (more.0, more.1, ap (λ z. z ∷ bs) (sym same) ∙ ap (λ z. x ∷ z) more.2)
 

@@ -2,8 +2,9 @@ use Rattle.std.proofs.Common.{◌≡◌, ℕ, List, ◌/◌, ◌++◌, length, t
 use Rattle.std.proofs.lemmas.List.{take_all}
 use Rattle.std.specs.List.{concat}
 use Rattle.std.specs.Simd.{first_chunks}
+use Rattle.ffv1_bits.proofs.SixteenBytes.{chunks_and_rest}
 use Rattle.ebml.specs.Inner.Register.{Advances}
-use Rattle.ebml.proofs.Advances.{chunks_and_rest, rest_advanced}
+use Rattle.ebml.proofs.Advances.{rest_advanced}
 use Rattle.ebml.proofs.crc.advanced.Goals as goal
 
 pub loop-byte-init : goal.loop-byte-init

@@ -1,15 +1,10 @@
-use Rattle.std.proofs.Common.{◌≡◌, ℕ, ◌-◌, List, [], ◌++◌, arith, length, take, drop, refl, sym, subst, ap, ◌∙◌, append_assoc, append-nil, take-append-drop}
-use Rattle.std.proofs.lemmas.List.{take_rest}
+use Rattle.std.proofs.Common.{◌≡◌, [], ◌++◌, arith, length, take, refl, sym, subst, ap, ◌∙◌, append-nil}
 use Rattle.std.proofs.lemmas.Result.{err_from_is_err_and}
 use Rattle.ffv1_devices.specs.Logs.{Writes, StopsWriting}
+use Rattle.ffv1_devices.proofs.Fronts.{moves_front}
 use Rattle.ffv1_devices.proofs.Kept.{none_of-length}
 use Rattle.ffv1_devices.proofs.Steps.{Writes-nil, Writes-trans, StopsWriting-after, StopsWriting-of}
 use Rattle.ffv1_devices.proofs.writes.write_field.Goals as goal
-
-moves_front : (all done rest : List ℕ) (n : ℕ) → all ≡ done ++ rest → all ≡ (done ++ take n rest) ++ take (length rest - n) (drop n rest)
-moves_front all done rest n e =
-    e ∙ ap (λ l. done ++ l) (sym (take-append-drop n rest)) ∙ sym (append_assoc done (take n rest) (drop n rest))
-    ∙ ap (λ l. (done ++ take n rest) ++ l) (sym (take_rest rest n))
 
 pub loop-rest-init : goal.loop-rest-init
 loop-rest-init g c = ([], refl, Writes-nil _)

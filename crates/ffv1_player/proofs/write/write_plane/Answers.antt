@@ -1,16 +1,11 @@
-use Rattle.std.proofs.Common.{◌≡◌, ℕ, ◌-◌, List, ◌++◌, length, take, drop, sym, subst, ap, ◌∙◌, append_assoc, take-append-drop}
-use Rattle.std.proofs.lemmas.List.{take_rest}
+use Rattle.std.proofs.Common.{◌≡◌, ℕ, List, ◌++◌, take, drop, sym, subst, ap, ◌∙◌, take-append-drop}
 use Rattle.std.proofs.lemmas.Grind.{flat_map-append}
 use Rattle.std.proofs.lemmas.Result.{err_from_is_err_and}
 use Rattle.ffv1_devices.specs.Logs.{Writes, StopsWriting}
 use Rattle.ffv1_devices.proofs.Steps.{Writes-trans, StopsWriting-after, StopsWriting-of}
+use Rattle.ffv1_devices.proofs.Fronts.{moves_front}
 use Rattle.ffv1_player.specs.Written.{sample_bytes, plane_bytes}
 use Rattle.ffv1_player.proofs.write.write_plane.Goals as goal
-
-moves_front : (all done rest : List ℕ) (n : ℕ) → all ≡ done ++ rest → all ≡ (done ++ take n rest) ++ take (length rest - n) (drop n rest)
-moves_front all done rest n e =
-    e ∙ ap (λ l. done ++ l) (sym (take-append-drop n rest)) ∙ sym (append_assoc done (take n rest) (drop n rest))
-    ∙ ap (λ l. (done ++ take n rest) ++ l) (sym (take_rest rest n))
 
 plane_bytes-parts : (depth : ℕ) (all done rest : List ℕ) (n : ℕ) → all ≡ done ++ rest
     → plane_bytes depth done ++ (plane_bytes depth (take n rest) ++ plane_bytes depth (drop n rest)) ≡ plane_bytes depth all

@@ -1,14 +1,9 @@
-use Rattle.std.proofs.Common.{◌≡◌, ◌+◌, Bool, cond, List, ◌∷◌, length, count_by, arith, ap, subst}
-use Rattle.std.proofs.lemmas.List.Sums.{count_by-le-length, sum_by-cons}
-use Rattle.ffv1_slice.specs.Chain.{LinkValue}
+use Rattle.std.proofs.Common.{length, count_by, arith, ap, subst}
+use Rattle.std.proofs.lemmas.List.Sums.{count_by-le-length}
 use Rattle.ffv1_slice.specs.Ending.{EndsAs}
 use Rattle.ffv1_scan.specs.Verdicts.{is_passing}
 use Rattle.ffv1_scan.proofs.verdict.judge.Goals as goal
-
--- the passing ones of links are those after the first one, and this one, if it passes
-first_counted : {passing : Bool} {all links : List LinkValue} {link : LinkValue} → passing ≡ is_passing link → all ≡ link ∷ links
-    → count_by is_passing all ≡ cond passing 1 0 + count_by is_passing links
-first_counted {links = links} {link = link} is split = rw (split, is) (sum_by-cons (λ l. cond (is_passing l) 1 0) link links)
+use Rattle.ffv1_scan.proofs.ScanSteps.{first_counted}
 
 pub overflow_add-links : goal.overflow_add-links
 overflow_add-links c =

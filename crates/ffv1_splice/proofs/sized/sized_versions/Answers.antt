@@ -1,6 +1,6 @@
+use Rattle.ffv1_weave.proofs.WeaveSteps.{put_back}
 use Rattle.ffv1_splice.proofs.Common.{◌≡◌, ◌≤◌, ◌++◌, ◌∷◌, [], ℕ, List, take, drop, length, map, get_or, sym, ap, ◌∙◌, arith, slice_range, map_push, length-range, values_of, next_value, nowhere, versions_at, sized}
 use Rattle.ffv1_splice.proofs.FirstSlices.{length-sized}
-use Rattle.ffv1_splice.proofs.SpliceSteps.{put_back}
 use Rattle.ffv1_splice.proofs.sized.sized_versions.Goals as goal
 
 pub loop-copy-preserved : goal.loop-copy-preserved

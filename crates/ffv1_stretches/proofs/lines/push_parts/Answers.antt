@@ -2,15 +2,12 @@ use Rattle.std.proofs.Common.{◌≡◌, ◌<◌, ◌+◌, ◌++◌, ℕ, List, 
 use Rattle.std.specs.List.{zip}
 use Rattle.std.proofs.lemmas.List.{length-map}
 use Rattle.ffv1_mend.specs.declared.part.Part.{Part}
-use Rattle.ffv1_mend.specs.declared.part.Sort.TheVariants.{Frame}
 use Rattle.ffv1_mend.specs.Improved.{PartValue, part_value}
+use Rattle.ffv1_mend.proofs.PartSteps.{no_part}
 use Rattle.ffv1_stretches.specs.Inner.CellSteps.{cell_now}
 use Rattle.ffv1_stretches.specs.Lines.{cells_between, part_lines, parts_lines}
 use Rattle.ffv1_stretches.proofs.LineLemmas.{mend_at, parts_more, pairs_taken, lines_of_part}
 use Rattle.ffv1_stretches.proofs.lines.push_parts.Goals as goal
-
-abbrev no_part : Part
-no_part = record { start = 0; end = 0; sort = Frame }
 
 pub loop-index-preserved : goal.loop-index-preserved
 loop-index-preserved c =

@@ -1,9 +1,10 @@
 use Rattle.std.proofs.Common.{length, count_by, arith, ap, subst}
 use Rattle.std.proofs.lemmas.List.Sums.{count_by-le-length}
 use Rattle.ffv1_scan.specs.Verdicts.{is_passing}
+use Rattle.ffv1_scan.proofs.ScanSteps.{first_counted}
 use Rattle.ffv1_slice.specs.Ending.{EndsAs}
 use Rattle.matroska_parts.specs.Payloads.{passing_size}
-use Rattle.matroska_parts.proofs.FrameSteps.{first_counted, first_sized, size_fits}
+use Rattle.matroska_parts.proofs.FrameSteps.{first_sized, size_fits}
 use Rattle.matroska_parts.proofs.payloads.judge_frame.Goals as goal
 
 pub overflow_add-links : goal.overflow_add-links
