@@ -1,6 +1,6 @@
 -- Pieces and claimed starts, as the small definitions have them and as the splice's have.
-use Rattle.ffv1_splice.proofs.Common.{◌≡◌, ℕ, ◌+◌, ◌-◌, ◌<◌, ◌≤◌, List, length, refl, sym, ap, ◌∙◌, subst, arith, Contains, slice_range, PassesParity, FooterGives, IsFramed, LinkValue, length-range, size_of_range, size_before, AllReach, HasContent, IsPiece, IsClaimedStart, versions_at}
-use Rattle.ffv1_splice.specs.Small.{HasSliceFooter, PassesAsSlice, IsPieceAt, IsClaimedAbove}
+use Rattle.ffv1_splice.proofs.Common.{◌≡◌, ℕ, ◌+◌, ◌-◌, ◌<◌, ◌≤◌, List, length, sym, ap, ◌∙◌, subst, arith, Contains, slice_range, FooterGives, LinkValue, length-range, size_of_range, AllReach, HasContent, IsPiece, IsClaimedStart, versions_at}
+use Rattle.ffv1_splice.specs.Small.{HasSliceFooter, IsPieceAt, IsClaimedAbove}
 use Rattle.ffv1_splice.proofs.Versions.{version_there, version_of}
 use Rattle.ffv1_splice.proofs.SmallNear.{length_there, size_there}
 

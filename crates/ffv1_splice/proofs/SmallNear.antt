@@ -1,8 +1,8 @@
 -- Of near copies the pieces and claims at the end of an original's slice are its own.
-use Rattle.ffv1_splice.proofs.Common.{◌≡◌, ℕ, ◌+◌, ◌-◌, ◌<◌, ◌≤◌, List, [], ◌∷◌, length, drop, min, refl, sym, ap, ◌∙◌, subst, arith, inl, inr, Contains, slice_range, length-take, length-drop, burst, AreBytes, PassesParity, size_before, IsFramed, size_of_range, same_size_field, IsDamagedWithin32, versions_at}
+use Rattle.ffv1_splice.proofs.Common.{◌≡◌, ℕ, ◌+◌, ◌-◌, ◌<◌, ◌≤◌, List, [], ◌∷◌, length, drop, min, refl, sym, ap, ◌∙◌, subst, arith, inl, inr, Contains, slice_range, length-take, length-drop, burst, AreBytes, PassesParity, size_before, IsFramed, size_of_range, same_size_field, IsDamagedWithin32}
 use Rattle.std.specs.Prelude.{◌⊎◌}
 use Rattle.ffv1_slice.proofs.Links.{Contains-head}
-use Rattle.ffv1_splice.specs.Small.{PassesAsSlice, StandEach, IsJoinedOf, IsPieceAt, IsSettledAt, IsClaimedAbove, IsUncontradicted, IsOnlyFrom, IsAmongVersions, IsWithinReach, IsNearAt, IsSplicedFrom, SplicedOfNearIsTheOriginal, NearCopiesSettle}
+use Rattle.ffv1_splice.specs.Small.{StandEach, IsJoinedOf, IsPieceAt, IsSettledAt, IsClaimedAbove, IsUncontradicted, IsOnlyFrom, IsAmongVersions, IsWithinReach, IsNearAt, SplicedOfNearIsTheOriginal, NearCopiesSettle}
 use Rattle.ffv1_splice.proofs.Versions.{version_there, version_of}
 use Rattle.ffv1_splice.proofs.SmallSplices.{spliced_is_the_original}
 

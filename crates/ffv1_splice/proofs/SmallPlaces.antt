@@ -1,5 +1,5 @@
 -- A frame that is given back is spliced from the copies, as the small definitions have it.
-use Rattle.ffv1_splice.proofs.Common.{◌≡◌, ℕ, ◌+◌, ◌-◌, ◌<◌, ◌≤◌, List, [], ◌∷◌, ◌++◌, length, get_or, map, take, refl, sym, ap, ◌∙◌, subst, arith, inl, inr, ◌⊎◌, All, Contains, slice_range, reverse, append_assoc, append-nil, flat_map-append, take_all, reverse-append, length-range, All-head, All-tail, All-map, All-contains_itself, IsOnly, LinkValue, link_of, AllReach, IsPiece, IsClaimedStart, versions_at, StandsAs, SplicedValue, LieFrom, RiseFrom, IsSettledDown, IsSettledUp, IsBound, IsClaimedEnd, IsCrossed, crossing_places, IsSpliceOf, moved_by, hole_places, undivided_places, IsSettledOrWoven, IsGivenBack, Standing, Settled, Place}
+use Rattle.ffv1_splice.proofs.Common.{◌≡◌, ℕ, ◌+◌, ◌-◌, ◌≤◌, List, [], ◌∷◌, ◌++◌, length, get_or, map, take, refl, sym, ap, ◌∙◌, subst, arith, inl, inr, ◌⊎◌, All, Contains, slice_range, reverse, append_assoc, append-nil, flat_map-append, take_all, reverse-append, length-range, All-head, All-tail, All-map, All-contains_itself, LinkValue, link_of, AllReach, IsPiece, IsClaimedStart, versions_at, SplicedValue, LieFrom, RiseFrom, IsSettledDown, IsCrossed, IsSpliceOf, moved_by, hole_places, IsSettledOrWoven, IsGivenBack, Settled, Place}
 use Rattle.std.specs.List.{flat_map}
 use Rattle.std.proofs.lemmas.List.{reverse-reverse}
 use Rattle.ffv1_splice.specs.Small.{StandEach, IsPieceAt, IsOnlyUpTo, IsClaimedAbove, IsWovenAt, IsWovenUpward, IsSplicedFrom}
@@ -7,7 +7,7 @@ use Rattle.ffv1_splice.specs.SmallNotions.{GivenBackIsSpliced}
 use Rattle.ffv1_splice.proofs.PlaceLists.{All-reverse, All-left, All-right, lie_moved}
 use Rattle.ffv1_splice.proofs.Crossings.{rise_append}
 use Rattle.ffv1_splice.proofs.Narrowed.{claim_in}
-use Rattle.ffv1_splice.proofs.SplicePlaces.{lower, lower_rise, lower_upright, all_lower, after_above, all_of_hole, copy_at_hand, above_upright, end_within, start_within, hole_length, hole_rising, places_within}
+use Rattle.ffv1_splice.proofs.SplicePlaces.{lower, lower_rise, all_lower, after_above, all_of_hole, copy_at_hand, end_within, hole_length, places_within}
 use Rattle.ffv1_splice.proofs.BoundSteps.{bound_within}
 use Rattle.ffv1_splice.proofs.SameBytes.{take_on}
 use Rattle.ffv1_splice.proofs.StandingPlaces.{StandsBetween, between_hole, between_crossed, settled_piece, hole_given_back}

@@ -1,5 +1,5 @@
 -- What is asked of an original and its copies, as the small definitions have it, is asked of its links.
-use Rattle.ffv1_splice.proofs.Common.{◌≡◌, ℕ, ◌+◌, ◌-◌, ◌<◌, ◌≤◌, List, [], ◌∷◌, ◌++◌, length, map, take, refl, sym, ap, ◌∙◌, subst, arith, inl, inr, ◌⊎◌, Contains, slice_range, append_assoc, append-nil, take_all, AreBytes, AreBytes-range, PassesParity, FooterGives, IsEnd, IsLinkOf, LinkValue, link_of, last, before, length-range, IsOfTwo, IsDamagedWithin32, IsAmongTried, AllReach, HasContent, IsPiece, IsClaimedStart, PieceFrom, versions_at, sized, AreCopiesOf, AreConsistentWith, HaveEachLink, AreWeavable, AreNearCopies, IsIntact}
+use Rattle.ffv1_splice.proofs.Common.{◌≡◌, ℕ, ◌+◌, ◌-◌, ◌<◌, ◌≤◌, List, [], ◌∷◌, ◌++◌, length, map, take, refl, sym, ap, ◌∙◌, subst, arith, inl, inr, ◌⊎◌, Contains, slice_range, append_assoc, append-nil, take_all, AreBytes, AreBytes-range, PassesParity, IsEnd, IsLinkOf, LinkValue, link_of, last, before, length-range, IsOfTwo, IsDamagedWithin32, IsAmongTried, AllReach, HasContent, IsClaimedStart, PieceFrom, versions_at, sized, AreCopiesOf, AreConsistentWith, HaveEachLink, AreWeavable, AreNearCopies}
 use Rattle.std.specs.List.{flat_map}
 use Rattle.ffv1_splice.specs.Small.{PassesAsSlice, StandEach, IsJoinedOf, IsPieceAt, IsOnlyFrom, IsOnlyUpTo, IsSettledAt, IsClaimedAbove, IsUncontradicted, IsWithinReach, IsNearAt}
 use Rattle.ffv1_splice.specs.SmallNotions.{WeavableIsWithinReach, NearCopiesAreNear, EachLinkIsSettled}
@@ -8,7 +8,7 @@ use Rattle.ffv1_splice.proofs.DividedLinks.{end_within, same_cut}
 use Rattle.ffv1_splice.proofs.SameBytes.{take_on}
 use Rattle.ffv1_splice.proofs.WovenLaws.{framed_link}
 use Rattle.ffv1_splice.proofs.SmallNear.{length_there, joined_weaker}
-use Rattle.ffv1_splice.proofs.SmallClaims.{piece_ends, piece_to, piece_from, claim_to, claim_from}
+use Rattle.ffv1_splice.proofs.SmallClaims.{piece_to, piece_from, claim_to, claim_from}
 
 -- ---- the links of a payload, as slices
 

@@ -1,8 +1,8 @@
 -- An original that is settled from the copies, as the small definitions have it, is given back.
-use Rattle.ffv1_splice.proofs.Common.{◌≡◌, ℕ, ◌+◌, ◌-◌, ◌<◌, ◌≤◌, List, [], ◌∷◌, ◌++◌, length, refl, sym, ap, ◌∙◌, subst, arith, Contains, slice_range, append_assoc, append-nil, flat_map-append, length-append, length-range, size_before, FooterGives, IsEnd, IsLinkOf, IsFramed, LinkValue, link_of, last, before, AllReach, IsPiece, HasContent, SplicedValue, IsSpliceOf, IsSettledOrWoven, IsGivenBack, AreCopiesOf, AreConsistentWith, HaveEachLink, IsSplicedOriginal}
+use Rattle.ffv1_splice.proofs.Common.{◌≡◌, ℕ, ◌+◌, ◌-◌, ◌<◌, ◌≤◌, List, [], ◌∷◌, ◌++◌, length, sym, ap, ◌∙◌, subst, arith, slice_range, append_assoc, append-nil, flat_map-append, length-append, length-range, size_before, FooterGives, IsEnd, IsLinkOf, IsFramed, last, before, AllReach, IsSettledOrWoven, AreCopiesOf, AreConsistentWith, HaveEachLink}
 use Rattle.std.specs.List.{flat_map}
 use Rattle.ffv1_slice.proofs.Places.{size_in, range_in}
-use Rattle.ffv1_splice.specs.Small.{PassesAsSlice, StandEach, IsJoinedOf, IsPieceAt, IsSettledAt}
+use Rattle.ffv1_splice.specs.Small.{PassesAsSlice, StandEach, IsJoinedOf, IsSettledAt}
 use Rattle.ffv1_splice.specs.SmallNotions.{SettledIsGivenBack}
 use Rattle.ffv1_splice.proofs.DividedLinks.{end_within, link_at, same_cut}
 use Rattle.ffv1_splice.proofs.OriginalLaws.{original_is_spliced}

@@ -1,5 +1,5 @@
 -- What is spliced from copies, as the small definitions have it, is the original.
-use Rattle.ffv1_splice.proofs.Common.{◌≡◌, ℕ, ◌+◌, ◌<◌, ◌≤◌, List, [], ◌∷◌, ◌++◌, length, map, refl, sym, ap, ◌∙◌, subst, arith, inl, inr, Contains, append_assoc, IsOnly, IsOfTwo, IsAmongTried, versions_at, sized}
+use Rattle.ffv1_splice.proofs.Common.{◌≡◌, ℕ, ◌+◌, ◌<◌, ◌≤◌, List, [], ◌∷◌, ◌++◌, length, map, refl, sym, ap, ◌∙◌, subst, arith, inl, inr, Contains, append_assoc, IsOfTwo, IsAmongTried, versions_at, sized}
 use Rattle.std.specs.Prelude.{◌⊎◌}
 use Rattle.std.specs.List.{flat_map}
 use Rattle.ffv1_slice.proofs.Links.{Contains-head}
@@ -30,7 +30,7 @@ two_unraised copies floor end two = record {
 }
 
 -- what is among the combinations that are tried is tried, if anything is
-among_tried : (versions : List (List ℕ)) (slice bytes : List ℕ) → IsAmongTried versions slice → IsTried versions bytes → IsTried versions slice
+pub among_tried : (versions : List (List ℕ)) (slice bytes : List ℕ) → IsAmongTried versions slice → IsTried versions bytes → IsTried versions slice
 among_tried versions slice bytes among tried = (tried.0, tried.1, tried.2, among tried.0 tried.1 tried.2)
 
 -- ---- a slice of the original that is within reach

@@ -1,11 +1,10 @@
 -- Two copies of a frame of two small slices, each with another slice damaged: what is a piece of them, what is claimed, and what is settled.
 -- And two copies of one slice, from which it is woven.
-use Rattle.ffv1_splice.proofs.Common.{◌≡◌, ℕ, zero, suc, ◌+◌, ◌<◌, List, [], ◌∷◌, ◌++◌, length, refl, sym, ap, subst, inl, inr, arith, ◌⊎◌, Contains, slice_range, number_bits, bits_of, polynomial_of, divided, remainder_of, AreBytes, PassesParity, IsDamagedWithin32, AllReach, HasContent, versions_at, StandsAs, Woven, Place}
+use Rattle.ffv1_splice.proofs.Common.{◌≡◌, ℕ, zero, suc, List, [], ◌∷◌, length, refl, sym, ap, subst, inl, inr, arith, ◌⊎◌, Contains, slice_range, number_bits, bits_of, polynomial_of, divided, remainder_of, AreBytes, PassesParity, IsDamagedWithin32, AllReach, versions_at, Woven}
 use Rattle.ffv1_slice.proofs.NearVectors as vectors
-use Rattle.ffv1_splice.specs.Small.{HasSliceFooter, PassesAsSlice, IsJoinedOf, IsPieceAt, IsSettledAt, IsClaimedAbove, IsWovenAt, IsNearAt, IsSplicedFrom}
+use Rattle.ffv1_splice.specs.Small.{PassesAsSlice, IsJoinedOf, IsPieceAt, IsSettledAt, IsClaimedAbove, IsWovenAt, IsNearAt, IsSplicedFrom}
 use Rattle.ffv1_splice.proofs.Vectors.{copies}
 use Rattle.ffv1_splice.proofs.SeveralVectors.{damaged_copies, damaged_stands, bytes_by}
-use Rattle.ffv1_splice.proofs.StandingPlaces.{StandsBetween}
 use Rattle.ffv1_splice.proofs.SmallNear.{near_copies_settle}
 use Rattle.ffv1_splice.proofs.SmallSplices.{settled_is_spliced}
 use Rattle.ffv1_splice.proofs.SmallWoven.{stands_small}

@@ -1,5 +1,5 @@
 -- What stands woven in a splice is woven as the small definitions have it.
-use Rattle.ffv1_splice.proofs.Common.{◌≡◌, ℕ, ◌+◌, ◌-◌, ◌<◌, ◌≤◌, List, length, get_or, map, refl, sym, ap, ◌∙◌, subst, arith, inl, inr, ◌⊎◌, cases_eq, Contains, slice_range, IsOnly, IsOfTwo, IsOfNone, IsCombinationBy, IsTriedBy, Slice, AreFew, AllReach, IsPiece, link_of, IsClaimedStart, versions_at, sized, IsWeaveAt, IsWeaveFromFront, IsWeaveOfSeveral, StandsAs, IsSettledOrWoven, Standing, Settled, Woven, Place}
+use Rattle.ffv1_splice.proofs.Common.{◌≡◌, ℕ, ◌+◌, ◌-◌, ◌<◌, List, length, get_or, map, refl, sym, ap, ◌∙◌, subst, arith, inl, inr, ◌⊎◌, cases_eq, Contains, slice_range, IsOnly, IsOfTwo, IsOfNone, Slice, AreFew, AllReach, IsPiece, link_of, IsClaimedStart, versions_at, sized, IsWeaveFromFront, IsWeaveOfSeveral, StandsAs, IsSettledOrWoven, Standing, Settled, Woven, Place}
 use Rattle.ffv1_weave.specs.Combinations.{IsValid}
 use Rattle.ffv1_weave.specs.Weave.Weave.{woven}
 use Rattle.ffv1_weave.specs.Regions.{HaveLength}
@@ -8,7 +8,7 @@ use Rattle.ffv1_weave.proofs.AmongTried.{covered_is_combination}
 use Rattle.ffv1_weave.proofs.Tried.{tried_split}
 use Rattle.ffv1_splice.specs.Small.{PassesAsSlice, IsPieceAt, IsClaimedAbove, IsTried, IsTriedUpTo, IsWovenAt}
 use Rattle.ffv1_splice.specs.Small.IsTriedUpTo.{alone, several, unclaimed}
-use Rattle.ffv1_splice.proofs.Versions.{version_there, version_of, version_length}
+use Rattle.ffv1_splice.proofs.Versions.{version_of, version_length}
 use Rattle.ffv1_splice.proofs.Narrowed.{versions_of_versions, claim_in, claim_out}
 use Rattle.ffv1_splice.proofs.StandingPlaces.{StandsBetween}
 use Rattle.ffv1_splice.proofs.WholeFrames.{IsWholeSlice}
