@@ -11,3 +11,4 @@ pub mod MendLaws
 pub mod Vouched
 pub mod Covered
 pub mod NearVersions
+pub mod SmallMends

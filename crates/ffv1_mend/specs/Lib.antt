@@ -3,6 +3,8 @@ pub mod Passing
 pub mod Improved
 pub mod Mended
 pub mod Laws
+pub mod Small
+pub mod SmallNotions
 pub mod Inner
 -- what the clauses cite of the crates below
 pub use Rattle.ffv1_bits.specs.Bits

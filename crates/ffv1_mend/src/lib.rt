@@ -16,6 +16,7 @@ mod part;
 mod parts;
 mod passing;
 mod plain;
+mod small;
 mod state;
 
 pub use frame::frame_state;
@@ -24,4 +25,5 @@ pub use laws::{good_is_vouched, near_versions_mend, original_is_mended, same_ver
 pub use mended::Mended;
 pub use mending::mend;
 pub use part::{MendedPart, Part, Sort};
+pub use small::{good_is_the_original, notions_are_of_mends};
 pub use state::State;
