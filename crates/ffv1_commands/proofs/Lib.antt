@@ -21,6 +21,8 @@ pub mod PictureSteps
 pub mod CommandLaws
 pub mod AnyPictureLaws
 pub mod SmallCommandLaws
+pub mod SmallSpliceLaws
+pub mod SmallMendLaws
 pub mod SpliceCommandLaws
 pub mod WholeFrames
 pub mod Wrapped

@@ -120,7 +120,7 @@ any_order_makes_one_file list other_list copies others stretches reordered one o
 
 -- ---- what is good
 
-both_true : (x y : Bool) → (x && y) ≡ true → (x ≡ true) × (y ≡ true)
+pub both_true : (x y : Bool) → (x && y) ≡ true → (x ≡ true) × (y ≡ true)
 both_true true y all = (refl, all)
 both_true false y all = absurd (let no : false ≡ true = all in cc)
 

@@ -2,6 +2,8 @@
 ghost use Rattle.ffv1_commands.specs.Commands.{MadeOfCopies, SameCopiesMakeOneFile, SameCopiesMakeOneHolding, SameCopiesMakeOneReport, CommandsRestoreTheOriginal, CommandsRestoreNearCopies, CommandsShowTheOriginal, CommandsShowNearCopies};
 ghost use Rattle.ffv1_commands.specs.AnyPictureLaws.{AnyPictureShowsTheOriginal, AnyPictureShowsNearCopies, AnyPictureShowsTheKeyframe};
 ghost use Rattle.ffv1_commands.specs.SmallCommands.{CommandsRestoreByAFunction};
+ghost use Rattle.ffv1_commands.specs.SmallSplices.{TrueIsSpliced, SettledIsMade};
+ghost use Rattle.ffv1_commands.specs.SmallMends.{TrueIsGood};
 ghost use Rattle.ffv1_commands.specs.MendLaws.{ListedIsMade, AnyOrderMakesOneFile, TrueIsVouched, MendGivesTheOriginal};
 ghost use Rattle.ffv1_commands.specs.UnreadLaws.{UnreadIsGivenUp, LongCopyIsGivenUp};
 ghost use Rattle.ffv1_commands.specs.SpliceLaws.{SameCopiesMakeOneSplice, SpliceGivesTheOriginal, SpliceGivesNearCopies, SpliceGivesWovenCopies, SpliceGivesNearWovenCopies, TrueIsWhole};
@@ -80,6 +82,14 @@ pub fn splice_reports_whole_frames()
     ensures { TrueIsWhole }
 {}
 
+/// Where `splice` returns `true`, what it wrote is spliced from the copies, as the small definitions have it; and where an original is settled
+/// from the copies, `splice` writes it byte for byte and returns `true`. By `true_splices_are_the_original` what is spliced is the
+/// original where no piece contradicts it and each of its slices is within reach, and near copies settle it where each is a piece.
+pub fn splice_makes_what_is_spliced()
+    ensures spliced { TrueIsSpliced }
+    ensures settled { SettledIsMade }
+{}
+
 /// What `mend` makes is what becomes of the stretches that the list lists, and nothing else: OUT is their bytes, one after the other, the
 /// lines are theirs, and it returns whether each is whole, woven or agreed. What stands in a copy after its last stretch changes
 /// nothing.
@@ -108,6 +118,12 @@ pub fn mend_claims_what_is_vouched()
 /// them.
 pub fn mend_gives_the_original()
     ensures { MendGivesTheOriginal }
+{}
+
+/// Where `mend` returns `true`, what it wrote is the bytes of the stretches, one after the other, and each is good as the small definitions
+/// have it. By `good_is_the_original` such a stretch is the original that is known again.
+pub fn mend_makes_what_is_good()
+    ensures { TrueIsGood }
 {}
 
 /// An input of at most 2^30 bytes that is read whole, as a record, a list, a copy for `splice` or a frame of `samples`, is reported as unread

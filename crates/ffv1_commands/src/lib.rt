@@ -40,9 +40,9 @@ pub use join::{join_of, run_join};
 pub use laws::{
     any_order_makes_one_file, any_picture_shows_the_original, commands_restore_by_a_function,
     commands_restore_the_original, mend_claims_what_is_vouched, mend_gives_the_original,
-    mend_makes_what_is_listed, same_copies_make_one_file, same_copies_make_one_splice,
-    splice_gives_the_original, splice_reports_whole_frames, splice_weaves_the_original,
-    unread_files_were_given_up,
+    mend_makes_what_is_good, mend_makes_what_is_listed, same_copies_make_one_file,
+    same_copies_make_one_splice, splice_gives_the_original, splice_makes_what_is_spliced,
+    splice_reports_whole_frames, splice_weaves_the_original, unread_files_were_given_up,
 };
 pub use mend::{mend_of, run_mend};
 pub use merge::{merge_of, run_merge};
