@@ -85,14 +85,19 @@ def faults() -> typing.Iterator[str]:
 # crate and its name, with its type where it is one of a type's own.
 THEOREMS = {
     "C": ["ffv1_holding.copies_restore_the_original"],
+    "T": ["ffv1_splice.true_splices_are_the_original"],
     "H": ["ffv1_commands.same_copies_make_one_file", "ffv1_commands.commands_restore_the_original"],
     "S": ["ffv1_commands.same_copies_make_one_splice", "ffv1_commands.splice_gives_the_original", "ffv1_commands.splice_weaves_the_original"],
+    "G": ["ffv1_mend.good_is_the_original"],
     "M": ["ffv1_commands.any_order_makes_one_file", "ffv1_commands.mend_claims_what_is_vouched", "ffv1_commands.mend_gives_the_original"],
     "R": ["ffv1_plane.one_reading", "ffv1_plane.one_fault"],
     "A": ["ffv1_player.Player::decode", "ffv1_samples.tile_is_slice", "ffv1_player.frame_is_played"],
     "D": ["ffv1_bits.burst_seen", "ffv1_slice.near_found"],
 }
-NAMES = {"C": "copies", "H": "holdings", "S": "splicing", "M": "files", "R": "one reading", "A": "one reading of any recording", "D": "small damage"}
+NAMES = {
+    "C": "copies", "T": "true splices", "H": "holdings", "S": "splicing", "G": "good stretches", "M": "files", "R": "one reading",
+    "A": "one reading of any recording", "D": "small damage",
+}
 MADE = re.compile(r"(?<=<!-- made -->\n).*?(?=<!-- /made -->)", re.S)
 
 
