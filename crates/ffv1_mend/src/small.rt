@@ -6,7 +6,7 @@ ghost use Rattle.ffv1_mend.specs.SmallNotions.{GoodIsOfMend, OriginalIsKnownAgai
 /// slice within reach; if an element, a record or a frame of FLAC passes, no version that passes is another, and it is among what is tried;
 /// and if some version has the bytes that have no checksum.
 pub fn good_is_the_original()
-    ensures original { GoodIsTheOriginal }
+    ensures { GoodIsTheOriginal }
 {}
 
 /// What becomes of a stretch is what the small definitions say, where it is good; and no more is asked of an original than in
