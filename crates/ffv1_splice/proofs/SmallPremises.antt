@@ -4,7 +4,7 @@ use Rattle.std.specs.List.{flat_map}
 use Rattle.ffv1_splice.specs.Small.{PassesAsSlice, StandEach, IsJoinedOf, IsPieceAt, IsOnlyFrom, IsOnlyUpTo, IsSettledAt, IsClaimedAbove, IsUncontradicted, IsWithinReach, IsNearAt}
 use Rattle.ffv1_splice.specs.SmallNotions.{WeavableIsWithinReach, NearCopiesAreNear, EachLinkIsSettled}
 use Rattle.ffv1_splice.proofs.Versions.{version_of}
-use Rattle.ffv1_splice.proofs.DividedLinks.{end_within, same_cut}
+use Rattle.ffv1_slice.proofs.Links.{end_within, same_cut}
 use Rattle.ffv1_splice.proofs.SameBytes.{take_on}
 use Rattle.ffv1_splice.proofs.WovenLaws.{framed_link}
 use Rattle.ffv1_splice.proofs.SmallNear.{length_there, joined_weaker}

@@ -4,7 +4,8 @@ use Rattle.std.specs.List.{flat_map}
 use Rattle.ffv1_slice.proofs.Places.{size_in, range_in}
 use Rattle.ffv1_splice.specs.Small.{PassesAsSlice, StandEach, IsJoinedOf, IsSettledAt}
 use Rattle.ffv1_splice.specs.SmallNotions.{SettledIsGivenBack}
-use Rattle.ffv1_splice.proofs.DividedLinks.{end_within, link_at, same_cut}
+use Rattle.ffv1_slice.proofs.Links.{end_within, same_cut}
+use Rattle.ffv1_splice.proofs.DividedLinks.{link_at}
 use Rattle.ffv1_splice.proofs.OriginalLaws.{original_is_spliced}
 use Rattle.ffv1_splice.proofs.StandingSlices.{LastOf, last_of}
 use Rattle.ffv1_splice.proofs.SmallSplices.{passing_long}
