@@ -1,6 +1,6 @@
 use Rattle.std.proofs.Common.{◌≡◌, ◌++◌, ℕ, List, OnOk, string_bytes, sym, subst}
-use Rattle.ffv1_play.proofs.LineSteps.{unclean_line-fragments}
-use Rattle.ffv1_play.proofs.lines.push_unclean.Goals as goal
+use Rattle.ffv1_player.proofs.LineSteps.{unclean_line-fragments}
+use Rattle.ffv1_player.proofs.frame_lines.push_unclean.Goals as goal
 
 pub returns : goal.returns
 returns c =

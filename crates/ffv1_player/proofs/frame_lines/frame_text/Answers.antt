@@ -1,9 +1,9 @@
 use Rattle.std.proofs.Common.{◌++◌, ◌<◌, ◌≤◌, List, ℕ, length, get_or, ap, ◌∙◌, false, take_all, arith}
 use Rattle.std.specs.String.{string_bytes}
 use Rattle.ffv1_player.specs.declared.samples.SliceEnd.{SliceEnd}
-use Rattle.ffv1_play.specs.FrameLines.{played_line, slice_line, unclean_lines}
-use Rattle.ffv1_play.proofs.LineSteps.{unclean_lines-more}
-use Rattle.ffv1_play.proofs.lines.frame_text.Goals as goal
+use Rattle.ffv1_player.specs.FrameLines.{played_line, slice_line, unclean_lines}
+use Rattle.ffv1_player.proofs.LineSteps.{unclean_lines-more}
+use Rattle.ffv1_player.proofs.frame_lines.frame_text.Goals as goal
 
 -- what an index past the end would read
 abbrev no_end : SliceEnd

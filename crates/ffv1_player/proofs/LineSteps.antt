@@ -3,7 +3,7 @@ use Rattle.std.proofs.Common.{◌≡◌, ◌+◌, ◌<◌, ◌≤◌, ℕ, suc, 
 use Rattle.std.proofs.lemmas.List.{take_more, length-take-le}
 use Rattle.std.specs.Fmt.{decimal}
 use Rattle.ffv1_player.specs.declared.samples.SliceEnd.{SliceEnd}
-use Rattle.ffv1_play.specs.FrameLines.{unclean_line, slice_line, unclean_lines}
+use Rattle.ffv1_player.specs.FrameLines.{unclean_line, slice_line, unclean_lines}
 
 -- the fragments of a line, as they are written
 pub unclean_line-fragments : (place spare : ℕ) → unclean_line place spare

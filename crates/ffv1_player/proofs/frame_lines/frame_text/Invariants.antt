@@ -1,6 +1,6 @@
 use Rattle.std.proofs.Common.{◌≡◌, ◌++◌, take, string_bytes}
-use Rattle.ffv1_play.specs.FrameLines.{played_line, unclean_lines}
-use Rattle.ffv1_play.proofs.lines.frame_text.Given as goal
+use Rattle.ffv1_player.specs.FrameLines.{played_line, unclean_lines}
+use Rattle.ffv1_player.proofs.frame_lines.frame_text.Given as goal
 
 -- the lines so far
 abbrev pub invariant-loop-place : goal.invariant-loop-place

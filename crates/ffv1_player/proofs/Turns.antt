@@ -2,7 +2,7 @@
 use Rattle.std.proofs.Common.{◌≡◌, ◌<◌, ℕ, zero, suc, List, [], ◌∷◌, ◌++◌, length, get_or, set, map, refl, sym, subst, arith}
 use Rattle.std.proofs.lemmas.List.{length-map, get_or-map, map-set}
 use Rattle.ffv1_devices.specs.Logs.{ReadLog}
-use Rattle.ffv1_play.specs.Payloads.{TakesWhole, AreReadInTurn, AreReadUpTo}
+use Rattle.ffv1_player.specs.Payloads.{TakesWhole, AreReadInTurn, AreReadUpTo}
 
 -- the next source went so
 up_to : (Went : ReadLog → ReadLog → Type 0) (olds news : List ReadLog) (payloads : List (List ℕ)) (place : ℕ) (d new : ReadLog) → place ≡ length payloads

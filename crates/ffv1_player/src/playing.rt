@@ -1,12 +1,15 @@
-//! Frames, one after the other.
+//! Frames of sources, played one after the other.
 ghost use Rattle.std.specs.Prelude.{◌≡◌, ◌⊎◌, map, IfErr};
-ghost use Rattle.ffv1_play.specs.Played.{PlaysFrames, HasFirstFrame};
-ghost use Rattle.ffv1_play.specs.Inner.Steps.{ReadsPayload, DecodesNext, PlaysNext, ShowsFrame};
+ghost use Rattle.ffv1_player.specs.Played.{PlaysFrames, HasFirstFrame};
+ghost use Rattle.ffv1_player.specs.Inner.PlaySteps.{ReadsPayload, DecodesNext, PlaysNext, ShowsFrame};
 
-use crate::lines::{frame_text, is_clean_frame};
+use crate::fault::SamplesFault;
+use crate::frame_lines::{frame_text, is_clean_frame};
+use crate::player::Player;
+use crate::samples::Samples;
+use crate::write::write_samples;
 use ffv1_bits::PAYLOAD_LIMIT;
 use ffv1_devices::{Sink, Source, WholeFault, WriteFailed, read_whole, write_field};
-use ffv1_player::{Player, Samples, SamplesFault, write_samples};
 use std::alloc::{AllocError, Global};
 
 /// Why the frames were not all played.
@@ -25,7 +28,7 @@ pub enum PlayFault {
 }
 
 impl From<AllocError> for PlayFault {
-    ghost use Rattle.ffv1_play.specs.declared.play.PlayFault.TheVariants.{Memory};
+    ghost use Rattle.ffv1_player.specs.declared.playing.PlayFault.TheVariants.{Memory};
     ghost use Rattle.std.specs.Prelude.{◌≡◌};
 
     ghost from_gives = { λ _ fault. fault ≡ Memory };

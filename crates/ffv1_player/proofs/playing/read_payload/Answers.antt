@@ -1,5 +1,5 @@
 use Rattle.std.proofs.Common.{refl, inl, inr}
-use Rattle.ffv1_play.proofs.play.read_payload.Goals as goal
+use Rattle.ffv1_player.proofs.playing.read_payload.Goals as goal
 
 pub returns-in-Ok : goal.returns-in-Ok
 returns-in-Ok g c = let (read, end, few) = c.in-Ok.ensures in record { read = read; end = end; few = few }

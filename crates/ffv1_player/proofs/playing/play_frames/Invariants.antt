@@ -1,6 +1,6 @@
 use Rattle.std.proofs.Common.{◌≡◌, map}
-use Rattle.ffv1_play.proofs.PlaySteps.{IsPlaying}
-use Rattle.ffv1_play.proofs.play.play_frames.Given as goal
+use Rattle.ffv1_player.proofs.PlaySteps.{IsPlaying}
+use Rattle.ffv1_player.proofs.playing.play_frames.Given as goal
 
 -- The frames of the sources so far were played. Before the first, nothing is touched.
 abbrev pub invariant-loop-place : goal.invariant-loop-place

@@ -1,8 +1,8 @@
 //! The lines of a frame: its own, and one for each slice that does not end as an encoder ends it (own).
 ghost use Rattle.std.specs.Prelude.{◌≡◌, ◌++◌, OnOk, IfOk, string_bytes};
-ghost use Rattle.ffv1_play.specs.FrameLines.{is_clean_frame, played_line, unclean_line, slice_line, frame_text};
+ghost use Rattle.ffv1_player.specs.FrameLines.{is_clean_frame, played_line, unclean_line, slice_line, frame_text};
 
-use ffv1_player::{Samples, SliceEnd};
+use crate::samples::{Samples, SliceEnd};
 use std::alloc::{AllocError, Global};
 
 /// Whether each slice of a frame ends as an encoder ends it.

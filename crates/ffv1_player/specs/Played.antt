@@ -9,10 +9,10 @@ use Rattle.ffv1_player.specs.Players.{PlayerValue}
 use Rattle.ffv1_player.specs.Written.{samples_bytes}
 use Rattle.ffv1_player.specs.declared.fault.SamplesFault.TheVariants as samples_faults
 use Rattle.ffv1_player.specs.declared.samples.Samples.{Samples}
-use Rattle.ffv1_play.specs.Payloads.{TakesWhole, StopsWithin, IsUnread, AreReadInTurn, AreReadUpTo, FirstWent}
-use Rattle.ffv1_play.specs.FrameLines.{is_clean_frame, frames_text}
-use Rattle.ffv1_play.specs.declared.play.PlayFault.{PlayFault}
-use Rattle.ffv1_play.specs.declared.play.PlayFault.TheVariants as faults
+use Rattle.ffv1_player.specs.Payloads.{TakesWhole, StopsWithin, IsUnread, AreReadInTurn, AreReadUpTo, FirstWent}
+use Rattle.ffv1_player.specs.FrameLines.{is_clean_frame, frames_text}
+use Rattle.ffv1_player.specs.declared.playing.PlayFault.{PlayFault}
+use Rattle.ffv1_player.specs.declared.playing.PlayFault.TheVariants as faults
 
 -- Each payload has its frame, after what the one before it has left; and this is what the last one leaves.
 abbrev pub ArePlayed : RecordingValue → Option (List LeftValue) → List (List ℕ) → List Samples → Option (List LeftValue) → Type 0

@@ -1,9 +1,9 @@
 use Rattle.std.proofs.Common.{◌<◌, length, get_or, refl, map, arith, inr}
 use Rattle.std.proofs.lemmas.Result.{err_from_is_err_and}
 use Rattle.std.proofs.lemmas.List.{length-map}
-use Rattle.ffv1_play.proofs.Turns.{next_went}
-use Rattle.ffv1_play.proofs.PlaySteps.{none_played, all_played, next_stops, next_keeps, shown_first, shown_stops, shown_on}
-use Rattle.ffv1_play.proofs.play.play_frames.Goals as goal
+use Rattle.ffv1_player.proofs.Turns.{next_went}
+use Rattle.ffv1_player.proofs.PlaySteps.{none_played, all_played, next_stops, next_keeps, shown_first, shown_stops, shown_on}
+use Rattle.ffv1_player.proofs.playing.play_frames.Goals as goal
 
 pub loop-place-init : goal.loop-place-init
 loop-place-init g c = record {

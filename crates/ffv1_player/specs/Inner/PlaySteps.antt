@@ -7,10 +7,10 @@ use Rattle.ffv1_player.specs.Players.{PlayerValue, player_value}
 use Rattle.ffv1_player.specs.Written.{samples_bytes}
 use Rattle.ffv1_player.specs.declared.fault.SamplesFault.TheVariants as samples_faults
 use Rattle.ffv1_player.specs.declared.samples.Samples.{Samples}
-use Rattle.ffv1_play.specs.Payloads.{TakesWhole, StopsWithin, IsUnread}
-use Rattle.ffv1_play.specs.FrameLines.{is_clean_frame, frame_text}
-use Rattle.ffv1_play.specs.declared.play.PlayFault.{PlayFault}
-use Rattle.ffv1_play.specs.declared.play.PlayFault.TheVariants as faults
+use Rattle.ffv1_player.specs.Payloads.{TakesWhole, StopsWithin, IsUnread}
+use Rattle.ffv1_player.specs.FrameLines.{is_clean_frame, frame_text}
+use Rattle.ffv1_player.specs.declared.playing.PlayFault.{PlayFault}
+use Rattle.ffv1_player.specs.declared.playing.PlayFault.TheVariants as faults
 
 -- the source at this place was read whole, or it was not
 abbrev pub ReadsPayload : {T : Type 0} → (T → List ℕ) → ℕ → Result T PlayFault → ReadLog → ReadLog → Type 0

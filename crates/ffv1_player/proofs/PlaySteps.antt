@@ -11,13 +11,13 @@ use Rattle.ffv1_player.specs.Faults.{IsFirstSamplesFault}
 use Rattle.ffv1_player.specs.Players.{PlayerValue, player_value}
 use Rattle.ffv1_player.specs.Written.{samples_bytes}
 use Rattle.ffv1_player.specs.declared.samples.Samples.{Samples}
-use Rattle.ffv1_play.specs.Payloads.{TakesWhole, StopsWithin, IsUnread, AreReadInTurn, AreReadUpTo}
-use Rattle.ffv1_play.specs.FrameLines.{is_clean_frame, frame_text, frames_text}
-use Rattle.ffv1_play.specs.Played.{ArePlayed, frames_bytes, are_clean, PlaysAll, PlaysFront, StopsPlaying, HasFirstFrame}
-use Rattle.ffv1_play.specs.Inner.Steps.{DecodesNext, PlaysNext, ShowsFrame}
-use Rattle.ffv1_play.specs.declared.play.PlayFault.{PlayFault}
-use Rattle.ffv1_play.specs.declared.play.PlayFault.TheVariants as faults
-use Rattle.ffv1_play.proofs.Turns.{in_turn}
+use Rattle.ffv1_player.specs.Payloads.{TakesWhole, StopsWithin, IsUnread, AreReadInTurn, AreReadUpTo}
+use Rattle.ffv1_player.specs.FrameLines.{is_clean_frame, frame_text, frames_text}
+use Rattle.ffv1_player.specs.Played.{ArePlayed, frames_bytes, are_clean, PlaysAll, PlaysFront, StopsPlaying, HasFirstFrame}
+use Rattle.ffv1_player.specs.Inner.PlaySteps.{DecodesNext, PlaysNext, ShowsFrame}
+use Rattle.ffv1_player.specs.declared.playing.PlayFault.{PlayFault}
+use Rattle.ffv1_player.specs.declared.playing.PlayFault.TheVariants as faults
+use Rattle.ffv1_player.proofs.Turns.{in_turn}
 
 -- ---- frames
 

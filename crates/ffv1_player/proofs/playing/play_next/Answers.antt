@@ -1,7 +1,7 @@
 use Rattle.std.proofs.Common.{subst}
-use Rattle.ffv1_play.specs.Inner.Steps.{DecodesNext}
-use Rattle.ffv1_play.proofs.PlaySteps.{next_of}
-use Rattle.ffv1_play.proofs.play.play_next.Goals as goal
+use Rattle.ffv1_player.specs.Inner.PlaySteps.{DecodesNext}
+use Rattle.ffv1_player.proofs.PlaySteps.{next_of}
+use Rattle.ffv1_player.proofs.playing.play_next.Goals as goal
 
 pub returns : goal.returns
 returns g c =
