@@ -56,13 +56,13 @@ pub fn picture(alloc: Global, holding: &Holding) -> Result<Partial, AllocError>
     let count = setup.grid().tiles();
     let mut tiles = Vec::with_capacity(alloc, count)?;
     for tile in 0..count {
-        tiles.push(show_tile(alloc, holding, tile, &mut frame)?)?;
+        tiles.push(draw_tile(alloc, holding, tile, &mut frame)?)?;
     }
     Ok(Partial { frame, tiles })
 }
 
 /// Draws a tile's settled slice, if it has one with a picture, and returns how the tile came out.
-fn show_tile(
+fn draw_tile(
     alloc: Global,
     holding: &Holding,
     tile: usize,

@@ -4,7 +4,7 @@ use Rattle.ffv1_slice.specs.Members.{HasSameMembers}
 use Rattle.ffv1_splice.specs.Splice.{IsSpliceOf}
 use Rattle.ffv1_weave.specs.References.{values_of}
 use Rattle.ffv1_mend.proofs.SameMembers.{some_lent, splice_lent, kept_ok}
-use Rattle.ffv1_mend.proofs.parts.splice_of.Goals as goal
+use Rattle.ffv1_mend.proofs.parts.splice_distinct.Goals as goal
 
 pub splice-requires : goal.splice-requires
 splice-requires c =

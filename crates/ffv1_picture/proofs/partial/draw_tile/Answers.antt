@@ -9,7 +9,7 @@ use Rattle.ffv1_picture.specs.declared.partial.TileOutcome.TheVariants.{Decoded,
 use Rattle.ffv1_plane.specs.declared.tile.TileFault.TheVariants.{Memory}
 use Rattle.ffv1_picture.specs.TilePictures.{IsUnreadable}
 use Rattle.ffv1_picture.proofs.SettledSlices.{settled_entry}
-use Rattle.ffv1_picture.proofs.partial.show_tile.Goals as goal
+use Rattle.ffv1_picture.proofs.partial.draw_tile.Goals as goal
 
 pub draw_slice-requires-clause-footer : goal.draw_slice-requires-clause-footer
 draw_slice-requires-clause-footer c = slice_footer c.args.holding.now.reel.rules c.in-Settled.slice.now _ c.args.tile
