@@ -63,7 +63,7 @@ pub use Rattle.ffv1_picture.specs.WholePicture
 pub use Rattle.ffv1_picture.specs.Frames
 pub use Rattle.ffv1_picture.specs.FrameFaults
 pub use Rattle.ffv1_picture.specs.PartialPictures
-pub use Rattle.ffv1_picture.specs.ReportText
+pub use Rattle.ffv1_holding.specs.ReportText
 pub use Rattle.ffv1_player.specs.Frames as PlayedFrames
 pub use Rattle.ffv1_player.specs.Faults as SamplesFaults
 pub use Rattle.ffv1_player.specs.Players

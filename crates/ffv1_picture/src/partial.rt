@@ -11,7 +11,7 @@ ghost use Rattle.ffv1_picture.specs.TileAlone.{TileAlone};
 
 use crate::drawing::draw_slice;
 use crate::frame::Frame;
-use ffv1_hold::{Holding, TileState};
+use ffv1_holding::{Holding, TileState};
 use ffv1_plane::TileFault;
 use std::alloc::{AllocError, Global};
 

@@ -8,7 +8,7 @@ use Rattle.ffv1_picture.specs.PartialPictures.{IsShown}
 use Rattle.ffv1_picture.specs.declared.partial.TileOutcome.TheVariants.{Decoded, Fault}
 use Rattle.ffv1_plane.specs.declared.tile.TileFault.TheVariants.{Memory}
 use Rattle.ffv1_picture.specs.TilePictures.{IsUnreadable}
-use Rattle.ffv1_picture.proofs.SettledSlices.{settled_entry}
+use Rattle.ffv1_holding.proofs.SettledSlices.{settled_entry}
 use Rattle.ffv1_picture.proofs.partial.draw_tile.Goals as goal
 
 pub draw_slice-requires-clause-footer : goal.draw_slice-requires-clause-footer
