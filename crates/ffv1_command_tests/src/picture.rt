@@ -3,10 +3,10 @@
 //! Helpers make the calls, so that each test sees plain values.
 use crate::holding::{held_of, is_payload};
 use crate::streams::{has_failed_after, narrow_sink};
-use ffv1_hold::{FromWrite, Holding, Plan, RestoreFault};
+use ffv1_hold::{FromWrite, Holding, Plan, Restoration, RestoreFault, restored};
+use ffv1_holding::report;
 use ffv1_picture::{
-    Decoder, Frame, FrameFault, Partial, Restoration, TileOutcome, WriteFault, picture, report,
-    restored, write_raw,
+    Decoder, Frame, FrameFault, Partial, TileOutcome, WriteFault, picture, write_raw,
 };
 use ffv1_plane::TileFault;
 use ffv1_range::{HeadFault, SetupFault};

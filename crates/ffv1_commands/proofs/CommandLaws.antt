@@ -28,10 +28,10 @@ use Rattle.ffv1_holding.proofs.ExactlyHeld.{exactly_held, near_are_copies}
 use Rattle.ffv1_hold.proofs.PlanSteps.{one_reel}
 use Rattle.ffv1_holding.proofs.Restored.{restored_original}
 use Rattle.ffv1_hold.proofs.TextLaws.{one_text}
-use Rattle.ffv1_picture.specs.Headline.{AreEqualInAll, ShowsSlices}
+use Rattle.ffv1_hold.specs.Restorations.{AreEqualInAll, ShowsSlices}
 use Rattle.ffv1_picture.specs.PartialPictures.{IsPartialPicture}
-use Rattle.ffv1_picture.specs.ReportText.{report_text}
-use Rattle.ffv1_picture.proofs.Restorations.{same_in_all, exact_settles, exact_shows}
+use Rattle.ffv1_holding.specs.ReportText.{report_text}
+use Rattle.ffv1_hold.proofs.Restorations.{same_in_all, exact_settles, exact_shows}
 use Rattle.ffv1_commands.specs.Devices.{AreWholeInputs}
 use Rattle.ffv1_commands.specs.Holdings.{IsHoldingFile, HasFile, IsHoldingFault}
 use Rattle.ffv1_commands.specs.TakeText.{TakesCopies}

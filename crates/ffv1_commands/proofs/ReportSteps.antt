@@ -4,7 +4,7 @@ use Rattle.ffv1_holding.specs.declared.recordings.Recordings.{Recordings}
 use Rattle.ffv1_devices.specs.Logs.{ReadLog, WriteLog}
 use Rattle.ffv1_holding.specs.Contents.{Contents}
 use Rattle.ffv1_hold.specs.FileFaults.{ReadsHolding}
-use Rattle.ffv1_picture.specs.ReportText.{report_text}
+use Rattle.ffv1_holding.specs.ReportText.{report_text}
 use Rattle.ffv1_commands.specs.Inner.Devices.{WritesNamed}
 use Rattle.ffv1_commands.specs.Paths.{IsReportPath}
 use Rattle.ffv1_commands.specs.ReportedText.{ReportsFile, ReportStops, ReportBreaks, ReportsReport}

@@ -9,10 +9,10 @@ use Rattle.ffv1_devices.specs.Logs.{ReadLog, WriteLog}
 use Rattle.ffv1_player.specs.Frames.{LeftValue}
 use Rattle.ffv1_player.specs.Players.{PlayerValue, player_value}
 use Rattle.ffv1_player.specs.declared.samples.Samples.{Samples}
-use Rattle.ffv1_play.specs.Payloads.{AreReadInTurn, AreReadUpTo}
-use Rattle.ffv1_play.specs.Played.{PlaysAll, PlaysFront, StopsPlaying, HasFirstFrame}
-use Rattle.ffv1_play.specs.declared.play.PlayFault.{PlayFault}
-use Rattle.ffv1_play.specs.declared.play.PlayFault.TheVariants as stops
+use Rattle.ffv1_player.specs.Payloads.{AreReadInTurn, AreReadUpTo}
+use Rattle.ffv1_player.specs.Played.{PlaysAll, PlaysFront, StopsPlaying, HasFirstFrame}
+use Rattle.ffv1_player.specs.declared.playing.PlayFault.{PlayFault}
+use Rattle.ffv1_player.specs.declared.playing.PlayFault.TheVariants as stops
 use Rattle.ffv1_commands.specs.Devices.{TakesWhole, IsWholeInput, AreWholeInputs, IfOfRecord}
 use Rattle.ffv1_commands.specs.Fault.{of_play}
 use Rattle.ffv1_commands.specs.InTurn.{log_of, WentAt}

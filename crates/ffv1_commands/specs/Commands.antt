@@ -12,7 +12,7 @@ use Rattle.ffv1_holding.specs.declared.recordings.Recordings.TheVariants.{Profil
 use Rattle.ffv1_holding.specs.declared.recordings.Recordings.{Recordings}
 use Rattle.ffv1_hold.specs.Headline.{IsReelOf}
 use Rattle.ffv1_holding.specs.Originals.{AreCopiesOfSlices, AreNear}
-use Rattle.ffv1_picture.specs.Headline.{AreEqualInAll, ShowsSlices}
+use Rattle.ffv1_hold.specs.Restorations.{AreEqualInAll, ShowsSlices}
 use Rattle.ffv1_picture.specs.declared.frame.Frame.{Frame}
 use Rattle.ffv1_commands.specs.Holdings.{IsHoldingFile}
 use Rattle.ffv1_commands.specs.TakeText.{TakesCopies}

@@ -4,7 +4,7 @@ use Rattle.std.specs.Io.KnownBytes.{Appends, Keeps}
 use Rattle.ffv1_bits.specs.Limits.{payload_limit}
 use Rattle.ffv1_devices.specs.Logs.{ReadLog, WriteLog, GivesUp, Reads, Writes, StopsWriting}
 pub use Rattle.ffv1_devices.specs.Writing.{WritesFront}
-pub use Rattle.ffv1_play.specs.Payloads.{TakesWhole, StopsWithin, GivesUpWithin, IsUnread}
+pub use Rattle.ffv1_player.specs.Payloads.{TakesWhole, StopsWithin, GivesUpWithin, IsUnread}
 use Rattle.ffv1_holding.specs.declared.fault.HoldFault.TheVariants as holds
 use Rattle.ffv1_commands.specs.declared.fault.CliFault.{CliFault}
 use Rattle.ffv1_commands.specs.declared.fault.CliFault.TheVariants as faults

@@ -15,8 +15,8 @@ use Rattle.ffv1_stretches.specs.declared.pass.MendFault.{MendFault}
 use Rattle.ffv1_stretches.specs.declared.pass.MendFault.TheVariants as mend
 use Rattle.ffv1_player.specs.declared.fault.SamplesFault.{SamplesFault}
 use Rattle.ffv1_player.specs.declared.fault.SamplesFault.TheVariants as samples
-use Rattle.ffv1_play.specs.declared.play.PlayFault.{PlayFault}
-use Rattle.ffv1_play.specs.declared.play.PlayFault.TheVariants as play
+use Rattle.ffv1_player.specs.declared.playing.PlayFault.{PlayFault}
+use Rattle.ffv1_player.specs.declared.playing.PlayFault.TheVariants as play
 use Rattle.ebml_reader.specs.declared.fault.ReaderFault.{ReaderFault}
 use Rattle.ebml_reader.specs.declared.fault.ReaderFault.TheVariants as reader
 use Rattle.ffv1_commands.specs.declared.fault.CliFault.{CliFault}

@@ -63,14 +63,14 @@ pub use Rattle.ffv1_picture.specs.WholePicture
 pub use Rattle.ffv1_picture.specs.Frames
 pub use Rattle.ffv1_picture.specs.FrameFaults
 pub use Rattle.ffv1_picture.specs.PartialPictures
-pub use Rattle.ffv1_picture.specs.ReportText
+pub use Rattle.ffv1_holding.specs.ReportText
 pub use Rattle.ffv1_player.specs.Frames as PlayedFrames
 pub use Rattle.ffv1_player.specs.Faults as SamplesFaults
 pub use Rattle.ffv1_player.specs.Players
 pub use Rattle.ffv1_player.specs.Written
-pub use Rattle.ffv1_play.specs.Payloads
-pub use Rattle.ffv1_play.specs.FrameLines
-pub use Rattle.ffv1_play.specs.Played
+pub use Rattle.ffv1_player.specs.Payloads
+pub use Rattle.ffv1_player.specs.FrameLines
+pub use Rattle.ffv1_player.specs.Played
 pub use Rattle.ffv1_splice.specs.Splice
 pub use Rattle.ffv1_splice.specs.Whole
 pub use Rattle.ffv1_splice.specs.Text

@@ -5,7 +5,7 @@ use Rattle.ffv1_holding.specs.declared.recordings.Recordings.{Recordings}
 use Rattle.ffv1_devices.specs.Logs.{ReadLog, WriteLog, Writes, StopsWriting}
 use Rattle.ffv1_holding.specs.Contents.{Contents}
 use Rattle.ffv1_hold.specs.FileFaults.{ReadsHolding}
-use Rattle.ffv1_picture.specs.ReportText.{report_text}
+use Rattle.ffv1_holding.specs.ReportText.{report_text}
 use Rattle.ffv1_commands.specs.Devices.{WritesFront}
 use Rattle.ffv1_commands.specs.Holdings.{IsHoldingFile, IsHoldingFault, HoldingStops}
 use Rattle.ffv1_commands.specs.declared.fault.CliFault.{CliFault}

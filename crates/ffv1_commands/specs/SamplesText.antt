@@ -10,9 +10,9 @@ use Rattle.ffv1_player.specs.Faults.{IsFirstSamplesFault}
 use Rattle.ffv1_player.specs.Players.{player_value}
 use Rattle.ffv1_player.specs.declared.fault.SamplesFault.TheVariants as samples_faults
 use Rattle.ffv1_player.specs.declared.samples.Samples.{Samples}
-use Rattle.ffv1_play.specs.FrameLines.{frames_text}
-use Rattle.ffv1_play.specs.Played.{ArePlayed, frames_bytes, are_clean, PlaysAll, StopsPlaying, HasFirstFrame}
-use Rattle.ffv1_play.specs.declared.play.PlayFault.{PlayFault}
+use Rattle.ffv1_player.specs.FrameLines.{frames_text}
+use Rattle.ffv1_player.specs.Played.{ArePlayed, frames_bytes, are_clean, PlaysAll, StopsPlaying, HasFirstFrame}
+use Rattle.ffv1_player.specs.declared.playing.PlayFault.{PlayFault}
 use Rattle.ffv1_commands.specs.Devices.{IsWholeInput, AreWholeInputs, WritesFront, BothKept}
 use Rattle.ffv1_commands.specs.Fault.{of_play}
 use Rattle.ffv1_commands.specs.RecordInputs.{IsRecordingInput, TakesRecording, RecordingStops}

@@ -1,6 +1,6 @@
 //! The command `report`: prints the damage report of a holding file (own).
 ghost use Rattle.std.specs.Prelude.{◌≡◌, IfOk, IfErr, OnOk, string_bytes};
-ghost use Rattle.ffv1_picture.specs.ReportText.{report_text};
+ghost use Rattle.ffv1_holding.specs.ReportText.{report_text};
 ghost use Rattle.ffv1_commands.specs.Fault.{NamesPath};
 ghost use Rattle.ffv1_commands.specs.Paths.{IsReportPath};
 ghost use Rattle.ffv1_commands.specs.Devices.{UnlessWriting};
@@ -12,7 +12,7 @@ use crate::holdings::read_holding;
 use crate::path::CommandPath;
 use ffv1_devices::{Sink, Source, ThroughWrite};
 use ffv1_hold::{Holding, Recordings};
-use ffv1_picture::report;
+use ffv1_holding::report;
 use ffv1_range::Recording;
 use std::alloc::{AllocError, Global};
 use std::io::{Read, Write};

@@ -12,8 +12,7 @@ use crate::devices::read_file;
 use crate::fault::CliFault;
 use crate::path::CommandPath;
 use ffv1_devices::{FromRead, Sink, Source, ThroughWrite};
-use ffv1_play::play_frames;
-use ffv1_player::Player;
+use ffv1_player::{Player, play_frames};
 use std::alloc::{AllocError, Global};
 use std::io::{Read, Write};
 

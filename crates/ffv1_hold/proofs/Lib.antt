@@ -28,6 +28,7 @@ pub mod TileTexts
 pub mod TileOrder
 pub mod SavedTiles
 pub mod PlanSteps
+pub mod Restorations
 pub mod Weights
 pub mod MergeFacts
 pub mod MergeReadLimits

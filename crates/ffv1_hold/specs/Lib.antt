@@ -10,6 +10,7 @@ pub mod JoinedStreams
 pub mod Laws
 pub mod Headline
 pub mod Plans
+pub mod Restorations
 pub mod Inner
 -- what the clauses cite of the crates below
 pub use Rattle.ffv1_devices.specs.Logs
@@ -33,3 +34,7 @@ pub use Rattle.ffv1_holding.specs.Refusals
 pub use Rattle.ffv1_holding.specs.Originals
 pub use Rattle.ffv1_holding.specs.Small
 pub use Rattle.ffv1_holding.specs.SmallNotions
+pub use Rattle.ffv1_holding.specs.ReportText
+pub use Rattle.ffv1_picture.specs.WholePicture
+pub use Rattle.ffv1_picture.specs.Frames
+pub use Rattle.ffv1_picture.specs.PartialPictures

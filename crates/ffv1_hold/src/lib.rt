@@ -1,5 +1,5 @@
-//! Holding files (own), which keep a holding's slices and their recording, and plans: how a holding comes to be, of
-//! copies, of other holdings and through files. Devices and holdings are those of the crates below, whose names are
+//! Holding files (own), which keep a holding's slices and their recording; plans: how a holding comes to be, of
+//! copies, of other holdings and through files; and the whole way from copies to a restored frame. Devices and holdings are those of the crates below, whose names are
 //! passed on.
 #![tactic(auto)]
 
@@ -16,6 +16,7 @@ mod number;
 mod origins;
 mod plan;
 mod reading;
+mod restoring;
 mod saving;
 mod union;
 mod version;
@@ -34,5 +35,6 @@ pub use laws::{one_fault, one_read_limit, one_text, text_shows_no_fault};
 pub use merging::{join_streams, join_streams_of};
 pub use plan::{Plan, PlanFault, run, same_copies};
 pub use reading::{read_hold, read_holding};
+pub use restoring::{Restoration, RestorationFault, restored};
 pub use saving::write_hold;
 pub use version::Version;

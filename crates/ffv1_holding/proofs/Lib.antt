@@ -36,6 +36,8 @@ pub mod HoldingSteps
 pub mod Found
 pub mod TileOrders
 pub mod TileReads
+pub mod SettledSlices
+pub mod Reports
 pub mod Restored
 pub mod ExactlyHeld
 pub mod SmallLaws
@@ -45,3 +47,4 @@ pub mod SmallStates
 pub mod Errors
 mod NearVectors
 mod SmallVectors
+mod ReportVectors

@@ -20,6 +20,7 @@ use Rattle.ffv1_holding.specs.SmallNotions.{tile_by, FoundIsHeld, RestoredIsOfHo
 use Rattle.ffv1_holding.proofs.RisingSets.{rising_rest}
 use Rattle.ffv1_holding.proofs.ItemsRise.{items-rising}
 use Rattle.ffv1_holding.proofs.Tiles.{contains-tile_slices}
+use Rattle.ffv1_holding.proofs.SettledSlices.{only_best}
 use Rattle.ffv1_holding.proofs.ExactlyHeld.{listed, ties, held_is_found}
 use Rattle.ffv1_holding.proofs.SmallLinks.{found_from, found_to, status_is}
 
@@ -116,11 +117,6 @@ one_kept p (a ∷ xs) s up there passes only =
     ] refl
 
 -- ---- the one best slice of a list
-
-only_best : (xs : List (List ℕ)) (s : List ℕ) → state_of_best xs ≡ settled s → xs ≡ s ∷ []
-only_best [] s is = absurd (cc)
-only_best (b ∷ []) s is = let same : b ≡ s = cc in ap (λ z. z ∷ []) same
-only_best (b ∷ c ∷ more) s is = absurd (cc)
 
 abbrev is_best : List (List ℕ) → List ℕ → Bool
 is_best xs b = list_all (λ c. nat_le (status_of b) (status_of c)) xs

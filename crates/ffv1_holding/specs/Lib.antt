@@ -14,6 +14,7 @@ pub mod TileState
 pub mod TileStates
 pub mod Refusals
 pub mod Originals
+pub mod ReportText
 pub mod Laws
 pub mod Small
 pub mod SmallNotions

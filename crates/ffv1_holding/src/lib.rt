@@ -14,6 +14,7 @@ mod pool;
 mod pool_entry;
 mod recordings;
 mod reel;
+mod reporting;
 mod restore;
 mod rows;
 mod shelf;
@@ -30,6 +31,7 @@ pub use laws::{
 };
 pub use recordings::Recordings;
 pub use reel::Reel;
+pub use reporting::report;
 pub use restore::RestoreFault;
 pub use slice_set::SliceSet;
 pub use small::{copies_restore_the_original, notions_are_of_holdings};

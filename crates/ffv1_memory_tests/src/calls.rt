@@ -9,8 +9,8 @@ use ffv1_hold::{
     FromRead, FromWrite, HoldFault, HoldFileFault, Holding, Join, RestoreFault, TakeAllFault,
     join_streams, read_hold, read_holding, write_hold,
 };
-use ffv1_holding::Recordings;
-use ffv1_picture::{Decoder, Frame, FrameFault, Partial, TileOutcome, picture, report, write_raw};
+use ffv1_holding::{Recordings, report};
+use ffv1_picture::{Decoder, Frame, FrameFault, Partial, TileOutcome, picture, write_raw};
 use ffv1_plane::{TileFault, decode_tile};
 use ffv1_range::{Setup, SetupFault};
 use ffv1_slice::content_of;

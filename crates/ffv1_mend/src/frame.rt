@@ -6,7 +6,7 @@ ghost use Rattle.ffv1_mend.specs.Mended.{FrameStands, IsFrameMend, count_at, pro
 
 use crate::mended::Mended;
 use crate::part::MendedPart;
-use crate::parts::splice_of;
+use crate::parts::splice_distinct;
 use crate::state::State;
 use ffv1_splice::{Place, Spliced, Standing};
 use std::alloc::{AllocError, Global};
@@ -49,7 +49,7 @@ pub(crate) fn mend_frame<'a>(alloc: Global, versions: &[&[u8]]) -> Result<Mended
     requires { 0 < length versions.now }
     ensures { IfOk result (IsFrameMend (values_of versions.now)) }
 {
-    let spliced = splice_of(alloc, versions)?;
+    let spliced = splice_distinct(alloc, versions)?;
     let state = frame_state(&spliced);
     let mut parts = Vec::new(alloc);
     parts.push(MendedPart::Spliced(spliced))?;

@@ -14,7 +14,7 @@ use ffv1_weave::Check;
 use std::alloc::{AllocError, Global};
 
 /// The splice of versions of a frame, each judged once. There is one version at least, and all are as long.
-pub(crate) fn splice_of(alloc: Global, versions: &[&[u8]]) -> Result<Spliced, AllocError>
+pub(crate) fn splice_distinct(alloc: Global, versions: &[&[u8]]) -> Result<Spliced, AllocError>
     requires { 0 < length versions.now }
     ensures { IfOk result (IsSpliceOf (values_of versions.now)) }
 {
@@ -60,7 +60,7 @@ fn mended_frame<'a>(
     ensures { IfOk result (λ mend. IsPartMend sort (values_of versions.now) (part_value mend)) }
 {
     match sort {
-        Sort::Frame => Ok(MendedPart::Spliced(splice_of(alloc, versions)?)),
+        Sort::Frame => Ok(MendedPart::Spliced(splice_distinct(alloc, versions)?)),
         Sort::Flac => {
             let distinct = distinct_versions(alloc, versions)?;
             Ok(judged(distinct.as_slice()))

@@ -5,7 +5,5 @@ pub mod Frames
 pub mod FrameFaults
 pub mod Laws
 pub mod PartialPictures
-pub mod ReportText
-pub mod Headline
 pub mod TileAlone
 pub mod Inner

@@ -1,5 +1,4 @@
-//! What is seen of a frame: its decoded samples, what can be shown of a damaged holding, tile by tile, and the report to file
-//! with the reel.
+//! What is seen of a frame: its decoded samples, and what can be shown of a damaged holding, tile by tile.
 #![tactic(auto)]
 
 mod decoder;
@@ -8,8 +7,6 @@ mod fault;
 mod frame;
 mod partial;
 mod raw;
-mod reporting;
-mod restoring;
 
 pub use decoder::{Decoder, faults_of_frames_are_one};
 pub use drawing::draw_samples;
@@ -17,5 +14,3 @@ pub use fault::FrameFault;
 pub use frame::Frame;
 pub use partial::{Partial, TileOutcome, picture, tile_alone};
 pub use raw::{WriteFault, write_raw};
-pub use reporting::report;
-pub use restoring::{Restoration, RestorationFault, restored};

@@ -11,7 +11,7 @@ ghost use Rattle.ffv1_picture.specs.TileAlone.{TileAlone};
 
 use crate::drawing::draw_slice;
 use crate::frame::Frame;
-use ffv1_hold::{Holding, TileState};
+use ffv1_holding::{Holding, TileState};
 use ffv1_plane::TileFault;
 use std::alloc::{AllocError, Global};
 
@@ -56,13 +56,13 @@ pub fn picture(alloc: Global, holding: &Holding) -> Result<Partial, AllocError>
     let count = setup.grid().tiles();
     let mut tiles = Vec::with_capacity(alloc, count)?;
     for tile in 0..count {
-        tiles.push(show_tile(alloc, holding, tile, &mut frame)?)?;
+        tiles.push(draw_tile(alloc, holding, tile, &mut frame)?)?;
     }
     Ok(Partial { frame, tiles })
 }
 
 /// Draws a tile's settled slice, if it has one with a picture, and returns how the tile came out.
-fn show_tile(
+fn draw_tile(
     alloc: Global,
     holding: &Holding,
     tile: usize,

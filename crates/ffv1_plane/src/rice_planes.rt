@@ -67,7 +67,7 @@ impl<'b> RiceLines<'b> {
 }
 
 /// The start state for each context of a set.
-fn first_codes(
+pub(crate) fn first_codes(
     alloc: Global,
     recording: &Recording,
     set: usize,

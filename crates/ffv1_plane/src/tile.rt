@@ -22,6 +22,7 @@ ghost use Rattle.ffv1_range.specs.declared.head.SliceHead.{SliceHead};
 ghost use Rattle.ffv1_plane.specs.declared.tile.TileFault.TheVariants as TileFault;
 
 use crate::plane::{PlaneFault, decode_plane};
+use crate::rice_planes::first_codes;
 use crate::tables::Tables;
 use ffv1_bits::Bits;
 use ffv1_range::{HeadFault, Setup, SliceHead, read_head};
@@ -210,7 +211,7 @@ pub fn start_states(alloc: Global, setup: &Setup, set: usize) -> Result<Vec<VlcS
     ensures len { IfOk result (λ states. length states.items ≡ set_contexts setup.now set) }
     ensures fresh { IfOk result (λ states. AreStatesAfter 8 no_values states.items) }
 {
-    vec![in alloc; VlcState::start(); setup.contexts(set) as usize]
+    first_codes(alloc, setup.recording(), set)
 }
 
 /// Decodes one plane of a tile by its tables, with the states that those before it have left, and gives those that it

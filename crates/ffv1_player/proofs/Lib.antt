@@ -15,3 +15,6 @@ pub mod OneShown
 pub mod ShownSlices
 pub mod ProfilePictures
 pub mod PlayedSlices
+pub mod Turns
+pub mod PlaySteps
+pub mod LineSteps

@@ -27,7 +27,7 @@ use Rattle.ffv1_picture.specs.WholePicture.{Planes, whole_picture}
 use Rattle.ffv1_picture.specs.TilePictures.{SpellsPlanes, IsPictureOfSlice}
 use Rattle.ffv1_picture.specs.PartialPictures.{IsPictureOfTile}
 use Rattle.ffv1_picture.proofs.OnePicture.{shown_picture}
-use Rattle.ffv1_picture.proofs.SettledSlices.{settled_entry}
+use Rattle.ffv1_holding.proofs.SettledSlices.{settled_entry}
 use Rattle.ffv1_player.specs.Shown.{MayBeByTile, IsShownPicture, IsTilePicture}
 use Rattle.ffv1_player.specs.ProfilePictures.{ProfileIsShownAlike}
 use Rattle.ffv1_player.proofs.OneShown.{picture_shown}

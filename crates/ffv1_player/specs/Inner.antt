@@ -2,4 +2,5 @@
 pub mod Drawing
 pub mod Decoding
 pub mod Playing
+pub mod PlaySteps
 pub mod Showing

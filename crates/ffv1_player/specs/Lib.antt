@@ -4,6 +4,9 @@ pub mod Faults
 pub mod Fitting
 pub mod Players
 pub mod Written
+pub mod Payloads
+pub mod FrameLines
+pub mod Played
 pub mod Shown
 pub mod Alone
 pub mod ShownSlices
@@ -12,3 +15,5 @@ pub mod Profile
 pub mod ProfilePictures
 pub mod Laws
 pub mod Inner
+-- what the clauses cite of the crates below
+pub use Rattle.ffv1_devices.specs.Logs

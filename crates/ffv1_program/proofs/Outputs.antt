@@ -3,7 +3,7 @@ use Rattle.std.proofs.Common.{◌≡◌, ℕ, List, length, Option, Bool, Result
 use Rattle.ffv1_devices.specs.Logs.{ReadLog, WriteLog}
 use Rattle.ffv1_devices.specs.Streams.{writer_of}
 use Rattle.ffv1_devices.specs.declared.streams.ThroughWrite.{ThroughWrite}
-use Rattle.ffv1_play.specs.declared.play.PlayFault.TheVariants as plays
+use Rattle.ffv1_player.specs.declared.playing.PlayFault.TheVariants as plays
 use Rattle.ffv1_commands.specs.Paths.{IsTakePath}
 use Rattle.ffv1_commands.specs.SamplesText.{ReportsSamples, PlaysFiles, SamplesStops}
 use Rattle.ffv1_commands.proofs.OfBytes.{OfBytes}

@@ -27,7 +27,7 @@ use Rattle.ffv1_commands.specs.SamplesText.{ReportsSamples}
 use Rattle.ffv1_commands.proofs.SamplesSteps.{went_up_to}
 use Rattle.ffv1_stretches.specs.Passes.{AreReadBut}
 use Rattle.ffv1_stretches.specs.declared.pass.MendFault.TheVariants as stops
-use Rattle.ffv1_play.specs.declared.play.PlayFault.TheVariants as plays
+use Rattle.ffv1_player.specs.declared.playing.PlayFault.TheVariants as plays
 use Rattle.ffv1_commands.specs.declared.fault.CliFault.{CliFault}
 use Rattle.ffv1_commands.specs.declared.fault.CliFault.TheVariants as faults
 use Rattle.ffv1_commands.specs.declared.path.CommandPath.{CommandPath}

@@ -17,7 +17,7 @@ use Rattle.ffv1_plane.specs.RangeSlices.{slice_shape, slice_group, slice_plane, 
 use Rattle.ffv1_plane.specs.declared.planes.PlaneSize.{PlaneSize}
 use Rattle.ffv1_plane.proofs.OneRange.{one_range_reading, stuck_range_codes_nothing, stuck_range_is_one, rows_with, has_rows}
 use Rattle.ffv1_plane.specs.FirstRows.{rows_to, AreFirstRows, HaveGroupStates}
-use Rattle.ffv1_samples.specs.States.{GroupsOf, group_of, SliceStatesValue, HaveGroupContexts, HaveValues, FitSlice, FitSliceBefore, AreSameGroups, rows_before, codes_before}
+use Rattle.ffv1_samples.specs.States.{GroupsOf, states_of_group, SliceStatesValue, HaveGroupContexts, HaveValues, FitSlice, FitSliceBefore, AreSameGroups, rows_before, codes_before}
 use Rattle.ffv1_samples.specs.Pictures.{slice_plane_at}
 use Rattle.ffv1_samples.specs.Coded.{SamplesEnd, range_end, rice_end, states_at, AreRangeCoded, AreCodesCoded, AreCoded, AreBegun, IsStuck, sample_fault_of}
 use Rattle.ffv1_samples.specs.Inner.Planes.{AreOfRecording}
@@ -122,12 +122,12 @@ module _ (r : RecordingValue) (sets : List ℕ) (sizes : List PlaneSize) (versio
   starts : k.start ≡ h.start
   starts = one_start decoder.at k.start h.start k.from h.from
 
-  second : ArePlanesCoded decoder.mode (slice_shape r sets sizes) h.start before others end (group_of later)
-  second = subst (λ c. ArePlanesCoded decoder.mode (slice_shape r sets sizes) c before others end (group_of later)) starts k.coded
+  second : ArePlanesCoded decoder.mode (slice_shape r sets sizes) h.start before others end (states_of_group later)
+  second = subst (λ c. ArePlanesCoded decoder.mode (slice_shape r sets sizes) c before others end (states_of_group later)) starts k.coded
 
   pub one_range : (planes ≡ others) × (last ≡ end)
   one_range =
-      one_range_reading r sets sizes decoder.mode h.start last end before (group_of after) (group_of later) planes others version fit.fit
+      one_range_reading r sets sizes decoder.mode h.start last end before (states_of_group after) (states_of_group later) planes others version fit.fit
       (equal_rows r sizes fit) h.coded second
 
   -- the states that both leave
@@ -145,8 +145,8 @@ module _ (r : RecordingValue) (sets : List ℕ) (sizes : List PlaneSize) (versio
       let same : place_at last a.next ≡ place_at end b.next =
       rows_run_is_one decoder.mode (place_at h.start (rows_with before)) (place_at last a.next) (place_at end b.next)
       (lines_bits (slice_plane (slice_shape r sets sizes) planes) (coded_lines (slice_shape r sets sizes))) a.run run in
-      let equal : length (group_of after g) ≡ length (group_of later g) = long p less ∙ sym (many p less) in
-      ext_get_or [] (group_of after g) (group_of later g) equal (λ i inside.
+      let equal : length (states_of_group after g) ≡ length (states_of_group later g) = long p less ∙ sym (many p less) in
+      ext_get_or [] (states_of_group after g) (states_of_group later g) equal (λ i inside.
       sym (a.states g small i inside) ∙ ap (λ (z : PlaceOf Rows). z.states (state_row g i)) same ∙ b.states g small i (omega (arith, inside, equal)))
 
 module _ (r : RecordingValue) (sets : List ℕ) (sizes : List PlaneSize) (version : IsInVersion3 r) (fit : AreSliceSizes r sizes) (bits : List Bool)
@@ -161,11 +161,11 @@ module _ (r : RecordingValue) (sets : List ℕ) (sizes : List PlaneSize) (versio
   one_codes_after long many p less =
       let g = slice_group r.setup.has_chroma p in
       let small = group_small r.setup.has_chroma p in
-      let equal : length (group_of after g) ≡ length (group_of later g) = long p less ∙ sym (many p less) in
+      let equal : length (states_of_group after g) ≡ length (states_of_group later g) = long p less ∙ sym (many p less) in
       let a = h.left left.0 left.1 in
-      let b = subst (λ l. AreGroupsAfter (coded_depth_of r) (values_after_planes (slice_shape r sets sizes) l left.0) (group_of later)) (sym one_codes.0)
+      let b = subst (λ l. AreGroupsAfter (coded_depth_of r) (values_after_planes (slice_shape r sets sizes) l left.0) (states_of_group later)) (sym one_codes.0)
       (k.left left.0 left.1) in
-      ext_get_or start_state (group_of after g) (group_of later g) equal (λ i inside. a g small i inside ∙ sym (b g small i (omega (arith, inside, equal))))
+      ext_get_or start_state (states_of_group after g) (states_of_group later g) equal (λ i inside. a g small i inside ∙ sym (b g small i (omega (arith, inside, equal))))
 
 -- A content codes one list of planes up to one end.
 pub one_coded : (r : RecordingValue) (sets : List ℕ) (sizes : List PlaneSize) (content : List ℕ) (start : SliceStart) (before : Option SliceStatesValue)
@@ -205,8 +205,8 @@ pub stuck_codes_nothing : (r : RecordingValue) (sets : List ℕ) (sizes : List P
     (fault : SampleFault) (plane y x : ℕ) (planes : List (List ℕ)) (end : SamplesEnd) → IsInVersion3 r → AreSliceSizes r sizes → FitSliceBefore r sets before
     → IsStuck r sets sizes content start before fault plane y x → AreCoded r sets sizes content start before planes end → ⊥
 stuck_codes_nothing r sets sizes content (Samples decoder) before fault plane y x planes (range_end last after) version fit given s h =
-    stuck_range_codes_nothing r sets sizes decoder.mode s.start last (rows_before r sets before) (group_of after) s.difference plane y x planes version fit.fit s.stuck
-    (subst (λ c. ArePlanesCoded decoder.mode (slice_shape r sets sizes) c (rows_before r sets before) planes last (group_of after))
+    stuck_range_codes_nothing r sets sizes decoder.mode s.start last (rows_before r sets before) (states_of_group after) s.difference plane y x planes version fit.fit s.stuck
+    (subst (λ c. ArePlanesCoded decoder.mode (slice_shape r sets sizes) c (rows_before r sets before) planes last (states_of_group after))
     (one_start decoder.at h.start s.start h.from s.from) h.coded)
 stuck_codes_nothing r sets sizes content (Codes place) before fault plane y x planes (rice_end rest after) version fit given s h =
     let left = values_before r sets before given in
@@ -313,9 +313,9 @@ pub stuck_not_begun : (r : RecordingValue) (sets : List ℕ) (sizes : List Plane
     → AreBegun r sets (rows_to rows sizes) content start before planes → ⊥
 stuck_not_begun r sets sizes rows content (Samples decoder) before fault plane y x planes version fit given is some few less s h =
     let there = stuck_in_first r sets sizes rows is some few decoder.mode s.start (rows_before r sets before) s.difference plane y x less s.stuck in
-    stuck_range_codes_nothing r sets (rows_to rows sizes) decoder.mode s.start h.0 (rows_before r sets before) (group_of h.1) s.difference plane y x planes version
+    stuck_range_codes_nothing r sets (rows_to rows sizes) decoder.mode s.start h.0 (rows_before r sets before) (states_of_group h.1) s.difference plane y x planes version
     fit.fit there
-    (subst (λ c. ArePlanesCoded decoder.mode (slice_shape r sets (rows_to rows sizes)) c (rows_before r sets before) planes h.0 (group_of h.1))
+    (subst (λ c. ArePlanesCoded decoder.mode (slice_shape r sets (rows_to rows sizes)) c (rows_before r sets before) planes h.0 (states_of_group h.1))
     (one_start decoder.at h.2.start s.start h.2.from s.from) h.2.coded)
 stuck_not_begun r sets sizes rows content (Codes place) before fault plane y x planes version fit given is some few less s h =
     let left = values_before r sets before given in
@@ -341,7 +341,7 @@ one_first sizes rows planes firsts others h k =
 groups_of : (ℕ → List (List ℕ)) → GroupsOf (List ℕ)
 groups_of states = record { luma = states 0; chroma = states 1; alpha = states 2 }
 
-groups_same : (states : ℕ → List (List ℕ)) (g : ℕ) → g < 3 → states g ≡ group_of (groups_of states) g
+groups_same : (states : ℕ → List (List ℕ)) (g : ℕ) → g < 3 → states g ≡ states_of_group (groups_of states) g
 unfolding groups_of
 groups_same states zero less = refl
 groups_same states (suc zero) less = refl
@@ -357,7 +357,7 @@ module _ (r : RecordingValue) (sets : List ℕ) (sizes : List PlaneSize) (rows :
       let states : HaveGroupStates (slice_shape r sets sizes) (rows_before r sets before) =
       record { there = there; count = λ p less. rows_long r sets before version given p (omega (arith, less, fit.count)) } in
       let first =
-      first_rows_are_coded r sets sizes decoder.mode h.2.start h.0 (rows_before r sets before) (group_of h.1) planes rows version fit.fit some (equal_rows r sizes fit)
+      first_rows_are_coded r sets sizes decoder.mode h.2.start h.0 (rows_before r sets before) (states_of_group h.1) planes rows version fit.fit some (equal_rows r sizes fit)
       states rgb few h.2.coded in
       record {
         firsts = first.0;
@@ -370,7 +370,7 @@ module _ (r : RecordingValue) (sets : List ℕ) (sizes : List PlaneSize) (rows :
             from = h.2.from;
             coded =
                 coded_from decoder.mode (slice_shape r sets (rows_to rows sizes)) h.2.start first.1 first.0 (rows_before r sets before) (rows_before r sets before)
-                first.2 (group_of (groups_of first.2)) (λ g less. refl) (groups_same first.2) first.4;
+                first.2 (states_of_group (groups_of first.2)) (λ g less. refl) (groups_same first.2) first.4;
           },
         );
       }

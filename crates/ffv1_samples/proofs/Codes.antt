@@ -13,7 +13,7 @@ use Rattle.ffv1_plane.specs.RiceReading.{group_codes, HaveSliceCodes, AreCodesDe
 use Rattle.ffv1_plane.specs.declared.planes.PlaneSize.{PlaneSize}
 use Rattle.ffv1_plane.specs.declared.rice_planes.RiceLines.{RiceLines}
 use Rattle.ffv1_plane.proofs.RangeSlices.{group_small}
-use Rattle.ffv1_samples.specs.States.{group_of, SliceStatesValue, range_states, rice_states, count_of_planes, HaveGroupContexts, HaveValues, FitSliceBefore, codes_before}
+use Rattle.ffv1_samples.specs.States.{states_of_group, SliceStatesValue, range_states, rice_states, count_of_planes, HaveGroupContexts, HaveValues, FitSliceBefore, codes_before}
 use Rattle.ffv1_samples.specs.Coded.{AreCodesCoded}
 use Rattle.ffv1_samples.specs.Inner.Coded.{codes_groups}
 
@@ -51,7 +51,7 @@ reader_codes r sets tables sizes before reader same count fit begins p less =
 
 -- ---- what was read
 
-groups_are : (reader : RiceLines) (g : ℕ) → group_codes reader g ≡ group_of (codes_groups reader) g
+groups_are : (reader : RiceLines) (g : ℕ) → group_codes reader g ≡ states_of_group (codes_groups reader) g
 groups_are reader zero = refl
 groups_are reader (suc zero) = refl
 groups_are reader (suc (suc other)) = refl
@@ -76,8 +76,8 @@ module _ (r : RecordingValue) (sets tables : List ℕ) (sizes : List PlaneSize) 
           (subst (λ l. ArePlanesSpelled (slice_shape r l sizes) values reader.bits.left planes after.bits.left) same
           (h.spelled values (groups_after (coded_depth_of r) values (codes_before r tables before) (group_codes reader) (λ g less. sym (begins g less)) left)));
       left = λ values left.
-          subst (λ l. AreGroupsAfter (coded_depth_of r) (values_after_planes (slice_shape r l sizes) planes values) (group_of (codes_groups after))) same
-          (groups_after (coded_depth_of r) (values_after_planes (slice_shape r sets sizes) planes values) (group_codes after) (group_of (codes_groups after))
+          subst (λ l. AreGroupsAfter (coded_depth_of r) (values_after_planes (slice_shape r l sizes) planes values) (states_of_group (codes_groups after))) same
+          (groups_after (coded_depth_of r) (values_after_planes (slice_shape r sets sizes) planes values) (group_codes after) (states_of_group (codes_groups after))
           (λ g less. groups_are after g)
           (h.left values (groups_after (coded_depth_of r) values (codes_before r tables before) (group_codes reader) (λ g less. sym (begins g less)) left)));
     }
@@ -88,7 +88,7 @@ module _ (r : RecordingValue) (sets tables : List ℕ) (sizes : List PlaneSize) 
         ∙ h.states p (omega (arith, less, count))
         ∙ ap (λ l. set_contexts r.setup (slice_index l (slice_group r.setup.has_chroma p))) same
 
-    pub codes_values : FitSliceBefore r tables before → HaveValues r (group_of (codes_groups after))
+    pub codes_values : FitSliceBefore r tables before → HaveValues r (states_of_group (codes_groups after))
     codes_values fit =
         let values = values_before r tables before fit in
         (values_after_planes (slice_shape r tables sizes) planes values.0, codes_coded.left values.0 values.1)

@@ -18,7 +18,7 @@ use Rattle.ffv1_plane.specs.declared.planes.RangeLines.{RangeLines}
 use Rattle.ffv1_plane.specs.declared.range_rows.DifferenceFault.{DifferenceFault}
 use Rattle.ffv1_plane.proofs.OneRange.{rows_with, has_rows}
 use Rattle.ffv1_plane.proofs.RangeSlices.{group_small}
-use Rattle.ffv1_samples.specs.States.{group_of, SliceStatesValue, range_states, rice_states, count_of_planes, HaveGroupContexts, FitSliceBefore, rows_before}
+use Rattle.ffv1_samples.specs.States.{states_of_group, SliceStatesValue, range_states, rice_states, count_of_planes, HaveGroupContexts, FitSliceBefore, rows_before}
 use Rattle.ffv1_samples.specs.Coded.{AreRangeCoded}
 use Rattle.ffv1_samples.specs.Inner.Coded.{lines_groups, IsReaderWithin}
 use Rattle.ffv1_samples.specs.Inner.Headers.{IsStartWithin}
@@ -80,7 +80,7 @@ reader_states r sets tables sizes before reader version same count fit begins p 
 
 -- ---- what was read
 
-groups_are : (reader : RangeLines) (g : ℕ) → group_states reader g ≡ group_of (lines_groups reader) g
+groups_are : (reader : RangeLines) (g : ℕ) → group_states reader g ≡ states_of_group (lines_groups reader) g
 groups_are reader zero = refl
 groups_are reader (suc zero) = refl
 groups_are reader (suc (suc other)) = refl
@@ -101,10 +101,10 @@ module _ (r : RecordingValue) (sets tables : List ℕ) (sizes : List PlaneSize) 
       start = h.start;
       from = subst (λ (d : Reader). d.at ≡ Ok h.start) is h.from;
       coded =
-          subst (λ (d : Reader). ArePlanesCoded d.mode (slice_shape r tables sizes) h.start (rows_before r tables before) planes h.end (group_of (lines_groups after))) is
-          (subst (λ l. ArePlanesCoded reader.decoder.mode (slice_shape r l sizes) h.start (rows_before r tables before) planes h.end (group_of (lines_groups after))) same
+          subst (λ (d : Reader). ArePlanesCoded d.mode (slice_shape r tables sizes) h.start (rows_before r tables before) planes h.end (states_of_group (lines_groups after))) is
+          (subst (λ l. ArePlanesCoded reader.decoder.mode (slice_shape r l sizes) h.start (rows_before r tables before) planes h.end (states_of_group (lines_groups after))) same
           (coded_from reader.decoder.mode (slice_shape r sets sizes) h.start h.end planes (group_states reader) (rows_before r tables before) (group_states after)
-          (group_of (lines_groups after)) begins (λ g less. groups_are after g) h.coded));
+          (states_of_group (lines_groups after)) begins (λ g less. groups_are after g) h.coded));
     }
 
     pub after_is : after.decoder ≡ reader_at decoder (Ok h.end)

@@ -32,7 +32,7 @@ use Rattle.ffv1_plane.specs.declared.planes.PlaneSize.{PlaneSize}
 use Rattle.ffv1_plane.proofs.Contexts.{context_fits}
 use Rattle.ffv1_plane.proofs.RangeSlices.{AreBelow, planes_below, group_small}
 use Rattle.ffv1_samples.specs.Sizes.{slice_rect, rect_size, planes_sizes, slice_sizes}
-use Rattle.ffv1_samples.specs.States.{GroupsOf, group_of, rice_states, count_of_planes, HaveGroupContexts, FitSlice, codes_before}
+use Rattle.ffv1_samples.specs.States.{GroupsOf, states_of_group, rice_states, count_of_planes, HaveGroupContexts, FitSlice, codes_before}
 use Rattle.ffv1_samples.specs.Coded.{AreCodesCoded, rice_end, range_end, is_clean_rest, SamplesEnd, AreCoded, EndsWith}
 use Rattle.ffv1_samples.specs.Pictures.{AreRgbPlanes}
 use Rattle.ffv1_samples.specs.Slices.{SlicePictureValue, IsSlicePicture}
@@ -298,7 +298,7 @@ module _ (r : RecordingValue) (profile : IsOfProfile r) where
       left_groups : GroupsOf ContextState
       left_groups = record { luma = left_states 0; chroma = left_states 1; alpha = left_states 2 }
 
-      groups_are : (group : ℕ) → group < 3 → left_states group ≡ group_of left_groups group
+      groups_are : (group : ℕ) → group < 3 → left_states group ≡ states_of_group left_groups group
       unfolding left_groups
       groups_are zero few = refl
       groups_are (suc zero) few = refl
@@ -311,7 +311,7 @@ module _ (r : RecordingValue) (profile : IsOfProfile r) where
 
       -- Whichever values have left start states, the planes leave these states.
       all_left : (values : ℕ → ℕ → List ℤ) → AreGroupsAfter (coded_depth_of r) values begun
-          → AreGroupsAfter (coded_depth_of r) (values_after_planes shape planes values) (group_of left_groups)
+          → AreGroupsAfter (coded_depth_of r) (values_after_planes shape planes values) (states_of_group left_groups)
       unfolding left_states left_values
       all_left values have group few =
           subst (λ (s : List ContextState). AreStatesAfter (coded_depth_of r) (values_after_planes shape planes values group) s) (groups_are group few)

@@ -17,7 +17,7 @@ use Rattle.ffv1_rice.specs.declared.code.CodeFault.{CodeFault}
 use Rattle.ffv1_plane.specs.declared.planes.PlaneSize.{PlaneSize}
 use Rattle.ffv1_plane.specs.declared.range_rows.DifferenceFault.{DifferenceFault}
 use Rattle.ffv1_plane.specs.declared.range_rows.DifferenceFault.TheVariants as difference_faults
-use Rattle.ffv1_samples.specs.States.{GroupsOf, group_of, SliceStatesValue, range_states, rice_states, rows_before, codes_before}
+use Rattle.ffv1_samples.specs.States.{GroupsOf, states_of_group, SliceStatesValue, range_states, rice_states, rows_before, codes_before}
 use Rattle.ffv1_samples.specs.declared.faults.SampleFault.{SampleFault}
 use Rattle.ffv1_samples.specs.declared.faults.SampleFault.TheVariants as sample_faults
 
@@ -37,7 +37,7 @@ pub record AreRangeCoded (r : RecordingValue) (sets : List ℕ) (sizes : List Pl
     (last : Coder) (after : GroupsOf (List ℕ)) : Type 0 where
   pub start : Coder
   pub from : decoder.at ≡ Ok start
-  pub coded : ArePlanesCoded decoder.mode (slice_shape r sets sizes) start before planes last (group_of after)
+  pub coded : ArePlanesCoded decoder.mode (slice_shape r sets sizes) start before planes last (states_of_group after)
 
 -- Whichever values have left the states before, the bits begin with the planes after these, and the states after are what all values have left.
 pub record AreCodesCoded (r : RecordingValue) (sets : List ℕ) (sizes : List PlaneSize) (bits : List Bool) (before : ℕ → List ContextState) (planes : List (List ℕ))
@@ -45,7 +45,7 @@ pub record AreCodesCoded (r : RecordingValue) (sets : List ℕ) (sizes : List Pl
   pub sizes_are : ArePlanesOfSizes (coded_depth_of r) sizes planes
   pub spelled : (values : ℕ → ℕ → List ℤ) → AreGroupsAfter (coded_depth_of r) values before → ArePlanesSpelled (slice_shape r sets sizes) values bits planes rest
   pub left : (values : ℕ → ℕ → List ℤ) → AreGroupsAfter (coded_depth_of r) values before
-      → AreGroupsAfter (coded_depth_of r) (values_after_planes (slice_shape r sets sizes) planes values) (group_of after)
+      → AreGroupsAfter (coded_depth_of r) (values_after_planes (slice_shape r sets sizes) planes values) (states_of_group after)
 
 -- Planes of these sizes are coded in a content after its header, by the table sets of the three groups and with the states before, up to an end.
 abbrev pub AreCoded : RecordingValue → List ℕ → List PlaneSize → List ℕ → SliceStart → Option SliceStatesValue → List (List ℕ) → SamplesEnd → Type 0

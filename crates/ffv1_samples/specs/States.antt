@@ -16,10 +16,10 @@ pub record GroupsOf (A : Type 0) : Type 0 where
   pub chroma : List A
   pub alpha : List A
 
-abbrev pub group_of : {A : Type 0} → GroupsOf A → ℕ → List A
-group_of groups zero = groups.luma
-group_of groups (suc zero) = groups.chroma
-group_of groups (suc (suc other)) = groups.alpha
+abbrev pub states_of_group : {A : Type 0} → GroupsOf A → ℕ → List A
+states_of_group groups zero = groups.luma
+states_of_group groups (suc zero) = groups.chroma
+states_of_group groups (suc (suc other)) = groups.alpha
 
 -- Range-coded planes have a row of 32 states for each context, others the four numbers of one.
 pub data SliceStatesValue : Type 0 where
@@ -44,7 +44,7 @@ count_of_planes r = (if r.is_rgb || r.setup.has_chroma then 3 else 1) + (if r.ha
 abbrev pub HaveGroupContexts : {A : Type 0} → RecordingValue → List ℕ → GroupsOf A → Type 0
 HaveGroupContexts r sets groups =
     (p : ℕ) → p < count_of_planes r
-    → length (group_of groups (slice_group r.setup.has_chroma p)) ≡ set_contexts r.setup (slice_index sets (slice_group r.setup.has_chroma p))
+    → length (states_of_group groups (slice_group r.setup.has_chroma p)) ≡ set_contexts r.setup (slice_index sets (slice_group r.setup.has_chroma p))
 
 -- Some values of the recording's coded depth have left these states.
 abbrev pub HaveValues : RecordingValue → (ℕ → List ContextState) → Type 0
@@ -53,7 +53,7 @@ HaveValues r states = (values : ℕ → ℕ → List ℤ) × AreGroupsAfter (cod
 -- The states are of the recording's coder, with the contexts of the table sets of the three groups.
 abbrev pub FitSlice : RecordingValue → List ℕ → SliceStatesValue → Type 0
 FitSlice r sets (range_states groups) = (r.coder ≢ 0) × HaveGroupContexts r sets groups
-FitSlice r sets (rice_states groups) = (r.coder ≡ 0) × HaveGroupContexts r sets groups × HaveValues r (group_of groups)
+FitSlice r sets (rice_states groups) = (r.coder ≡ 0) × HaveGroupContexts r sets groups × HaveValues r (states_of_group groups)
 
 abbrev pub FitSliceBefore : RecordingValue → List ℕ → Option SliceStatesValue → Type 0
 FitSliceBefore r sets None = Unit {0}
@@ -61,7 +61,7 @@ FitSliceBefore r sets (Some states) = FitSlice r sets states
 
 -- The states of each plane's group are the same.
 abbrev pub AreSameGroups : {A : Type 0} → RecordingValue → GroupsOf A → GroupsOf A → Type 0
-AreSameGroups r a b = (p : ℕ) → p < count_of_planes r → group_of a (slice_group r.setup.has_chroma p) ≡ group_of b (slice_group r.setup.has_chroma p)
+AreSameGroups r a b = (p : ℕ) → p < count_of_planes r → states_of_group a (slice_group r.setup.has_chroma p) ≡ states_of_group b (slice_group r.setup.has_chroma p)
 
 abbrev pub AreSameStates : RecordingValue → SliceStatesValue → SliceStatesValue → Type 0
 AreSameStates r (range_states a) (range_states b) = AreSameGroups r a b
@@ -70,12 +70,12 @@ AreSameStates r a b = ⊥
 
 -- The states that a slice of Golomb-Rice codes begins with: those before it, and in a keyframe the start states.
 abbrev pub codes_before : RecordingValue → List ℕ → Option SliceStatesValue → ℕ → List ContextState
-codes_before r sets (Some (rice_states groups)) group = group_of groups group
+codes_before r sets (Some (rice_states groups)) group = states_of_group groups group
 codes_before r sets (Some (range_states groups)) group = first_codes r (slice_index sets group)
 codes_before r sets None group = first_codes r (slice_index sets group)
 
 -- The rows of states that a range-coded slice begins with: those before it, and in a keyframe the initial states of each group's table set.
 abbrev pub rows_before : RecordingValue → List ℕ → Option SliceStatesValue → ℕ → List (List ℕ)
-rows_before r sets (Some (range_states groups)) group = group_of groups group
+rows_before r sets (Some (range_states groups)) group = states_of_group groups group
 rows_before r sets (Some (rice_states groups)) group = start_states r (slice_index sets group)
 rows_before r sets None group = start_states r (slice_index sets group)

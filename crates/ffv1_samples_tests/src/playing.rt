@@ -1,8 +1,7 @@
 //! Frames that are read, decoded, written and reported.
 use crate::player::{CUT, GRAY, KEYFRAME, NEXT};
 use ffv1_devices::{FromRead, FromWrite};
-use ffv1_play::{PlayFault, play_frames};
-use ffv1_player::{ContentFault, Player, SamplesFault};
+use ffv1_player::{ContentFault, PlayFault, Player, SamplesFault, play_frames};
 use std::alloc::Global;
 use std::test::Fail;
 

@@ -22,9 +22,9 @@ returns-in_err-tiles c =
     let p = err_from_is_err_and c.from_residual-in_err-tiles.result c.from_residual-in_err-tiles.ensures.1 in
     rw p.1 (record { partial = tt; whole = λ pictures are. tt })
 
-pub returns-in_err-show_tile : goal.returns-in_err-show_tile
-returns-in_err-show_tile c =
-    let p = err_from_is_err_and c.from_residual-in_err-show_tile.result c.from_residual-in_err-show_tile.ensures.1 in
+pub returns-in_err-draw_tile : goal.returns-in_err-draw_tile
+returns-in_err-draw_tile c =
+    let p = err_from_is_err_and c.from_residual-in_err-draw_tile.result c.from_residual-in_err-draw_tile.ensures.1 in
     rw p.1 (record { partial = tt; whole = λ pictures are. tt })
 
 pub returns-in_err-push : goal.returns-in_err-push
@@ -32,16 +32,16 @@ returns-in_err-push c =
     let p = err_from_is_err_and c.from_residual-in_err-push.result c.from_residual-in_err-push.ensures.1 in
     rw p.1 (record { partial = tt; whole = λ pictures are. tt })
 
-pub show_tile-requires-clause-sizes : goal.show_tile-requires-clause-sizes
-show_tile-requires-clause-sizes c = shown_sizes c.args.holding.now c.loop-tile.tile c.loop-tile.tiles.items c.loop-tile.frame c.loop-tile.invariant
+pub draw_tile-requires-clause-sizes : goal.draw_tile-requires-clause-sizes
+draw_tile-requires-clause-sizes c = shown_sizes c.args.holding.now c.loop-tile.tile c.loop-tile.tiles.items c.loop-tile.frame c.loop-tile.invariant
 
 pub loop-tile-preserved : goal.loop-tile-preserved
 loop-tile-preserved c =
     let h = c.args.holding.now in
     let n = c.loop-tile.tile in
-    let P : List TileOutcome → Type 0 = λ outcomes. ShowsTiles h (n + 1) outcomes c.show_tile.new.frame in
+    let P : List TileOutcome → Type 0 = λ outcomes. ShowsTiles h (n + 1) outcomes c.draw_tile.new.frame in
     subst P (sym {A = List TileOutcome} c.in_ok-push.ensures.items)
-    (shown_more h n c.loop-tile.tiles.items c.in_ok-show_tile.field-0 c.loop-tile.frame c.show_tile.new.frame c.loop-tile.invariant c.in_ok-show_tile.ensures)
+    (shown_more h n c.loop-tile.tiles.items c.in_ok-draw_tile.field-0 c.loop-tile.frame c.draw_tile.new.frame c.loop-tile.invariant c.in_ok-draw_tile.ensures)
 
 pub returns-clause-whole : goal.returns-clause-whole
 returns-clause-whole c pictures are =

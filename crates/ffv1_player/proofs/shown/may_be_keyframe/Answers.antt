@@ -1,6 +1,6 @@
 use Rattle.std.proofs.Common.{sym, arith}
 use Rattle.ffv1_slice.proofs.SliceFacts.{slice_footer}
-use Rattle.ffv1_picture.proofs.SettledSlices.{settled_entry}
+use Rattle.ffv1_holding.proofs.SettledSlices.{settled_entry}
 use Rattle.ffv1_player.proofs.Showing.{some_tile, may_be_settled, may_be_other}
 use Rattle.ffv1_player.proofs.shown.may_be_keyframe.Goals as goal
 

@@ -1,6 +1,6 @@
 use Rattle.std.proofs.Common.{sym}
 use Rattle.ffv1_slice.proofs.SliceFacts.{slice_footer}
-use Rattle.ffv1_picture.proofs.SettledSlices.{settled_entry}
+use Rattle.ffv1_holding.proofs.SettledSlices.{settled_entry}
 use Rattle.ffv1_player.proofs.Showing.{tile_of_slice, tile_of_no_keyframe}
 use Rattle.ffv1_player.proofs.shown.show_tile.Goals as goal
 

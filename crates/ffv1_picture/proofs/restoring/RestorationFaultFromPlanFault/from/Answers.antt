@@ -1,5 +1,0 @@
-use Rattle.std.proofs.Common.{rules}
-use Rattle.ffv1_picture.proofs.restoring.RestorationFaultFromPlanFault.from.Goals as goal
-
-pub returns : goal.returns
-returns c = search rules

@@ -1,3 +1,0 @@
-pub mod Turns
-pub mod PlaySteps
-pub mod LineSteps

@@ -1,8 +1,0 @@
-use Rattle.std.proofs.Common.{◌≡◌, ◌++◌, ℕ, List, OnOk, string_bytes, sym, subst}
-use Rattle.ffv1_play.proofs.LineSteps.{unclean_line-fragments}
-use Rattle.ffv1_play.proofs.lines.push_unclean.Goals as goal
-
-pub returns : goal.returns
-returns c =
-    subst (λ (line : List ℕ). OnOk c.writeln.result (string_bytes c.writeln.new.self ≡ string_bytes c.args.text.now ++ line))
-    (sym (unclean_line-fragments c.args.place c.args.spare)) c.writeln.ensures.bytes
