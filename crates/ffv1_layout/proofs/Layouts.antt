@@ -68,6 +68,7 @@ module _ (r : RecordingValue) (payload : List ℕ) (slices : List (List ℕ)) (a
         covered = λ tile lt. subst (λ n. IsInSlice r.setup.across (headers_of placed) n tile) count (tiles.covered tile lt);
       };
       contents = all.contents;
+      statuses = all.statuses;
     }
 
 pub cut_fault : (r : RecordingValue) (payload : List ℕ) (fault : LayoutFault)

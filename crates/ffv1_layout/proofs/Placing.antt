@@ -1,9 +1,9 @@
 -- Slices that are placed one after the other.
-use Rattle.std.proofs.Common.{◌≡◌, ◌==◌, ℕ, ◌+◌, ◌-◌, ◌<◌, List, [], ◌∷◌, ◌++◌, length, map, get_or, refl, sym, ap, subst, ◌∙◌, length-append, below_more, arith}
+use Rattle.std.proofs.Common.{◌≡◌, ◌==◌, ℕ, ◌+◌, ◌-◌, ◌<◌, List, [], ◌∷◌, ◌++◌, length, map, get_or, None, refl, sym, ap, subst, ◌∙◌, length-append, below_more, arith}
 use Rattle.std.proofs.lemmas.List.{map-append, length-map, get_or_append_left, get_or-append_right}
 use Rattle.ffv1_range.specs.Setup.{RecordingValue}
-use Rattle.ffv1_layout.specs.Cuts.{slice_content}
-use Rattle.ffv1_layout.specs.Layout.{HasSliceHeader, no_header, header_at, headers_of, contents_of, listed_slice}
+use Rattle.ffv1_layout.specs.Cuts.{slice_content, slice_status}
+use Rattle.ffv1_layout.specs.Layout.{HasSliceHeader, no_header, header_at, headers_of, contents_of, statuses_of, status_at, listed_slice}
 use Rattle.ffv1_layout.specs.Inner.Placing.{IsPlacedSlice, ArePlaced}
 use Rattle.ffv1_layout.specs.declared.layout.PlacedSlice.{PlacedSlice}
 
@@ -21,7 +21,7 @@ mapped_last f xs x d k long =
 
 module _ (r : RecordingValue) (slices : List (List ℕ)) where
   pub none_placed : ArePlaced r slices 0 []
-  none_placed = record { long = refl; headers = λ k lt. absurd (omega arith); contents = λ k lt. absurd (omega arith) }
+  none_placed = record { long = refl; headers = λ k lt. absurd (omega arith); contents = λ k lt. absurd (omega arith); statuses = λ k lt. absurd (omega arith) }
 
   pub one_placed : (n : ℕ) (placed : List PlacedSlice) (p : PlacedSlice) → ArePlaced r slices n placed → IsPlacedSlice r (listed_slice slices n) (n == 0) p
       → ArePlaced r slices (n + 1) (placed ++ p ∷ [])
@@ -34,4 +34,7 @@ module _ (r : RecordingValue) (slices : List (List ℕ)) where
     contents = below_more (λ k. listed_slice (contents_of (placed ++ p ∷ [])) k ≡ slice_content r (listed_slice slices k)) n
         (λ k lt. mapped_before (λ (s : PlacedSlice). s.content.now) placed p [] k (omega (arith, before.long)) ∙ before.contents k lt)
         (mapped_last (λ (s : PlacedSlice). s.content.now) placed p [] n before.long ∙ is.content);
+    statuses = below_more (λ k. status_at (statuses_of (placed ++ p ∷ [])) k ≡ slice_status r (listed_slice slices k)) n
+        (λ k lt. mapped_before (λ (s : PlacedSlice). s.status) placed p None k (omega (arith, before.long)) ∙ before.statuses k lt)
+        (mapped_last (λ (s : PlacedSlice). s.status) placed p None n before.long ∙ is.status);
   }

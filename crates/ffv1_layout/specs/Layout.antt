@@ -1,5 +1,5 @@
 -- How the slices of a frame lie in it (RFC 9043, sections 4.5, 4.6 and 5): each has a header, and each tile is in one slice and only in one.
-use Rattle.std.specs.Prelude.{◌≡◌, ◌≢◌, ℕ, ◌+◌, ◌*◌, ◌<◌, ◌≤◌, ◌==◌, Bool, List, [], length, map, slice_index_or, None, Err}
+use Rattle.std.specs.Prelude.{◌≡◌, ◌≢◌, ℕ, ◌+◌, ◌*◌, ◌<◌, ◌≤◌, ◌==◌, Bool, List, [], length, map, slice_index_or, Option, None, Err}
 use Rattle.ffv1_bits.specs.Parity.{PassesParity}
 use Rattle.ffv1_range.specs.Setup.{RecordingValue}
 use Rattle.ffv1_range.specs.Tiles.{grid_of, tile_count}
@@ -8,7 +8,7 @@ use Rattle.ffv1_range.specs.declared.head.SliceHeader.{SliceHeader}
 use Rattle.ffv1_range.specs.declared.head.SliceStart.{SliceStart}
 use Rattle.ffv1_slice.specs.declared.slice.LinkFault.{LinkFault}
 use Rattle.ffv1_slice.specs.declared.slice.LinkFault.TheVariants.{Parity, Head}
-use Rattle.ffv1_layout.specs.Cuts.{AreSlicesOf, slice_content}
+use Rattle.ffv1_layout.specs.Cuts.{AreSlicesOf, slice_content, slice_status}
 use Rattle.ffv1_layout.specs.declared.layout.PlacedSlice.{PlacedSlice}
 use Rattle.ffv1_layout.specs.declared.fault.LayoutFault.{LayoutFault}
 use Rattle.ffv1_layout.specs.declared.fault.LayoutFault.TheVariants.{Chain, Slice, Overlap, Uncovered, Memory}
@@ -83,11 +83,19 @@ headers_of placed = map (λ slice. slice.header) placed
 abbrev pub contents_of : List PlacedSlice → List (List ℕ)
 contents_of placed = map (λ slice. slice.content.now) placed
 
--- The slices of a frame with their contents and headers.
+abbrev pub statuses_of : List PlacedSlice → List (Option ℕ)
+statuses_of placed = map (λ slice. slice.status) placed
+
+-- of some statuses, the one at a place
+abbrev pub status_at : List (Option ℕ) → ℕ → Option ℕ
+status_at statuses place = slice_index_or statuses place None
+
+-- The slices of a frame with their contents, headers and error statuses.
 pub record IsLayoutOf (r : RecordingValue) (payload : List ℕ) (placed : List PlacedSlice) : Type 0 where
   pub slices : List (List ℕ)
   pub laid_out : IsLaidOut r payload slices (headers_of placed)
   pub contents : (place : ℕ) → place < length slices → listed_slice (contents_of placed) place ≡ slice_content r (listed_slice slices place)
+  pub statuses : (place : ℕ) → place < length slices → status_at (statuses_of placed) place ≡ slice_status r (listed_slice slices place)
 
 -- The first fault of a payload: its chain; then for each place upwards its slice's parity and header; then the least place whose slice has a
 -- tile of one before it; then the least tile that is in no slice.

@@ -1,20 +1,20 @@
 //! The slices of a frame, with their headers, each tile in one of them (RFC 9043, sections 4.5, 4.6 and 5).
-ghost use Rattle.std.specs.Prelude.{◌≡◌, ◌==◌, ◌<◌, ◌⊎◌, ℕ, List, length, map, slice_index_or, IfOk, IfErr, OnOk, MatchResult};
+ghost use Rattle.std.specs.Prelude.{◌≡◌, ◌==◌, ◌<◌, ◌≤◌, ◌⊎◌, ℕ, List, length, map, slice_index_or, IfOk, IfErr, OnOk, MatchResult};
 ghost use Rattle.ffv1_range.specs.Setup.{RecordingValue};
-ghost use Rattle.ffv1_layout.specs.Cuts.{FitFooters};
+ghost use Rattle.ffv1_layout.specs.Cuts.{footer_length, FitFooters, slice_status};
 ghost use Rattle.ffv1_layout.specs.Layout.{HasSliceHeader, HasNoSliceHeader, HaveHeaders, headers_of, contents_of, listed_slice, IsLaidOut, IsLayoutOf, IsFirstLayoutFault, OneLayout};
 ghost use Rattle.ffv1_range.specs.Tiles.{grid_of, tile_count};
 ghost use Rattle.ffv1_range.specs.declared.head.SliceHeader.{SliceHeader};
 ghost use Rattle.ffv1_layout.specs.declared.fault.LayoutFault.TheVariants.{Memory};
 ghost use Rattle.ffv1_layout.specs.Inner.Marking.{HaveFit, AreTilesOf, IsTileFault};
-ghost use Rattle.ffv1_layout.specs.Inner.Placing.{IsPlacedSlice, ArePlaced, IsFirstUnplaced};
+ghost use Rattle.ffv1_layout.specs.Inner.Placing.{HaveFooters, IsPlacedSlice, ArePlaced, IsFirstUnplaced};
 
 use crate::cut::{cut_slices, footer_length};
 use crate::fault::LayoutFault;
 use crate::tiles::{first_free, is_free, mark_slice};
 use ffv1_bits::passes;
 use ffv1_range::{Recording, SliceHeader, read_slice_head};
-use ffv1_slice::LinkFault;
+use ffv1_slice::{LinkFault, status_of};
 use std::alloc::Global;
 
 /// A slice of a frame's payload.
@@ -23,14 +23,29 @@ pub struct PlacedSlice<'a> {
     /// What stands before its footer.
     pub content: &'a [u8],
     pub header: SliceHeader,
+    /// The error status in its footer (RFC 9043, section 4.9.2), where the recording's footers have one.
+    pub status: Option<u8>,
 }
 
-/// The header of a slice, with its content. It is `first` where it is the payload's first.
+/// The error status in a slice's footer.
+fn status_in(recording: &Recording, slice: &[u8]) -> Option<u8>
+    requires { footer_length recording.now.setup.ec ≤ length slice.now }
+    ensures { result ≡ slice_status recording.now slice.now }
+{
+    if recording.ec() == 0 {
+        None
+    } else {
+        Some(status_of(slice))
+    }
+}
+
+/// The header of a slice, with its content and its error status. It is `first` where it is the payload's first.
 fn placed<'a>(
     recording: &Recording,
     slice: &'a [u8],
     first: bool,
 ) -> Result<PlacedSlice<'a>, LinkFault>
+    requires { footer_length recording.now.setup.ec ≤ length slice.now }
     ensures ok { IfOk result (IsPlacedSlice recording.now slice.now first) }
     ensures err { IfErr result (HasNoSliceHeader recording.now slice.now first) }
 {
@@ -39,7 +54,11 @@ fn placed<'a>(
     }
     let content = &slice[..slice.len().saturating_sub(footer_length(recording))];
     match read_slice_head(recording, content, first) {
-        Ok((header, _start)) => Ok(PlacedSlice { content, header }),
+        Ok((header, _start)) => Ok(PlacedSlice {
+            content,
+            header,
+            status: status_in(recording, slice),
+        }),
         Err(fault) => Err(LinkFault::Head(fault)),
     }
 }
@@ -52,6 +71,7 @@ fn place_slices<'a>(
     recording: &Recording,
     slices: &[&'a [u8]],
 ) -> Result<Vec<PlacedSlice<'a>>, LayoutFault>
+    requires { HaveFooters (footer_length recording.now.setup.ec) (map (λ slice. slice.now) slices.now) }
     ensures ok { IfOk result (λ placed. ArePlaced recording.now (map (λ slice. slice.now) slices.now) (length slices.now) placed.items) }
     ensures err { IfErr result (IsFirstUnplaced recording.now (map (λ slice. slice.now) slices.now)) }
 {
@@ -92,8 +112,8 @@ fn check_tiles(
     }
 }
 
-/// The slices of a frame's payload, from its front, each with its content and its header (RFC 9043, sections 4.4 to 4.6, 4.9 and 5). Each tile of the grid
-/// is in one of them and only in one; they can stand in any order.
+/// The slices of a frame's payload, from its front, each with its content, its header and its error status (RFC 9043, sections 4.4 to 4.6,
+/// 4.9 and 5). Each tile of the grid is in one of them and only in one; they can stand in any order.
 ///
 /// Refused with the first fault: `Chain`; then for each place upwards `Slice`, its parity before its header; then `Overlap`, then `Uncovered`.
 /// Returns `Memory` if an allocation fails. It takes 100 bytes a slice, of which there are no more than tiles, and a byte a tile.

@@ -1,8 +1,9 @@
--- Which pictures a recording can have (RFC 9043, sections 4.5 to 4.7), and which headers their slices have.
-use Rattle.std.specs.Prelude.{◌≡◌, ◌+◌, ◌*◌, ◌<◌, ◌≤◌, ℕ, true, false, List, length, slice_index, slice_index_or, if◌then◌else◌}
+-- Which pictures a recording can have (RFC 9043, sections 4.5 to 4.7), and which headers and error statuses their slices have.
+use Rattle.std.specs.Prelude.{◌≡◌, ◌+◌, ◌*◌, ◌<◌, ◌≤◌, ◌==◌, ℕ, true, false, List, Option, Some, None, length, slice_index, slice_index_or, if◌then◌else◌}
 use Rattle.ffv1_range.specs.Setup.{RecordingValue}
 use Rattle.ffv1_range.specs.declared.head.SliceHeader.{SliceHeader}
-use Rattle.ffv1_layout.specs.Layout.{header_at, IsLaidOut}
+use Rattle.ffv1_layout.specs.Cuts.{slice_status}
+use Rattle.ffv1_layout.specs.Layout.{header_at, listed_slice, IsLaidOut}
 use Rattle.ffv1_plane.specs.Picture.{samples_of}
 use Rattle.ffv1_samples.specs.States.{count_of_planes}
 use Rattle.ffv1_player.specs.Frames.{frame_in}
@@ -45,10 +46,15 @@ pub record IsAskedHeader (r : RecordingValue) (header : SliceHeader) (slice : Sl
   pub sar_num : header.sar_num ≡ 0
   pub sar_den : header.sar_den ≡ 0
 
--- The payload's slices are as many as were asked for, and in their order each has its header.
+-- the error status that a slice's footer is to have, which with ec 0 has none (section 4.9.2)
+abbrev pub asked_status : RecordingValue → SliceSpec → Option ℕ
+asked_status r slice = if r.setup.ec == 0 then None else Some slice.status
+
+-- The payload's slices are as many as were asked for, and in their order each has its header and its error status.
 pub record HasAskedSlices (r : RecordingValue) (payload : List ℕ) (asked : List SliceSpec) : Type 0 where
   pub slices : List (List ℕ)
   pub headers : List SliceHeader
   pub laid_out : IsLaidOut r payload slices headers
   pub count : length headers ≡ length asked
   pub each : (place : ℕ) (d : SliceSpec) → place < length asked → IsAskedHeader r (header_at headers place) (slice_index_or asked place d)
+  pub statuses : (place : ℕ) (d : SliceSpec) → place < length asked → slice_status r (listed_slice slices place) ≡ asked_status r (slice_index_or asked place d)

@@ -101,7 +101,7 @@ impl Maker {
 
     /// The payload of the next frame. It is returned only if a player of the recording, which has decoded the frames made before, decodes it
     /// to exactly the planes asked for, as a keyframe or none as asked for, of the slices asked for in their order, each with the place, the
-    /// size and the table sets of its own, of which each ends clean.
+    /// size, the table sets and the error status of its own, of which each ends clean.
     ///
     /// Returns `NotSelf`, before any allocation of memory, where the picture does not fit: it has no slice, or one that has no tile, or a tile
     /// outside the grid, or names a table set that the record does not have; its planes are not as many or not of the sizes that the recording

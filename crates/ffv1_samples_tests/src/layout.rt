@@ -4,7 +4,7 @@ use ffv1_range::{HeadFault, Recording};
 use ffv1_slice::LinkFault;
 use std::test::Fail;
 
-/// A slice's tiles, and how long its content is.
+/// A slice's tiles, how long its content is, and its error status.
 #[derive(Clone, Copy, Debug, PartialEq, Eq)]
 struct Place {
     x: u32,
@@ -12,6 +12,7 @@ struct Place {
     w: u32,
     h: u32,
     length: usize,
+    status: Option<u8>,
 }
 
 /// The place of a slice.
@@ -23,6 +24,7 @@ fn place_of(slice: &PlacedSlice<'_>) -> Place {
         w: header.w,
         h: header.h,
         length: slice.content.len(),
+        status: slice.status,
     }
 }
 
@@ -45,6 +47,7 @@ static LAID: [Laid; 3] = [
                 w: 1,
                 h: 1,
                 length: 3,
+                status: Some(0),
             },
             Place {
                 x: 1,
@@ -52,6 +55,7 @@ static LAID: [Laid; 3] = [
                 w: 1,
                 h: 1,
                 length: 3,
+                status: Some(0),
             },
         ],
     ),
@@ -73,6 +77,7 @@ static LAID: [Laid; 3] = [
                 w: 1,
                 h: 2,
                 length: 4,
+                status: Some(0),
             },
             Place {
                 x: 0,
@@ -80,6 +85,7 @@ static LAID: [Laid; 3] = [
                 w: 1,
                 h: 2,
                 length: 4,
+                status: Some(0),
             },
         ],
     ),
@@ -97,6 +103,7 @@ static LAID: [Laid; 3] = [
             w: 1,
             h: 1,
             length: 3,
+            status: None,
         }],
     ),
 ];

@@ -209,7 +209,7 @@ impl Case {
                 w: *w,
                 h: *h,
                 tables: [turn % count, (turn + 1) % count, (turn + 2) % count],
-                status: 0,
+                status: (place % 8) as u8,
             })?;
         }
         Ok(slices)

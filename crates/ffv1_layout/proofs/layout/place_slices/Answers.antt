@@ -1,5 +1,6 @@
-use Rattle.std.proofs.Common.{◌≡◌, ◌==◌, ◌<◌, ℕ, List, [], length, map, get_or, Bor, sym, subst, arith}
+use Rattle.std.proofs.Common.{◌≡◌, ◌==◌, ◌<◌, ◌≤◌, ℕ, List, [], length, map, get_or, Bor, sym, subst, arith}
 use Rattle.std.proofs.lemmas.List.{length-map, get_or-map}
+use Rattle.ffv1_layout.specs.Cuts.{footer_length}
 use Rattle.ffv1_layout.specs.Layout.{HasNoSliceHeader, listed_slice, headers_of}
 use Rattle.ffv1_layout.specs.Inner.Placing.{IsPlacedSlice, ArePlaced}
 use Rattle.ffv1_layout.proofs.Placing.{none_placed, one_placed}
@@ -14,6 +15,13 @@ here slices n d lt = sym (get_or-map bytes_of slices n d [] lt)
 
 pub loop-place-init : goal.loop-place-init
 loop-place-init c = rw c.in_ok-placed_slices.ensures.items (none_placed _ _)
+
+pub placed-requires : goal.placed-requires
+placed-requires c =
+    let slices = c.args.slices.now in
+    let n = c.loop-place.place in
+    subst (λ (bytes : List ℕ). footer_length c.args.recording.now.setup.ec ≤ length bytes) (sym (here slices n _ (omega arith)))
+    (c.requires n (omega (arith, length-map slices bytes_of)))
 
 pub returns-in-Err-clause-err : goal.returns-in-Err-clause-err
 returns-in-Err-clause-err c =

@@ -3,9 +3,9 @@ use Rattle.std.proofs.lemmas.List.{length-map}
 use Rattle.std.proofs.lemmas.Result.{err_from_is_err_and}
 use Rattle.ffv1_range.specs.Setup.{RecordingValue}
 use Rattle.ffv1_layout.specs.Layout.{contents_of, IsLayoutOf}
-use Rattle.ffv1_layout.specs.Inner.Placing.{ArePlaced, IsFirstUnplaced}
-use Rattle.ffv1_layout.specs.Cuts.{FitFooters}
-use Rattle.ffv1_layout.proofs.Shorts.{slices_short, contents_short}
+use Rattle.ffv1_layout.specs.Inner.Placing.{HaveFooters, ArePlaced, IsFirstUnplaced}
+use Rattle.ffv1_layout.specs.Cuts.{footer_length, FitFooters}
+use Rattle.ffv1_layout.proofs.Shorts.{slices_short, slices_long, contents_short}
 use Rattle.ffv1_layout.proofs.OneLayout.{one_layout, no_fault}
 use Rattle.ffv1_layout.proofs.Layouts.{unplaced_fault, all_fit, tile_fault, layout_is, cut_fault}
 use Rattle.ffv1_layout.specs.declared.layout.PlacedSlice.{PlacedSlice}
@@ -21,6 +21,11 @@ placed_same r slices slices' placed placed' same same_p is =
     subst (ArePlaced r (map bytes_of slices) (length (map bytes_of slices))) (sym same_p)
     (subst (λ n. ArePlaced r (map bytes_of slices) n placed) (sym (length-map slices bytes_of))
     (subst (λ xs. ArePlaced r (map bytes_of xs) (length xs) placed) same is))
+
+pub place_slices-requires : goal.place_slices-requires
+place_slices-requires c =
+    subst (λ (slices : List (Bor (List ℕ))). HaveFooters (footer_length c.args.recording.now.setup.ec) (map bytes_of slices)) (sym c.deref.ensures.value)
+    (slices_long c.args.recording.now c.args.payload.now _ c.in_ok-slices.ensures.ok)
 
 pub check_tiles-requires : goal.check_tiles-requires
 check_tiles-requires c =

@@ -18,7 +18,7 @@ use Rattle.ffv1_player.proofs.drawn.decode_slices.Goals as goal
 
 -- what stands past the end of a list of slices
 abbrev no_placed : PlacedSlice
-no_placed = record { content = record { ref_ptr = (0, 0); now = [] }; header = no_header }
+no_placed = record { content = record { ref_ptr = (0, 0); now = [] }; header = no_header; status = None }
 
 pub decode_slice-requires-clause-content : goal.decode_slice-requires-clause-content
 decode_slice-requires-clause-content c =
