@@ -33,6 +33,7 @@ pub mod Leasts
 pub mod TileStatesOf
 pub mod TileUnions
 pub mod HoldingSteps
+pub mod OwnFrames
 pub mod Found
 pub mod TileOrders
 pub mod TileReads

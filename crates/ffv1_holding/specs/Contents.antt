@@ -13,7 +13,7 @@ use Rattle.ffv1_holding.specs.SliceOrder.{Entry, Origin, with_each, bytes_cmp, e
 use Rattle.ffv1_holding.specs.Sets as set
 use Rattle.ffv1_holding.specs.Rising.{IsRising}
 use Rattle.ffv1_holding.specs.TileSets.{digests_in}
-use Rattle.ffv1_holding.specs.Reels.{Reel, IsReel, coded_reel}
+use Rattle.ffv1_holding.specs.Reels.{Reel, IsReel, IsOwnReel, coded_reel}
 
 -- the slices that are held, and which copy gave which of them
 pub record Contents : Type 0 where
@@ -25,7 +25,11 @@ pub record Contents : Type 0 where
 abbrev pub no_slices : Reel → Contents
 no_slices reel = record { reel = reel; slices = set.empty; origins = set.empty }
 
--- One record, width and height: a record and a size have one rules.
+-- the same slices and origins, of another reel
+abbrev pub with_reel : Contents → Reel → Contents
+with_reel h reel = record { reel = reel; slices = h.slices; origins = h.origins }
+
+-- One record, width, height and frames: these have one rules.
 abbrev pub IsSameReel : Contents → Contents → Type 0
 IsSameReel a b = a.reel ≡ b.reel
 
@@ -85,6 +89,10 @@ pub record IsEntryOf (rules : TileRules) (e : Entry) : Type 0 where
 -- each is a slice of its tile
 abbrev pub AreEntriesOf : TileRules → set.SetOf entry_cmp → Type 0
 AreEntriesOf rules slices = (e : Entry) → set.contains slices e ≡ true → IsEntryOf rules e
+
+-- each is also one by its record's own rules
+abbrev pub AreOwnEntries : Contents → Type 0
+AreOwnEntries h = (own : Reel) → IsOwnReel own h.reel → AreEntriesOf own.rules h.slices
 
 -- no origin without its slice
 abbrev pub AreHeld : set.SetOf entry_cmp → set.SetOf origin_cmp → Type 0

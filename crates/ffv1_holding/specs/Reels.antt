@@ -1,10 +1,13 @@
 -- A recording: its configuration record, the setup that the record gives for the size of its frames, and the rules of their slices.
-use Rattle.std.specs.Prelude.{ℕ, ◌≡◌, ◌*◌, List, Err}
+use Rattle.std.specs.Prelude.{ℕ, ◌≡◌, ◌*◌, Bool, true, false, List, Err}
 use Rattle.std.proofs.Common.{refl}
 use Rattle.std.specs.Coded.{Coded, code_by, coded×, coded_ℕ, coded_list}
 use Rattle.ffv1_range.specs.Setup.{SetupValue, RecordingValue, IsScopedRecord, coded_setup}
 use Rattle.ffv1_range.specs.SetupForms.{Grants, all_granted, record_read}
 use Rattle.ffv1_range.specs.TileHeaders.{TileRules, rules_of, coded_rules}
+use Rattle.ffv1_range.specs.Frames.{by_frames}
+use Rattle.ffv1_range.specs.declared.frames.Frames.{Frames}
+use Rattle.ffv1_range.specs.declared.frames.Frames.TheVariants.{Ruled, Any}
 use Rattle.ffv1_range.specs.declared.scope.Scope.TheVariants.{Parities}
 use Rattle.ffv1_range.specs.declared.fault.SetupFault.{SetupFault}
 use Rattle.ffv1_range.specs.declared.fault.SetupFault.TheVariants.{Memory}
@@ -21,8 +24,25 @@ abbrev pub reel_of : List ℕ → RecordingValue → Reel
 reel_of config recording = record { config = config; setup = recording.setup; rules = rules_of recording }
 
 -- The setup and the rules are those of the record, which is one with parities, at the setup's own size.
+abbrev pub IsRecordReel : Reel → Type 0
+IsRecordReel r = (recording : RecordingValue) × IsScopedRecord r.config Parities r.setup.width r.setup.height recording × (r ≡ reel_of r.config recording)
+
+-- the same recording, with slices of these frames
+abbrev pub in_frames : Frames → Reel → Reel
+in_frames frames r = record { config = r.config; setup = r.setup; rules = by_frames frames r.rules }
+
+-- A recording by its record's own rules, and the same in some frames.
+abbrev pub IsOwnReel : Reel → Reel → Type 0
+IsOwnReel own r = IsRecordReel own × ((frames : Frames) × (r ≡ in_frames frames own))
+
+-- It is the recording of a record, in some frames of it.
 abbrev pub IsReel : Reel → Type 0
-IsReel r = (recording : RecordingValue) × IsScopedRecord r.config Parities r.setup.width r.setup.height recording × (r ≡ reel_of r.config recording)
+IsReel r = (own : Reel) × IsOwnReel own r
+
+-- whether these are the frames that the record's own rules allow
+abbrev pub are_ruled : Frames → Bool
+are_ruled Ruled = true
+are_ruled Any = false
 
 -- what such a record says
 abbrev pub IsRecordingFor : Recordings → List ℕ → ℕ → ℕ → RecordingValue → Type 0

@@ -2,19 +2,22 @@
 //!
 //! Here a holding is made and joined to others. Its other methods are in `take.rt`, which takes copies, `restore.rt`, which says
 //! how the tiles stand and restores the payload, and `origins.rt`, which says which copies gave a slice.
-ghost use Rattle.std.specs.Prelude.{◌≡◌, ◌⊎◌, Err, true, false, IfOk, IfErr, OnErr};
+ghost use Rattle.std.specs.Prelude.{◌≡◌, ◌⊎◌, Err, true, false, IsTrue, IfOk, IfErr, OnOk, OnErr};
 ghost use Rattle.ffv1_range.specs.Setup.{SetupValue, RecordingValue, IsSetupOf};
 ghost use Rattle.ffv1_range.specs.TileHeaders.{profile_rules};
 ghost use Rattle.ffv1_range.specs.SetupFaults.{FirstSetupFault};
-ghost use Rattle.ffv1_holding.specs.Contents.{no_slices, IsHolding};
-ghost use Rattle.ffv1_holding.specs.Reels.{IsReel, IsRecordingFor, FirstRecordFault, reel_of};
+ghost use Rattle.ffv1_range.specs.declared.frames.Frames.TheVariants.{Any};
+ghost use Rattle.ffv1_holding.specs.Contents.{no_slices, with_reel, AreOwnEntries, IsHolding};
+ghost use Rattle.ffv1_holding.specs.Reels.{IsRecordReel, IsOwnReel, IsRecordingFor, FirstRecordFault, reel_of, in_frames};
 
 use crate::fault::HoldFault;
+use crate::framed::Framed;
 use crate::joins::Join;
 use crate::pool::Pool;
 use crate::recordings::Recordings;
 use crate::reel::Reel;
-use ffv1_range::{Recorded, Recording, Setup, SetupFault};
+use ffv1_range::{Recording, Setup, SetupFault};
+use ffv1_slice::read_slice;
 use std::alloc::{AllocError, Global};
 use std::marker::Model;
 
@@ -24,12 +27,12 @@ use std::marker::Model;
 /// Each is a slice of its tile by what the record says: its parity is right, and its header is one of the recording's. That is a `Setup`, and
 /// then the recording is of the profile, or a `Recording`.
 #[derive(Drop)]
-pub struct Holding<S: Recorded = Setup> {
+pub struct Holding<S: Framed = Setup> {
     pub(crate) reel: Reel<S>,
     pub(crate) held: Pool,
 }
 
-impl<S: Recorded> Model for Holding<S> {
+impl<S: Framed> Model for Holding<S> {
     ghost use Rattle.ffv1_holding.specs.Contents.{Contents, coded_contents};
 
     ghost Value = { Contents };
@@ -51,7 +54,7 @@ impl Holding<Setup> {
         ensures empty { IfOk result (λ h. h ≡ no_slices h.reel) }
         ensures config { IfOk result (λ h. h.reel.config ≡ config.now) }
         ensures setup { IfOk result (λ h. IsSetupOf config.now width height h.reel.setup) }
-        ensures well_formed { IfOk result (λ h. IsReel h.reel) }
+        ensures well_formed { IfOk result (λ h. IsRecordReel h.reel) }
 
         ensures only { (s : SetupValue) → IsSetupOf config.now width height s → OnErr result (result ≡ Err SetupFault.Memory) }
         ensures fault { IfErr result (λ fault. (fault ≡ SetupFault.Memory) ⊎ FirstSetupFault config.now width height fault) }
@@ -71,6 +74,7 @@ impl Holding<Setup> {
         ensures value { result.now ≡ self.now.reel.setup }
         ensures rules { self.now.reel.rules ≡ profile_rules result.now }
         ensures well_formed { IsHolding self.now }
+        ensures of_record { IsRecordReel self.now.reel }
     {
         self.reel.setup()
     }
@@ -112,9 +116,49 @@ impl Holding<Recording> {
             Err(reel) => Err(Holding { reel, held }),
         }
     }
+
+    /// The same slices and origins, as a holding of any frames of the recording.
+    pub fn into_any_frames(self) -> Holding<Recording>
+        ensures { result ≡ with_reel self (in_frames Any self.reel) }
+    {
+        let Holding { reel, held } = self;
+        let reel = reel.into_any_frames();
+        Holding { reel, held }
+    }
+
+    /// The same slices and origins, as a holding by the record's own rules. It comes back exactly if a slice of it is none by
+    /// these: in the profile one whose keyframe bit is 0.
+    pub fn into_own_frames(self) -> Result<Holding<Recording>, Holding<Recording>>
+        ensures ok { IfOk result (λ h. IsOwnReel h.reel self.reel × (h ≡ with_reel self h.reel)) }
+        ensures own { OnOk result (AreOwnEntries self) }
+        ensures err { IfErr result (λ h. h ≡ self) }
+        ensures other { OnErr result (AreOwnEntries self → ⊥) }
+    {
+        if !self.is_of_own_frames() {
+            return Err(self);
+        }
+        let Holding { reel, held } = self;
+        let reel = reel.into_own_frames();
+        Ok(Holding { reel, held })
+    }
+
+    /// Whether each slice is one by the record's own rules. Those of other tiles than the first have no keyframe bit.
+    fn is_of_own_frames(&self) -> bool
+        ensures own { IsTrue result → AreOwnEntries self.now }
+        ensures other { AreOwnEntries self.now → IsTrue result }
+    {
+        let recording = self.reel.recording();
+        let firsts = self.held.of_tile(0);
+        for place in 0..firsts.len() {
+            if read_slice(recording, firsts.get(place), true).is_err() {
+                return false;
+            }
+        }
+        true
+    }
 }
 
-impl<S: Recorded> Holding<S> {
+impl<S: Framed> Holding<S> {
     /// A holding of no slices, for a recording. The only refusal is Memory.
     pub fn of_reel(alloc: Global, reel: Reel<S>) -> Result<Holding<S>, AllocError>
         ensures { IfOk result (λ h. h ≡ no_slices reel) }
@@ -132,7 +176,7 @@ impl<S: Recorded> Holding<S> {
     }
 }
 
-impl<S: Recorded> Join for Holding<S> {
+impl<S: Framed> Join for Holding<S> {
     ghost use Rattle.ffv1_holding.specs.Sets as set;
     ghost use Rattle.ffv1_holding.specs.Contents.{IsSameReel, joined};
     ghost use Rattle.ffv1_holding.specs.ContentsLaws.{joined_comm, joined_assoc, joined_again, joined_reel};

@@ -4,6 +4,7 @@
 #![tactic(auto)]
 
 mod fault;
+mod framed;
 mod fresh;
 mod held_rows;
 mod holding;
@@ -24,6 +25,7 @@ mod standing;
 mod take;
 
 pub use fault::HoldFault;
+pub use framed::Framed;
 pub use holding::Holding;
 pub use joins::{Join, JoinAllFault, join_all};
 pub use laws::{

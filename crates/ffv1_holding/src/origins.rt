@@ -5,10 +5,10 @@ ghost use Rattle.ffv1_holding.specs.Reels.{reel_tiles};
 ghost use Rattle.ffv1_holding.specs.TileSets.{tile_slices};
 ghost use Rattle.ffv1_holding.specs.Contents.{digests_of, AreDigests};
 
+use crate::framed::Framed;
 use crate::holding::Holding;
-use ffv1_range::Recorded;
 
-impl<S: Recorded> Holding<S> {
+impl<S: Framed> Holding<S> {
     /// The SHA-256 digests of the whole copies that gave a slice of a tile, which is given with its footer: each once,
     /// rising by their bytes. Returns `None` exactly if that slice is not held of the tile. Tiles count from 0, row by
     /// row of the grid.

@@ -13,9 +13,9 @@ ghost use Rattle.ffv1_holding.specs.Originals.{AreNear, HoldsExactly};
 ghost use Rattle.ffv1_holding.specs.Small.{IsRestoredFrom};
 ghost use Rattle.ffv1_holding.specs.SmallNotions.{tile_by};
 
+use crate::framed::Framed;
 use crate::holding::Holding;
 use crate::standing::{TileState, least_status, state};
-use ffv1_range::Recorded;
 use std::alloc::AllocError;
 
 /// Why there is no restored payload.
@@ -40,7 +40,7 @@ impl From<AllocError> for RestoreFault {
     }
 }
 
-impl<S: Recorded> Holding<S> {
+impl<S: Framed> Holding<S> {
     /// How many slices are held, of all tiles.
     pub fn size(&self) -> usize
         ensures { result ≡ set.size self.now.slices }

@@ -2,7 +2,6 @@
 //! 4.9.1); those that pass their parity (section 4.9.3) and have a header for one tile are its slices.
 ghost use Rattle.std.specs.Prelude.{◌≡◌, ◌≢◌, ◌⊎◌, ◌*◌, ◌+◌, ◌<◌, ◌≤◌, ◌^◌, length, map, take, [], slice_index_or, IfOk, IfErr, OnOk, OnErr};
 ghost use Rattle.ffv1_bits.specs.Limits.{payload_limit};
-ghost use Rattle.ffv1_range.specs.TileHeaders.{rules_of};
 ghost use Rattle.ffv1_slice.specs.Walk.{links_of};
 ghost use Rattle.ffv1_slice.specs.Slices.{found_slices};
 ghost use Rattle.ffv1_holding.specs.Sets as set;
@@ -13,11 +12,12 @@ ghost use Rattle.ffv1_holding.specs.TakeFaults.{IsTakeFault, AreShort};
 ghost use Rattle.ffv1_holding.specs.TileOrder.{fall, is_in_tile_order};
 
 use crate::fault::HoldFault;
+use crate::framed::Framed;
 use crate::holding::Holding;
 use crate::pool_entry::PoolEntry;
+use crate::reel::Reel;
 use ffv1_bits::PAYLOAD_LIMIT;
-use ffv1_range::{Recorded, Recording};
-use ffv1_slice::{Chain, next_link, slice_of};
+use ffv1_slice::{Chain, next_link};
 use std::alloc::AllocError;
 
 /// What taking one copy came to.
@@ -42,7 +42,7 @@ pub struct TakeAllFault {
     pub cause: HoldFault,
 }
 
-impl<S: Recorded> Holding<S> {
+impl<S: Framed> Holding<S> {
     /// Adds the slices that are found in a copy, and the SHA-256 digest of the whole copy to the origins of each.
     ///
     /// Returns `PayloadTooLong` exactly if the copy has more than 2^30 bytes, before any link is looked at; the only
@@ -62,7 +62,7 @@ impl<S: Recorded> Holding<S> {
             return Err(HoldFault::PayloadTooLong);
         }
         let mut found = Vec::new(self.held.alloc());
-        let links = list_found(self.reel.recording(), payload, &mut found)?;
+        let links = list_found(&self.reel, payload, &mut found)?;
         let slices = found.len();
         let in_order = is_in_order(found.as_slice());
         put_in_order(payload, &mut found)?;
@@ -119,16 +119,16 @@ impl<S: Recorded> Holding<S> {
 }
 
 /// Lists the slices that are found in a copy, from its end, after no others, and returns how many links it has.
-fn list_found(
-    recording: &Recording,
+fn list_found<S: Framed>(
+    reel: &Reel<S>,
     payload: &[u8],
     found: &mut Vec<PoolEntry>,
 ) -> Result<usize, HoldFault>
     requires short { length payload.now ≤ payload_limit }
     requires none { found.old.items ≡ [] }
-    ensures found { OnOk result (map (entry_in payload.now) found.new.items ≡ found_slices (rules_of recording.now) payload.now) }
+    ensures found { OnOk result (map (entry_in payload.now) found.new.items ≡ found_slices reel.now.rules payload.now) }
     ensures lie { OnOk result (AreEntriesIn payload.now found.new.items) }
-    ensures well_formed { OnOk result (AreEntriesOf (rules_of recording.now) (set.from_list (found_slices (rules_of recording.now) payload.now))) }
+    ensures well_formed { OnOk result (AreEntriesOf reel.now.rules (set.from_list (found_slices reel.now.rules payload.now))) }
     ensures links { IfOk result (λ links. links ≡ length (links_of payload.now)) }
     ensures memory { OnErr result (result ≡ Err HoldFault.Memory) }
 {
@@ -136,7 +136,7 @@ fn list_found(
     let mut chain = Chain::new(payload);
     while let Some(link) = next_link(&mut chain) {
         links += 1;
-        if let Ok(tile) = slice_of(recording, &link) {
+        if let Ok(tile) = reel.slice_of(&link) {
             found.push(PoolEntry {
                 tile,
                 start: link.start(),

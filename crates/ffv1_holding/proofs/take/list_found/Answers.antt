@@ -3,7 +3,6 @@ use Rattle.std.specs.List.{filter_map, AllByRecursion}
 use Rattle.std.proofs.lemmas.List.{map-append, length-map, get_or-map}
 use Rattle.ffv1_bits.specs.Limits.{slice_limit}
 use Rattle.ffv1_slice.specs.Chain.{LinkValue, IsLinkOf, link_of, IsFramed}
-use Rattle.ffv1_range.specs.TileHeaders.{rules_of}
 use Rattle.ffv1_slice.specs.Slices.{slice_at, found_slices}
 use Rattle.ffv1_slice.specs.Walk.{links_of}
 use Rattle.ffv1_slice.proofs.SliceFacts.{found_slices-links}
@@ -16,13 +15,14 @@ use Rattle.ffv1_holding.proofs.Found.{passed_more, found_more, none_more, entry_
 use Rattle.ffv1_holding.proofs.Sifting.{each-push}
 use Rattle.ffv1_holding.proofs.Listing.{slice_listed, entry_listed}
 use Rattle.ffv1_holding.proofs.EntrySteps.{all-from_list}
+use Rattle.ffv1_holding.proofs.take.list_found.Given.{Over}
 use Rattle.ffv1_holding.proofs.take.list_found.Goals as goal
 
 abbrev AreCut : List ℕ → List LinkValue → Type 0
 AreCut payload = AllByRecursion (λ link. (q : ℕ) × IsLinkOf payload link.start q × (link ≡ link_of payload link.start q))
 
 pub loop-link-init : goal.loop-link-init
-loop-link-init c =
+loop-link-init g c =
     let none = c.requires.none in
     record {
       passed = [];
@@ -35,19 +35,19 @@ loop-link-init c =
     }
 
 pub overflow_add-links : goal.overflow_add-links
-overflow_add-links c =
+overflow_add-links g c =
     let inv = c.loop-link.invariant in
-    links_fit (rules_of c.args.recording.now) inv.passed c.in-Some.link c.next_link.new.chain.left (links_of c.args.payload.now) c.args.payload.now c.loop-link.links
+    links_fit c.args.reel.now.rules inv.passed c.in-Some.link c.next_link.new.chain.left (links_of c.args.payload.now) c.args.payload.now c.loop-link.links
     (ap (λ xs. inv.passed ++ xs) (sym c.in-Some.ensures.some) ∙ inv.whole)
     (subst (λ xs. 8 * length xs ≤ length c.args.payload.now) c.new-chain.ensures.value c.new-chain.ensures.few) c.requires.short inv.links
 
 pub loop-link-preserved-in-Continue-1 : goal.loop-link-preserved-in-Continue-1
-loop-link-preserved-in-Continue-1 c =
+loop-link-preserved-in-Continue-1 g c =
     let inv = c.loop-link.invariant in
     let passed = inv.passed in
     let link = c.in-Some.link in
     let rest = c.next_link.new.chain.left in
-    let rules = rules_of c.args.recording.now in
+    let rules = c.args.reel.now.rules in
     let payload = c.args.payload.now in
     let tile = c.in-Ok.tile in
     let is = c.in-Ok.ensures.found in
@@ -74,10 +74,10 @@ loop-link-preserved-in-Continue-1 c =
     }
 
 pub loop-link-preserved : goal.loop-link-preserved
-loop-link-preserved c =
+loop-link-preserved g c =
     let inv = c.loop-link.invariant in
     let link = c.in-Some.link in
-    let rules = rules_of c.args.recording.now in
+    let rules = c.args.reel.now.rules in
     let same = none_more rules inv.passed link (λ tile is. c.in_default-slice_of.not-Ok tile (c.slice_of.ensures.only tile is)) in
     record {
       passed = inv.passed ++ link ∷ [];
@@ -90,29 +90,29 @@ loop-link-preserved c =
       well_formed = inv.well_formed;
     }
 
-all_found : (c : goal.In_default) → map (entry_in c.args.payload.now) c.loop-link.found.items ≡ found_slices (rules_of c.args.recording.now) c.args.payload.now
-all_found c =
+all_found : (g : Over) (c : goal.In_default g) → map (entry_in c.args.payload.now) c.loop-link.found.items ≡ found_slices c.args.reel.now.rules c.args.payload.now
+all_found g c =
     let inv = c.loop-link.invariant in
-    let rules = rules_of c.args.recording.now in
+    let rules = c.args.reel.now.rules in
     let all = all_passed inv.passed c.loop-link.chain.left (links_of c.args.payload.now) c.in_default.ensures.none inv.whole in
     inv.listed ∙ ap (filter_map (slice_at rules)) all ∙ sym (found_slices-links rules c.args.payload.now)
 
 pub returns-clause-found : goal.returns-clause-found
-returns-clause-found c = all_found c
+returns-clause-found g c = all_found g c
 
 pub returns-clause-well_formed : goal.returns-clause-well_formed
-returns-clause-well_formed c =
+returns-clause-well_formed g c =
     let inv = c.loop-link.invariant in
-    let rules = rules_of c.args.recording.now in
+    let rules = c.args.reel.now.rules in
     let payload = c.args.payload.now in
     let es = c.loop-link.found.items in
     let nothing : PoolEntry = record { tile = 0; start = 0; length = 0 } in
-    subst (λ (xs : List Entry). AreEntriesOf rules (set.from_list xs)) (all_found c)
+    subst (λ (xs : List Entry). AreEntriesOf rules (set.from_list xs)) (all_found g c)
     (all-from_list entries_total entries_antisymmetric (IsEntryOf rules) (map (entry_in payload) es)
     (λ i d lt. let in_range : i < length es = omega (arith, length-map es (entry_in payload)) in
     rw (get_or-map (entry_in payload) es i nothing d in_range) (inv.well_formed i nothing in_range)))
 
 pub returns-clause-links : goal.returns-clause-links
-returns-clause-links c =
+returns-clause-links g c =
     let inv = c.loop-link.invariant in
     inv.links ∙ ap length (all_passed inv.passed c.loop-link.chain.left (links_of c.args.payload.now) c.in_default.ensures.none inv.whole)

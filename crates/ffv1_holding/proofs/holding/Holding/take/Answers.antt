@@ -2,14 +2,14 @@ use mathlib.Core.List.{map-map}
 use Rattle.std.proofs.Common.{◌≡◌, List, ℕ, map, ap, sym, ◌∙◌, subst, refl, arith}
 use Rattle.std.proofs.lemmas.Result.{err_from_is_err_and}
 use Rattle.sha2.specs.Sha256.{sha256}
-use Rattle.ffv1_range.specs.TileHeaders.{TileRules, rules_of}
+use Rattle.ffv1_range.specs.TileHeaders.{TileRules}
 use Rattle.ffv1_slice.specs.Slices.{found_slices}
 use Rattle.ffv1_holding.specs.Sets as set
 use Rattle.ffv1_holding.specs.SliceOrder.{entry_cmp, origin_cmp}
 use Rattle.ffv1_holding.specs.Inner.TileSets.{TileSlices, with_more}
 use Rattle.ffv1_holding.specs.Inner.PoolEntries.{entry_in, IsPool}
 use Rattle.ffv1_holding.specs.declared.pool_entry.PoolEntry.{PoolEntry}
-use Rattle.ffv1_holding.specs.Contents.{Contents, AreEntriesOf, origins_of_copy, with_facts, with_found}
+use Rattle.ffv1_holding.specs.Contents.{Contents, origins_of_copy, with_found}
 use Rattle.ffv1_holding.specs.TileOrder.{fall, is_in_tile_order}
 use Rattle.ffv1_holding.proofs.Errors.{error_is}
 use Rattle.ffv1_holding.proofs.Digests.{length-sha256}
@@ -69,37 +69,37 @@ grown old new rules copy lent found listed order added same is =
     let marked = marked_same (sha256 copy) (map (entry_in copy) lent) (found_slices rules copy) all in
     added ∙ (λ i. with_more old (all i) (marked i))
 
-grown_first : (g : Over) (c : goal.After-size g) → c.insert_copy.new.self ≡ with_more c.self.inside.held (slices_in (rules_of c.recording.result.now) c.args.payload.now)
-    (origins_in (rules_of c.recording.result.now) c.args.payload.now)
+grown_first : (g : Over) (c : goal.After-size g) → c.insert_copy.new.self ≡ with_more c.self.inside.held (slices_in c.self.inside.reel.rules c.args.payload.now)
+    (origins_in c.self.inside.reel.rules c.args.payload.now)
 grown_first g c =
-    grown c.self.inside.held c.insert_copy.new.self (rules_of c.recording.result.now) c.args.payload.now _ _ _ c.deref.ensures.value
+    grown c.self.inside.held c.insert_copy.new.self c.self.inside.reel.rules c.args.payload.now _ _ _ c.deref.ensures.value
     c.in_ok-insert_copy.ensures.ok c.in_ok-put_in_order.ensures.same c.in_ok-links.ensures.found
 
 pub overflow_sub-new : goal.overflow_sub-new
 overflow_sub-new g c =
-    let rules = rules_of c.recording.result.now in
+    let rules = c.self.inside.reel.rules in
     let more = size_grown c.self.inside.held c.insert_copy.new.self (slices_in rules c.args.payload.now)
     (origins_in rules c.args.payload.now) (grown_first g c) in
     omega (arith, more, c.size.ensures, c.size-before.ensures)
 
-grown_last : (g : Over) (c : goal.After-drop-found-2 g) → c.insert_copy.new.self ≡ with_more c.self.inside.held (slices_in (rules_of c.recording.result.now) c.args.payload.now)
-    (origins_in (rules_of c.recording.result.now) c.args.payload.now)
+grown_last : (g : Over) (c : goal.After-drop-found-2 g) → c.insert_copy.new.self ≡ with_more c.self.inside.held (slices_in c.self.inside.reel.rules c.args.payload.now)
+    (origins_in c.self.inside.reel.rules c.args.payload.now)
 grown_last g c =
-    grown c.self.inside.held c.insert_copy.new.self (rules_of c.recording.result.now) c.args.payload.now _ _ _ c.deref.ensures.value
+    grown c.self.inside.held c.insert_copy.new.self c.self.inside.reel.rules c.args.payload.now _ _ _ c.deref.ensures.value
     c.in_ok-insert_copy.ensures.ok c.in_ok-put_in_order.ensures.same c.in_ok-links.ensures.found
 
 pub invariant_of-self-2 : goal.invariant_of-self-2
 invariant_of-self-2 g c =
     let copy = c.args.payload.now in
-    let found = found_slices (rules_of c.recording.result.now) copy in
-    let slices = slices_in (rules_of c.recording.result.now) copy in
-    kept-grown c.self.inside c.insert_copy.new.self slices (origins_in (rules_of c.recording.result.now) copy) (grown_last g c) c.self.invariant
-    (subst (λ (s : TileRules). AreEntriesOf s slices) c.recording.ensures.rules c.in_ok-links.ensures.well_formed)
+    let found = found_slices c.self.inside.reel.rules copy in
+    let slices = slices_in c.self.inside.reel.rules copy in
+    kept-grown c.self.inside c.insert_copy.new.self slices (origins_in c.self.inside.reel.rules copy) (grown_last g c) c.self.invariant
+    c.in_ok-links.ensures.well_formed
     (held_marked (sha256 copy) found) (whole_marked (sha256 copy) found (length-sha256 copy))
 
 pub returns-clause-new : goal.returns-clause-new
 returns-clause-new g c =
-    let rules = rules_of c.recording.result.now in
+    let rules = c.self.inside.reel.rules in
     let more = size_grown c.self.inside.held c.insert_copy.new.self (slices_in rules c.args.payload.now) (origins_in rules c.args.payload.now) (grown_last g c) in
     omega (arith, more, c.size.ensures, c.size-before.ensures, ap (λ (h : Contents). set.size h.slices) c.self.view_is)
 
@@ -108,7 +108,6 @@ returns-clause-ok g c =
     let copy = c.args.payload.now in
     let whole = λ (held : TileSlices). let h : Contents = record { reel = c.self.inside.reel; slices = held.slices; origins = held.origins } in h in
     ap whole (grown_last g c)
-    ∙ ap (λ (rules : TileRules). with_facts (whole c.self.inside.held) (slices_in rules copy) (origins_in rules copy)) c.recording.ensures.rules
     ∙ ap (λ (h : Contents). with_found h copy) c.self.view_is
 
 pub list_found-requires-clause-short : goal.list_found-requires-clause-short
@@ -127,10 +126,9 @@ tiles_found rules copy found is = ap fall (sym (map-map (λ s. s.0) (entry_in co
 
 pub returns-clause-order : goal.returns-clause-order
 returns-clause-order g c =
-    let rules = rules_of c.recording.result.now in
+    let rules = c.self.inside.reel.rules in
     c.is_in_order-in_order.ensures ∙ ap (λ (es : List PoolEntry). fall (map (λ e. e.tile) es)) c.as_slice.ensures.value
     ∙ tiles_found rules c.args.payload.now _ c.in_ok-links.ensures.found
-    ∙ ap (λ (r : TileRules). is_in_tile_order r c.args.payload.now) c.recording.ensures.rules
     ∙ ap (λ (h : Contents). is_in_tile_order h.reel.rules c.args.payload.now) c.self.view_is
 
 pub returns-clause-fault : goal.returns-clause-fault

@@ -1,25 +1,16 @@
-use Rattle.std.proofs.Common.{◌≡◌, rules, sym, ap, ◌∙◌}
-use Rattle.std.proofs.lemmas.Bool.{eqb-true, eq-eqb}
-use Rattle.ffv1_range.specs.Setup.{SetupValue}
+use Rattle.std.proofs.Common.{refl, sym, ap, ◌∙◌}
+use Rattle.std.specs.Cmp.{booleans_Decides}
 use Rattle.ffv1_holding.specs.Reels.{Reel}
-use Rattle.ffv1_holding.proofs.Reels.{same_reel}
+use Rattle.ffv1_holding.proofs.Reels.{same_in_frames}
 use Rattle.ffv1_holding.proofs.reel.Reel.is_same.Goals as goal
-use Rattle.ffv1_holding.proofs.reel.Reel.is_same.Goals.{then-eq, else-eq}
 
-pub returns-then-width : goal.returns-then-width
-returns-then-width g c = elim c.if-eq.branch [
-  | then-eq w ↦
-      let a : Reel = c.args.self.now in
-      let b : Reel = c.args.other.now in
-      let own = c.recording-recording.ensures in
-      let other = c.recording-others.ensures in
-      let config : a.config ≡ b.config = search rules in
-      let width : a.setup.width ≡ b.setup.width = ap (λ (s : SetupValue). s.width) (sym own.setup) ∙ sym w.width.ensures
-      ∙ eqb-true _ _ (sym w.value-is ∙ c.if-width.true) ∙ w.width-then-eq.ensures ∙ ap (λ (s : SetupValue). s.width) other.setup in
-      let height_is : c.height.result ≡ a.setup.height = c.height.ensures ∙ ap (λ (s : SetupValue). s.height) own.setup in
-      let other_is : c.height-then-width.result ≡ b.setup.height = c.height-then-width.ensures ∙ ap (λ (s : SetupValue). s.height) other.setup in (
-        λ yes. same_reel a b own.well_formed other.well_formed config width (sym height_is ∙ eqb-true _ _ yes ∙ other_is),
-        λ same. eq-eqb _ _ (height_is ∙ ap (λ (r : Reel). r.setup.height) same ∙ sym other_is),
-      )
-  | else-eq w ↦ absurd (search rules)
-]
+pub returns-then-has_same_record : goal.returns-then-has_same_record
+returns-then-has_same_record g c =
+    let own = c.has_same_record.ensures.well_formed in
+    let record' = c.if-has_same_record.ensures.same refl in
+    let a = c.is_of_profile.ensures in
+    let b = c.is_of_profile-then-has_same_record.ensures in (
+      λ yes. same_in_frames c.args.self.now c.args.other.now own.0 own.1 record'.config record'.width record'.height
+          (sym a ∙ (booleans_Decides _ _).0 yes ∙ b),
+      λ same. (booleans_Decides _ _).1 (a ∙ ap (λ (r : Reel). r.rules.is_profile) same ∙ sym b),
+    )
