@@ -7,9 +7,9 @@ ghost use Rattle.ffv1_holding.specs.Contents.{IsHolding};
 ghost use Rattle.ffv1_holding.specs.TileState.{status_of, tile_state, restored_payload};
 ghost use Rattle.ffv1_holding.specs.ReportText.{hex_byte, reel_line, slices_held, least_status, settled_numbers, settled_words, disputed_words, tile_words, tile_line, origin_line, origin_lines, tile_lines, is_missing, is_settled, is_disputed, tiles_that, count_words, length_words, whole_words, frame_line, report_text};
 
+use crate::framed::Framed;
 use crate::holding::Holding;
 use crate::standing::TileState;
-use ffv1_range::Recorded;
 use ffv1_slice::status_of;
 use sha2::{Digest, Sha256};
 use std::alloc::{AllocError, Global};
@@ -20,7 +20,7 @@ use std::alloc::{AllocError, Global};
 ///
 /// It fails where memory is refused.
 #[tactic(auto, unfolding(crate::specs::ReportText::report_text))]
-pub fn report<S: Recorded>(alloc: Global, holding: &Holding<S>) -> Result<String, AllocError>
+pub fn report<S: Framed>(alloc: Global, holding: &Holding<S>) -> Result<String, AllocError>
     ensures { IfOk result (λ text. string_bytes text ≡ report_text holding.now) }
 {
     let mut text = String::new(alloc);
@@ -33,7 +33,7 @@ pub fn report<S: Recorded>(alloc: Global, holding: &Holding<S>) -> Result<String
 }
 
 /// Adds the line of the recording.
-fn push_reel<S: Recorded>(text: &mut String, holding: &Holding<S>) -> Result<(), AllocError>
+fn push_reel<S: Framed>(text: &mut String, holding: &Holding<S>) -> Result<(), AllocError>
     ensures { OnOk result (string_bytes text.new ≡ string_bytes text.old ++ reel_line holding.now) }
 {
     let reel = holding.reel();
@@ -43,7 +43,7 @@ fn push_reel<S: Recorded>(text: &mut String, holding: &Holding<S>) -> Result<(),
 }
 
 /// Adds the lines of the tiles.
-fn push_tiles<S: Recorded>(text: &mut String, holding: &Holding<S>) -> Result<(), AllocError>
+fn push_tiles<S: Framed>(text: &mut String, holding: &Holding<S>) -> Result<(), AllocError>
     ensures { OnOk result (string_bytes text.new
         ≡ string_bytes text.old ++ flat_map (tile_lines holding.now) (range_with_len 0 (reel_tiles holding.now.reel))) }
 {
@@ -54,7 +54,7 @@ fn push_tiles<S: Recorded>(text: &mut String, holding: &Holding<S>) -> Result<()
 }
 
 /// Adds the line of a tile, and those of the copies that gave its slice.
-fn push_tile_lines<S: Recorded>(
+fn push_tile_lines<S: Framed>(
     text: &mut String,
     holding: &Holding<S>,
     tile: usize,
@@ -67,7 +67,7 @@ fn push_tile_lines<S: Recorded>(
 }
 
 /// Adds the line of a tile.
-fn push_tile<S: Recorded>(
+fn push_tile<S: Framed>(
     text: &mut String,
     holding: &Holding<S>,
     tile: usize,
@@ -81,7 +81,7 @@ fn push_tile<S: Recorded>(
 }
 
 /// Adds the lines of the copies that gave a tile's slice, where it is settled.
-fn push_origins<S: Recorded>(
+fn push_origins<S: Framed>(
     text: &mut String,
     holding: &Holding<S>,
     tile: usize,
@@ -113,7 +113,7 @@ fn push_origin(text: &mut String, tile: usize, digest: &[u8; 32]) -> Result<(), 
 }
 
 /// Adds how a tile stands.
-fn push_state<S: Recorded>(
+fn push_state<S: Framed>(
     text: &mut String,
     holding: &Holding<S>,
     tile: usize,
@@ -168,7 +168,7 @@ fn push_disputed(
 }
 
 /// The least error status of the slices that are held of a tile.
-fn held_status<S: Recorded>(holding: &Holding<S>, tile: usize) -> u8
+fn held_status<S: Framed>(holding: &Holding<S>, tile: usize) -> u8
     requires { tile < reel_tiles holding.now.reel }
     ensures { result ≡ least_status (slices_held holding.now tile) }
 {
@@ -201,7 +201,7 @@ struct Counts {
 }
 
 /// Counts the tiles of a holding.
-fn counts_of<S: Recorded>(holding: &Holding<S>) -> Counts
+fn counts_of<S: Framed>(holding: &Holding<S>) -> Counts
     ensures settled { result.settled ≡ tiles_that is_settled holding.now }
     ensures disputed { result.disputed ≡ tiles_that is_disputed holding.now }
     ensures missing { result.missing ≡ tiles_that is_missing holding.now }
@@ -233,7 +233,7 @@ fn push_counts(text: &mut String, counts: &Counts) -> Result<(), AllocError>
 }
 
 /// Adds the line of the whole frame, where so many tiles are settled.
-fn push_frame<S: Recorded>(
+fn push_frame<S: Framed>(
     text: &mut String,
     holding: &Holding<S>,
     settled: usize,
@@ -249,7 +249,7 @@ fn push_frame<S: Recorded>(
 }
 
 /// Adds the length and the digest of the settled slices, joined in tile order.
-fn push_whole<S: Recorded>(text: &mut String, holding: &Holding<S>) -> Result<(), AllocError>
+fn push_whole<S: Framed>(text: &mut String, holding: &Holding<S>) -> Result<(), AllocError>
     ensures { OnOk result (string_bytes text.new ≡ string_bytes text.old ++ whole_words (restored_payload holding.now)) }
 {
     let (bytes, digest) = measure(holding);
@@ -266,7 +266,7 @@ fn push_length(text: &mut String, bytes: usize) -> Result<(), AllocError>
 }
 
 /// The length and the digest of the settled slices, joined in tile order.
-fn measure<S: Recorded>(holding: &Holding<S>) -> (usize, [u8; 32])
+fn measure<S: Framed>(holding: &Holding<S>) -> (usize, [u8; 32])
     ensures bytes { result.0 ≡ length (restored_payload holding.now) }
     ensures digest { result.1 ≡ sha256 (restored_payload holding.now) }
 {
