@@ -38,7 +38,7 @@ pub use Rattle.ffv1_slice.specs.Slices.{IsSliceOf}
 pub use borrow.Rule.Slice.PartMut.{put_mid}
 pub use mathlib.Core.Bool.{and-false, or-false, or_assoc, true≢false}
 pub use Rattle.ffv1_hold.specs.FileEntries.{AreDigestsIn, AreEntries, AreOrigins, Follows, FollowsDigest, HasText, HasTextAfter, IsDigest, IsFileEntryOf, file_entry_cmp, last_of}
-pub use Rattle.ffv1_hold.specs.FileFaults.{BeginsMagic, BodyShows, EntriesShow, EntryShows, FileIsWhole, FileShows, IsEntryInPlace, IsFaultOf, IsFileReel, IsHoldingText, IsMagic, IsMisnamed, IsOutside, IsPartAfter, IsPartOfBody, IsPartOfEntries, IsPartOfEntry, IsPartOfFile, IsPartOfMagic, IsPartOfOrigins, IsPartOfReel, IsPartOfSlice, MayRead, IsWrong, MagicShows, OriginsShow, ReadsFile, ReelIsWhole, ReelShows, Returns, ShowsAfter, SliceIsTooLong, SliceShows, recordings_of}
+pub use Rattle.ffv1_hold.specs.FileFaults.{BeginsMagic, BodyShows, EntriesShow, EntryShows, FileIsWhole, FileShows, IsEntryInPlace, IsFaultOf, IsFileReel, IsHoldingText, IsMagic, IsMisnamed, IsOutside, IsPartAfter, IsPartOfBody, IsPartOfEntries, IsPartOfEntry, IsPartOfFile, IsPartOfMagic, IsPartOfOrigins, IsPartOfReel, IsPartOfSlice, MayRead, MayTake, IsWrong, MagicShows, OriginsShow, ReadsFile, ReelIsWhole, ReelShows, Returns, ShowsAfter, SliceIsTooLong, SliceShows, recordings_of}
 pub use Rattle.ffv1_hold.specs.Headline.{IsReelOf}
 pub use Rattle.ffv1_hold.specs.HoldingText.{FileEntry, FitsInFile, HasFileVersion, IsStated, IsTextOf, begun_text, entry_text, file_text, holding_text, magic, origins_limit, text_after_slice, version_number}
 unfoldable pub use Rattle.ffv1_hold.specs.HoldingText.{be2, be4, body_text, entries_text, file_entries, head_text, origins_text, sized_record, slice_text}
@@ -70,14 +70,14 @@ pub use Rattle.ffv1_holding.proofs.ExactlyHeld.{near_exact}
 pub use Rattle.ffv1_holding.proofs.ItemsRise.{items-insert_last, items-rising, rising-append, rising_one}
 pub use Rattle.ffv1_holding.proofs.Lists.{flat_map-range_more}
 pub use Rattle.ffv1_holding.proofs.OriginSteps.{both_tie, held_each, held_union, whole_each, whole_union}
-pub use Rattle.ffv1_holding.proofs.Reels.{one_record, reel_is, reel_limits, reel_small, reel_tiles_few, same_reel, setup_reel_of}
+pub use Rattle.ffv1_holding.proofs.Reels.{one_record, profile_record_reel, record_reel_is, reel_is, reel_limits, reel_small, reel_tiles_few, same_in_frames, setup_reel_of}
 pub use Rattle.ffv1_holding.proofs.RisingSets.{contains_item, insert_present, items-empty, items-from_list, or_absorbed, rising_rest, size-items, union-insert}
 pub use Rattle.ffv1_holding.proofs.Tiles.{any-other, any-same, contains-tile_slices}
 pub use Rattle.ffv1_holding.specs.Contents.{AreDigests, Contents, IsEntryOf, IsHolding, IsSameReel, digests_of, holding_of, joined, no_slices, with_copies, with_entry, with_found}
 pub use Rattle.ffv1_holding.specs.HoldingParts.{IsKept, contents}
 pub use Rattle.ffv1_holding.specs.Inner.TileSets.{entries_below, tile_entries}
 pub use Rattle.ffv1_holding.specs.Originals.{AreNear, HoldsExactly}
-pub use Rattle.ffv1_holding.specs.Reels.{FirstRecordFault, WantsMemory, IsReel, IsRecordingFor, Reel, reel_of, reel_tiles}
+pub use Rattle.ffv1_holding.specs.Reels.{FirstRecordFault, WantsMemory, IsReel, IsRecordReel, IsRecordingFor, Reel, reel_of, reel_tiles}
 pub use Rattle.ffv1_holding.specs.declared.recordings.Recordings.{Recordings}
 pub use Rattle.ffv1_holding.specs.declared.recordings.Recordings.TheVariants.{Any, Profile}
 pub use Rattle.ffv1_holding.specs.Rising.{IsRising}

@@ -1,5 +1,5 @@
 -- A text shows no fault.
-use Rattle.ffv1_hold.proofs.Common.{◌≡◌, ℕ, ◌<◌, ◌≤◌, ◌^◌, List, [], ◌∷◌, ◌++◌, length, take, get_or, Option, Some, None, refl, sym, ap, ◌∙◌, subst, inl, inr, arith, append_assoc, length-append, ◌⊎◌, take-append_seam, take-append-le, record_limit, TileRules, RecordingValue, Recordings, is_in_profile, reel_small, AllByRecursion, HoldFileFault, Version, HasFileVersion, Result, Ok, Bool, false, IsRising, Reel, Contents, IsHolding, FileEntry, magic, sized_record, head_text, body_text, entries_text, file_entries, file_text, IsStated, last_of, Follows, IsFileEntryOf, file_entry_cmp, AreEntries, HasText, IsFileReel, IsMagic, IsMisnamed, recordings_of, IsPartOfBody, BodyShows, IsPartOfEntry, EntryShows, IsPartOfReel, ReelShows, MagicShows, IsPartOfFile, FileShows, rising_rest, true, FirstRecordFault, IsScopedRecord, SetupFault, true≢false}
+use Rattle.ffv1_hold.proofs.Common.{record_reel_is, ◌≡◌, ℕ, ◌<◌, ◌≤◌, ◌^◌, List, [], ◌∷◌, ◌++◌, length, take, get_or, Option, Some, None, refl, sym, ap, ◌∙◌, subst, inl, inr, arith, append_assoc, length-append, ◌⊎◌, take-append_seam, take-append-le, record_limit, TileRules, RecordingValue, Recordings, is_in_profile, reel_small, AllByRecursion, HoldFileFault, Version, HasFileVersion, Result, Ok, Bool, false, IsRising, Reel, Contents, IsHolding, FileEntry, magic, sized_record, head_text, body_text, entries_text, file_entries, file_text, IsStated, last_of, Follows, IsFileEntryOf, file_entry_cmp, AreEntries, HasText, IsFileReel, IsMagic, IsMisnamed, recordings_of, IsPartOfBody, BodyShows, IsPartOfEntry, EntryShows, IsPartOfReel, ReelShows, MagicShows, IsPartOfFile, FileShows, rising_rest, true, FirstRecordFault, IsScopedRecord, SetupFault, true≢false}
 use Rattle.ffv1_range.specs.SetupForms.{all_granted, record_read}
 use Rattle.ffv1_range.specs.declared.scope.Scope.TheVariants.{Parities}
 use Rattle.ffv1_range.specs.declared.scope.Scope.TheVariants as scopes
@@ -185,7 +185,7 @@ not_misnamed false config w h recording read of (other, is, within) =
 
 module _ {q : Recordings} (r : Reel) (is : IsFileReel q r) (x y : List ℕ) where
   small : (r.setup.width < 2 ^ 32) × (r.setup.height < 2 ^ 32)
-  small = reel_small r is.reel
+  small = reel_small r (record_reel_is r is.reel)
 
   abbrev Sized : List ℕ → Type 0
   Sized s = (config : List ℕ) × (w h : ℕ) × (s ≡ sized_record config w h) × (length config ≤ record_limit) × (w < 2 ^ 32) × (h < 2 ^ 32)
@@ -264,7 +264,7 @@ module _ (q : Recordings) (v : Version) (h : Contents) (is : IsHolding h) (file_
       ∙ ap (λ t. t ++ rest) split ∙ append_assoc (head_text w r) s rest) in
       let rules = ap (λ (x : Reel). x.rules) heads.1 in
       let entries_v = subst (λ (u : Version). AreEntries u r.rules fs) (sym heads.0) entries in
-      entries_none v h.reel.rules None es fs z rest all_valid all_fit (fitting_all v r r_is.reel fs entries_v.each) fault t
+      entries_none v h.reel.rules None es fs z rest all_valid all_fit (fitting_all v r (record_reel_is r r_is.reel) fs entries_v.each) fault t
       (heads.2 ∙ ap (λ t. t ++ rest) inner ∙ ap (λ (u : Version). (entries_text u fs ++ t) ++ rest) (sym heads.0))
       (subst (λ (l : Option FileEntry). EntryShows v h.reel.rules l fault t) (last_of-none fs)
       (subst (λ (x : TileRules). EntryShows v x (last_of fs) fault t) (sym rules)
@@ -279,6 +279,6 @@ module _ (q : Recordings) (v : Version) (h : Contents) (is : IsHolding h) (file_
   text_whole z (inr (inr (w, r, s, r_is, split, (fs, t, entries, inner, part)))) =
       let heads = same_head v w h.reel r (entries_text v es ++ 0 ∷ z) s (short_reel h.reel file_reel) (short_reel r r_is) has entries.version (sym (text_before z) ∙ split) in
       let entries_v = subst (λ (u : Version). AreEntries u r.rules fs) (sym heads.0) entries in
-      entries_whole v r.rules (last_of fs) es fs z t all_fit (fitting_all v r r_is.reel fs entries_v.each)
+      entries_whole v r.rules (last_of fs) es fs z t all_fit (fitting_all v r (record_reel_is r r_is.reel) fs entries_v.each)
       (heads.2 ∙ inner ∙ ap (λ (u : Version). entries_text u fs ++ t) (sym heads.0))
       (subst (λ (u : Version). IsPartOfEntry u r.rules (last_of fs) t) (sym heads.0) part)

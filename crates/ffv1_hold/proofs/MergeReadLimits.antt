@@ -1,5 +1,5 @@
 -- How far the text of a holding was read, by the entries that lie whole in what was written.
-use Rattle.ffv1_hold.proofs.Common.{◌≡◌, ℕ, suc, ◌+◌, ◌<◌, ◌≤◌, true, List, [], ◌∷◌, ◌++◌, length, map, get_or, drop, Option, Some, None, IfSome, refl, sym, ap, ◌∙◌, subst, inl, inr, arith, append_assoc, append-nil, length-append, ◌⊎◌, AllByRecursion, Consumes, Appends, Entry, entries_total, Reel, IsReel, Contents, IsHolding, digests_of, Version, Second, FileEntry, head_text, entry_text, body_text, entries_text, begun_text, file_entries, file_text, IsStated, IsFileEntryOf, next_text, IsFileReel, LiesWhole, AreAllDigests, IsReadLimitOf, IsFileOf, IsFileOfSome, StaysInReadLimit, Facts, part, ReadsToNext, contains_item, Recordings}
+use Rattle.ffv1_hold.proofs.Common.{record_reel_is, ◌≡◌, ℕ, suc, ◌+◌, ◌<◌, ◌≤◌, true, List, [], ◌∷◌, ◌++◌, length, map, get_or, drop, Option, Some, None, IfSome, refl, sym, ap, ◌∙◌, subst, inl, inr, arith, append_assoc, append-nil, length-append, ◌⊎◌, AllByRecursion, Consumes, Appends, Entry, entries_total, Reel, IsReel, Contents, IsHolding, digests_of, Version, Second, FileEntry, head_text, entry_text, body_text, entries_text, begun_text, file_entries, file_text, IsStated, IsFileEntryOf, next_text, IsFileReel, LiesWhole, AreAllDigests, IsReadLimitOf, IsFileOf, IsFileOfSome, StaysInReadLimit, Facts, part, ReadsToNext, contains_item, Recordings}
 use Rattle.ffv1_holding.specs.Sets as set
 use Rattle.ffv1_hold.proofs.NumberTexts.{no_tag, rest_same}
 use Rattle.ffv1_hold.proofs.BodyTexts.{same_body}
@@ -172,7 +172,7 @@ module _ {c : Recordings} (v w : Version) (h : Contents) (other : Option Content
       let es = entries_text w (file_entries read) in
       let split = after_all (LiesWhole (AreAllDigests h other) h.reel done) (file_entries read) left.rest o.before o.first o.after
       (sym left.split ∙ o.split) all_whole o.not_whole in
-      let few = ends_before w r is.reel left.rest left.fits split.0 o.first o.after split.2 s.more left.bytes left.text s.next in
+      let few = ends_before w r (record_reel_is r is.reel) left.rest left.fits split.0 o.first o.after split.2 s.more left.bytes left.text s.next in
       let text : entries_text w (o.before ++ o.first ∷ []) ≡ es ++ entries_text w (split.0 ++ o.first ∷ []) =
       ap (λ xs. entries_text w (xs ++ o.first ∷ [])) split.1 ∙ ap (entries_text w) (append_assoc (file_entries read) split.0 (o.first ∷ []))
       ∙ entries_text-split w (file_entries read) (split.0 ++ o.first ∷ []) in

@@ -1,5 +1,5 @@
 -- What joining two files returns for texts of one reel, and to heads of two.
-use Rattle.ffv1_hold.proofs.Common.{◌≡◌, ℕ, ◌<◌, List, [], ◌∷◌, ◌++◌, length, Option, Some, None, Result, Ok, Err, IfErr, OnOk, IsErrOf, rules, refl, sym, ap, ◌∙◌, subst, inl, inr, arith, append_assoc, length-append, ◌⊎◌, Consumes, Appends, Consumes-nil, Appends-nil, file_limit, Version, Reel, Contents, IsSameReel, joined, HoldFileFault, magic, head_text, entries_text, begun_text, file_entries, file_text, holding_text, IsStated, StopsIn, IsFileReel, IsPartOfReel, IsOutside, IsPartOfHead, HeadShows, Inputs, IsFileOf, IsFileOfSome, StreamBegins, BeginsWithHead, InputRefuses, ShowsNoFault, BothRefuse, LeftRefusesFirst, MergeRefuses, EntriesPass, UnionPasses, ReadsPart, ReadsAll, ReadsOtherHeads, WritesUnion, ReturnsUnion, ReturnsOther, WritesNoEnd, StaysInReadLimit, Facts, both, HeadsRefuse, StopsAtWrite, Stops, MergeIsRefused, part, Recordings, MayRead, HasFileVersion, HeadRefuses, sized_record, WritesAtMost, ReadLog, WriteLog, WritesIfTouched, MergeWent}
+use Rattle.ffv1_hold.proofs.Common.{◌≡◌, ℕ, ◌<◌, List, [], ◌∷◌, ◌++◌, length, Option, Some, None, Result, Ok, Err, IfErr, OnOk, IsErrOf, rules, refl, sym, ap, ◌∙◌, subst, inl, inr, arith, append_assoc, length-append, ◌⊎◌, Consumes, Appends, Consumes-nil, Appends-nil, file_limit, Version, Reel, Contents, IsSameReel, joined, HoldFileFault, magic, head_text, entries_text, begun_text, file_entries, file_text, holding_text, IsStated, StopsIn, IsFileReel, IsPartOfReel, IsOutside, IsPartOfHead, HeadShows, Inputs, IsFileOf, IsFileOfSome, StreamBegins, BeginsWithHead, InputRefuses, ShowsNoFault, BothRefuse, LeftRefusesFirst, MergeRefuses, EntriesPass, UnionPasses, ReadsPart, ReadsAll, ReadsOtherHeads, WritesUnion, ReturnsUnion, ReturnsOther, WritesNoEnd, StaysInReadLimit, Facts, both, HeadsRefuse, StopsAtWrite, Stops, MergeIsRefused, part, Recordings, MayTake, HasFileVersion, HeadRefuses, sized_record, WritesAtMost, ReadLog, WriteLog, WritesIfTouched, MergeWent}
 use Rattle.ffv1_hold.specs.declared.file_fault.HoldFileFault.TheVariants as faults
 use Rattle.ffv1_hold.specs.declared.version.Version.TheVariants.{Second}
 use Rattle.ffv1_hold.specs.JoinedStreams.{devices}
@@ -82,13 +82,13 @@ module _ (i : Inputs) (w v : Option (List ℕ)) (g h : Reel) (left : BeginsWithH
   other_refused f (inr s) =
       absurd (other (sym (one_head _ s.left_version s.reel g s.is s.left_head left) ∙ one_head _ s.right_version s.reel h s.is s.right_head right))
 
-  file_reel : (old new : Option (List ℕ)) (x : Contents) → MayRead i.recordings x.reel.rules.is_profile → ReadsAll old new x → IsFileReel i.recordings x.reel
-  file_reel old new x taken a = record { reel = a.well_formed.reel; taken = taken; fits = a.file.fits.record' }
+  file_reel : (old new : Option (List ℕ)) (x : Contents) → MayTake i.recordings x.reel → ReadsAll old new x → IsFileReel i.recordings x.reel
+  file_reel old new x taken a = record { reel = taken.1; taken = taken.0; fits = a.file.fits.record' }
 
   other_written : WritesUnion i w v → ⊥
   other_written u =
       let one = one_head _ _ u.left.reel g (file_reel _ _ u.left u.taken u.read.left_read) (head_begins _ _ _ u.left (0 ∷ []) u.read.left_read.file.taken) left in
-      let two = one_head _ _ u.right.reel h (file_reel _ _ u.right (subst (λ (k : Reel). MayRead i.recordings k.rules.is_profile) u.read.same u.taken) u.read.right_read) (head_begins _ _ _ u.right (0 ∷ []) u.read.right_read.file.taken) right in
+      let two = one_head _ _ u.right.reel h (file_reel _ _ u.right (subst (MayTake i.recordings) u.read.same u.taken) u.read.right_read) (head_begins _ _ _ u.right (0 ∷ []) u.read.right_read.file.taken) right in
       other (sym one ∙ u.read.same ∙ two)
 
   pub returns_other : (r : Result (Unit {0}) HoldFileFault) → OnOk r (WritesUnion i w v) → IfErr r (MergeIsRefused i w v) → ReturnsOther r
@@ -121,15 +121,15 @@ part_of_text old new v h q file p =
 whole_is : (old new : Option (List ℕ)) (v : Version) (h q : Contents) → IsFileOf old v h → ReadsAll old new q → q ≡ h
 whole_is old new v h q file a = grind (arith, taken_all, one_file)
 
-file_refused : (c : Recordings) (old new : Option (List ℕ)) (v : Version) (h : Contents) (f : HoldFileFault) → MayRead c h.reel.rules.is_profile
+file_refused : (c : Recordings) (old new : Option (List ℕ)) (v : Version) (h : Contents) (f : HoldFileFault) → MayTake c h.reel
     → IsFileOf old v h → InputRefuses c old new f → IsOutside f
 file_refused c old new v h f taken file refused =
     refused_outside c v h file.well_formed taken file.fits f new (subst (λ (o : Option (List ℕ)). InputRefuses c o new f) file.text refused)
 
 module _ (i : Inputs) (a b : Option (List ℕ)) (v w : Version) (g h : Contents) (same : IsSameReel g h)
-    (taken : MayRead i.recordings g.reel.rules.is_profile) (left : IsFileOf i.left_old v g) (right : IsFileOf i.right_old w h) where
-  right_taken : MayRead i.recordings h.reel.rules.is_profile
-  right_taken = subst (λ (k : Reel). MayRead i.recordings k.rules.is_profile) same taken
+    (taken : MayTake i.recordings g.reel) (left : IsFileOf i.left_old v g) (right : IsFileOf i.right_old w h) where
+  right_taken : MayTake i.recordings h.reel
+  right_taken = subst (MayTake i.recordings) same taken
 
   -- the entries so far are no more than those of both
   entries_within : EntriesPass i → file_limit < length (holding_text (joined g h))
@@ -153,9 +153,9 @@ module _ (i : Inputs) (a b : Option (List ℕ)) (v w : Version) (g h : Contents)
 
   heads_same : ReadsOtherHeads i → ⊥
   heads_same o =
-      let head : (old : Option (List ℕ)) (u : Version) (x : Contents) → MayRead i.recordings x.reel.rules.is_profile → IsFileOf old u x
+      let head : (old : Option (List ℕ)) (u : Version) (x : Contents) → MayTake i.recordings x.reel → IsFileOf old u x
       → BeginsWithHead i.recordings old x.reel = λ old u x own file. record {
-        is = record { reel = file.well_formed.reel; taken = own; fits = file.fits.record' };
+        is = record { reel = own.1; taken = own.0; fits = file.fits.record' };
         version = u;
         has = version_of u x file.fits.stated;
         rest = entries_text u (file_entries x) ++ 0 ∷ [];

@@ -1,5 +1,5 @@
 -- Where joining two files stands before the first entries, and after the last ones.
-use Rattle.ffv1_hold.proofs.Common.{◌≡◌, ℕ, ◌+◌, ◌≤◌, List, [], ◌∷◌, ◌++◌, length, Option, Some, None, IfSome, IfNone, refl, sym, ap, ◌∙◌, subst, inl, inr, arith, append-nil, length-append, Consumes, Appends, IsAtEnd, AllByRecursion, Appends-trans, file_limit, TileRules, WritesFront, front-append, front-after, entries_total, entries_antisymmetric, origins_total, origins_antisymmetric, Reel, Contents, IsHolding, HoldFileFault, Version, Second, FileEntry, head_text, begun_text, file_text, holding_text, IsStated, Takes, Refuses, last_of, Follows, IsFileEntryOf, next_text, IsFileReel, IsPartOfEntry, EntryShows, EndIsWhole, LiesWhole, AreAllDigests, StreamBegins, InputRefuses, OneRefuses, ShowsNoFault, ReadsAll, ReadsPart, ReadsSoFar, UnionPasses, WritesUnion, WritesAtMost, Start, inputs_from, Facts, part, no_facts, both, FollowsAll, IsPassed, IsReadUpTo, ReadsToNext, IsOpened, Stands, Stops, Ends, Recordings, HasFileVersion}
+use Rattle.ffv1_hold.proofs.Common.{record_reel_is, ◌≡◌, ℕ, ◌+◌, ◌≤◌, List, [], ◌∷◌, ◌++◌, length, Option, Some, None, IfSome, IfNone, refl, sym, ap, ◌∙◌, subst, inl, inr, arith, append-nil, length-append, Consumes, Appends, IsAtEnd, AllByRecursion, Appends-trans, file_limit, TileRules, WritesFront, front-append, front-after, entries_total, entries_antisymmetric, origins_total, origins_antisymmetric, Reel, Contents, IsHolding, HoldFileFault, Version, Second, FileEntry, head_text, begun_text, file_text, holding_text, IsStated, Takes, Refuses, last_of, Follows, IsFileEntryOf, next_text, IsFileReel, IsPartOfEntry, EntryShows, EndIsWhole, LiesWhole, AreAllDigests, StreamBegins, InputRefuses, OneRefuses, ShowsNoFault, ReadsAll, ReadsPart, ReadsSoFar, UnionPasses, WritesUnion, WritesAtMost, Start, inputs_from, Facts, part, no_facts, both, FollowsAll, IsPassed, IsReadUpTo, ReadsToNext, IsOpened, Stands, Stops, Ends, Recordings, HasFileVersion}
 use Rattle.ffv1_holding.specs.Sets as set
 use Rattle.ffv1_hold.specs.declared.file_fault.HoldFileFault.TheVariants as faults
 use Rattle.ffv1_hold.proofs.Slots.{entries_text-none, length-head_text}
@@ -23,7 +23,7 @@ begun-both_none r = ap (λ x. begun_text Second (part r x)) both-none ∙ begun-
 pub first_passed : {c : Recordings} (old new : Option (List ℕ)) (v : Version) (r : Reel) (place : ℕ) → IsFileReel c r → HasFileVersion v r.rules.is_profile → Takes old new 0 place (head_text v r)
     → IsPassed old new v r no_facts place None
 first_passed old new v r place is has t = record {
-  well_formed = holding_none r is.reel;
+  well_formed = holding_none r (record_reel_is r is.reel);
   stated = stated_none v r has;
   text = subst (Takes old new 0 place) (sym (begun-none v r)) t;
   last' = sym (ap last_of (entries-none r));
@@ -71,7 +71,7 @@ head_after : {c : Recordings} (old new beside : Option (List ℕ)) (v : Version)
     → ReadsToNext v r old new beside done
 head_after old new beside v r done is has taken = record {
   facts = no_facts;
-  well_formed = holding_none r is.reel;
+  well_formed = holding_none r (record_reel_is r is.reel);
   stated = stated_none v r has;
   whole = λ u h other file other_file. subst (AllByRecursion (LiesWhole (AreAllDigests h other) r done)) (sym (entries-none r)) tt;
   more = [];
@@ -242,7 +242,7 @@ module _ (s : Start) (left right sink : Option (List ℕ)) (room : ℕ) (e : End
     left = part s.reel e.lefts;
     right = part s.reel e.rights;
     read = e.read;
-    taken = e.is.taken;
+    taken = (e.is.taken, e.is.reel);
     fits = fits_within (part s.reel all) all_well_formed (e.is.fits, omega (arith, e.room_left, some, union_length));
     written = Appends-trans s.sink sink new (begun_text Second (part s.reel all)) (0 ∷ []) e.written w;
   }

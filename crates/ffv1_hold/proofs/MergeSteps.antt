@@ -1,5 +1,5 @@
 -- What one entry more does to where joining two files stands.
-use Rattle.ffv1_hold.proofs.Common.{◌≡◌, ℕ, ◌+◌, ◌<◌, ◌≤◌, List, [], ◌∷◌, ◌++◌, length, Option, Some, None, IfSome, IfNone, refl, sym, ap, ◌∙◌, subst, inl, inr, arith, append_assoc, append-nil, length-append, Ordering, Less, Equal, Greater, Consumes, Appends, IsAtEnd, Appends-trans, record_limit, file_limit, TileRules, WritesFront, front-append, front-after, Reel, Contents, IsHolding, AreDigests, HoldFileFault, Version, Second, FileEntry, head_text, entry_text, entries_text, begun_text, file_entries, IsStated, Takes, Refuses, last_of, Follows, IsFileEntryOf, next_text, IsFileReel, IsPartOfFile, FileIsWhole, FileShows, IsPartOfEntry, EntryShows, EndIsWhole, ReadsPart, ReadsAll, ReadsSoFar, EntriesPass, InputRefuses, ShowsNoFault, OneRefuses, MergeRefuses, StreamBegins, BeginsWithPart, WritesFrontSoFar, Inputs, WritesEntries, WritesAtMost, Start, AreVersions, inputs_from, Facts, part, with_file_entry, both, IsPassed, IsReadUpTo, ReadsToNext, FollowsAll, Stands, Stops, Ends, with_digests, IsTurn, EntryStops, StopsAtWrite, Recordings, IsPartOfEntries}
+use Rattle.ffv1_hold.proofs.Common.{true≢false, is_write, ◌≡◌, ℕ, ◌+◌, ◌<◌, ◌≤◌, List, [], ◌∷◌, ◌++◌, length, Option, Some, None, IfSome, IfNone, refl, sym, ap, ◌∙◌, subst, inl, inr, arith, append_assoc, append-nil, length-append, Ordering, Less, Equal, Greater, Consumes, Appends, IsAtEnd, Appends-trans, record_limit, file_limit, TileRules, WritesFront, front-append, front-after, Reel, Contents, IsHolding, AreDigests, HoldFileFault, Version, Second, FileEntry, head_text, entry_text, entries_text, begun_text, file_entries, IsStated, Takes, Refuses, last_of, Follows, IsFileEntryOf, next_text, IsFileReel, IsPartOfFile, FileIsWhole, FileShows, IsPartOfEntry, EntryShows, EndIsWhole, ReadsPart, ReadsAll, ReadsSoFar, EntriesPass, InputRefuses, ShowsNoFault, OneRefuses, MergeRefuses, StreamBegins, BeginsWithPart, WritesFrontSoFar, Inputs, WritesEntries, WritesAtMost, Start, AreVersions, inputs_from, Facts, part, with_file_entry, both, IsPassed, IsReadUpTo, ReadsToNext, FollowsAll, Stands, Stops, Ends, with_digests, IsTurn, EntryStops, StopsAtWrite, Recordings, IsPartOfEntries}
 use Rattle.ffv1_hold.specs.declared.file_fault.HoldFileFault.TheVariants as faults
 use Rattle.ffv1_hold.proofs.ReadRefusals.{Takes-trans, Refuses-after}
 use Rattle.ffv1_hold.proofs.Entries.{part_of_entries, entries_show}
@@ -146,7 +146,10 @@ module _ (i : Inputs) (r : Reel) (is : IsFileReel i.recordings r) (v w : Version
   pub stops_writing : ShowsNoFault i.recordings i.left_old i.left_new → ShowsNoFault i.recordings i.right_old i.right_new → WritesFrontSoFar i old new
       → (done : List ℕ) → Appends old new done → length done ≤ file_limit → ReadsToNext v r i.left_old i.left_new i.right_old done
       → ReadsToNext w r i.right_old i.right_new i.left_old done → Stops i old new faults.Write
-  stops_writing left right front done written few left_read right_read = grind (arith, stopped)
+  stops_writing left right front done written few left_read right_read =
+      stopped faults.Write (inr (left, right)) (λ is. absurd (true≢false (ap is_write is))) (λ outside. absurd (outside refl))
+      (λ _. record { front = front; done = done; written = written; left_version = v; right_version = w; left = left_read; right = right_read })
+      (record { done = done; written = written; few = few })
 
 -- ---- one step of both
 

@@ -1,5 +1,5 @@
 -- No two faults are shown by beginnings of one input.
-use Rattle.ffv1_hold.proofs.Common.{◌≡◌, ℕ, ◌<◌, ◌≤◌, ◌^◌, List, [], ◌∷◌, ◌++◌, length, Option, Some, None, refl, sym, ap, ◌∙◌, subst, inl, inr, arith, append_assoc, ◌⊎◌, record_limit, SetupFault, TileRules, FirstRecordFault, Recordings, Bool, HasFileVersion, IsFileReel, IsMagic, IsMisnamed, recordings_of, HoldFileFault, Version, Reel, FileEntry, be4, magic, sized_record, head_text, body_text, entries_text, last_of, AreEntries, EntryShows, ReelShows, MagicShows, FileShows}
+use Rattle.ffv1_hold.proofs.Common.{record_reel_is, ◌≡◌, ℕ, ◌<◌, ◌≤◌, ◌^◌, List, [], ◌∷◌, ◌++◌, length, Option, Some, None, refl, sym, ap, ◌∙◌, subst, inl, inr, arith, append_assoc, ◌⊎◌, record_limit, SetupFault, TileRules, FirstRecordFault, Recordings, Bool, HasFileVersion, IsFileReel, IsMagic, IsMisnamed, recordings_of, HoldFileFault, Version, Reel, FileEntry, be4, magic, sized_record, head_text, body_text, entries_text, last_of, AreEntries, EntryShows, ReelShows, MagicShows, FileShows}
 use Rattle.ffv1_hold.specs.declared.file_fault.HoldFileFault.TheVariants as faults
 use Rattle.ffv1_hold.proofs.NumberTexts.{no_tag, rest_same, number_same, after_number}
 use Rattle.ffv1_hold.proofs.BodyTexts.{same_body, body_one}
@@ -144,4 +144,4 @@ one_fault q f g s t y z same (inr (inr (w, r, u, r_is, u_split, (fs, p, f_all, f
     ∙ sym (ap (λ k. k ++ y) u_split) ∙ same ∙ ap (λ k. k ++ z) v_split ∙ append_assoc (head_text x o) v z) in
     let rules = ap (λ (k : Reel). k.rules) heads.1 in
     let fs_all = subst (λ (k : Version). AreEntries k r.rules fs) heads.0 f_all in
-    cc (entries_one x o.rules None fs gs (subst (λ (n : TileRules). AreValid x n None fs) rules (valid_list x r.rules fs fs_all)) (valid_list x o.rules gs g_all) (fitting_all x r r_is.reel fs fs_all.each) (fitting_all x o o_is.reel gs g_all.each) f g p k y z (sym (ap (λ j. j ++ y) (f_inner ∙ ap (λ (n : Version). entries_text n fs ++ p) heads.0)) ∙ heads.2 ∙ ap (λ j. j ++ z) g_inner) (subst (λ (l : Option FileEntry). EntryShows x o.rules l f p) (last_of-none fs) (subst (λ (k : TileRules). EntryShows x k (last_of fs) f p) rules (subst (λ (k : Version). EntryShows k r.rules (last_of fs) f p) heads.0 a))) (subst (λ (l : Option FileEntry). EntryShows x o.rules l g k) (last_of-none gs) b))
+    cc (entries_one x o.rules None fs gs (subst (λ (n : TileRules). AreValid x n None fs) rules (valid_list x r.rules fs fs_all)) (valid_list x o.rules gs g_all) (fitting_all x r (record_reel_is r r_is.reel) fs fs_all.each) (fitting_all x o (record_reel_is o o_is.reel) gs g_all.each) f g p k y z (sym (ap (λ j. j ++ y) (f_inner ∙ ap (λ (n : Version). entries_text n fs ++ p) heads.0)) ∙ heads.2 ∙ ap (λ j. j ++ z) g_inner) (subst (λ (l : Option FileEntry). EntryShows x o.rules l f p) (last_of-none fs) (subst (λ (k : TileRules). EntryShows x k (last_of fs) f p) rules (subst (λ (k : Version). EntryShows k r.rules (last_of fs) f p) heads.0 a))) (subst (λ (l : Option FileEntry). EntryShows x o.rules l g k) (last_of-none gs) b))

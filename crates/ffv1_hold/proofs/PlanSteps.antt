@@ -1,5 +1,5 @@
 -- One step of a plan.
-use Rattle.ffv1_hold.proofs.Common.{◌≡◌, ℕ, Result, Ok, Err, IfOk, OnOk, List, [], ◌∷◌, ◌++◌, sym, ap, ◌∙◌, subst, arith, IfOk-weaker, Reel, IsReelOf, AreNear, HoldsExactly, near_exact, AreShort, contents, IsKept, Contents, IsHolding, IsSameReel, with_found, with_copies, joined, holding_of, with_found-holding_of, with_copies-holding_of, joined-holding_of, Recordings, one_record, reel_of}
+use Rattle.ffv1_hold.proofs.Common.{◌≡◌, ℕ, Result, Ok, Err, IfOk, OnOk, List, [], ◌∷◌, ◌++◌, sym, ap, ◌∙◌, subst, arith, IfOk-weaker, Reel, IsReelOf, AreNear, HoldsExactly, near_exact, AreShort, contents, IsKept, Contents, IsHolding, IsSameReel, with_found, with_copies, joined, holding_of, with_found-holding_of, with_copies-holding_of, joined-holding_of, Recordings, one_record, IsRecordReel, reel_is, reel_of}
 use Rattle.ffv1_holding.specs.declared.holding.Holding.TheInside.{Inside}
 
 pub AreShort-both : (xs ys : List (List ℕ)) → AreShort xs → AreShort ys → AreShort (xs ++ ys)
@@ -22,6 +22,11 @@ module _ (before after : Contents) (copies : List (List ℕ)) (is : before ≡ h
 
   pub after_same : after ≡ before → after ≡ holding_of after.reel copies
   after_same same = same ∙ is ∙ own_reel copies (sym (ap (λ (h : Contents). h.reel) same))
+
+-- the reel of a record is by its own rules
+pub reel_of_record : (recordings : Recordings) (config : List ℕ) (width height : ℕ) (r : Reel) → IsReelOf recordings config width height r → IsRecordReel r
+reel_of_record recordings config width height r is =
+    subst IsRecordReel (sym is.2) (reel_is recordings config width height is.0 is.1)
 
 -- a record and a size are those of one reel
 pub one_reel : (recordings : Recordings) (config : List ℕ) (width height : ℕ) (r s : Reel) → IsReelOf recordings config width height r

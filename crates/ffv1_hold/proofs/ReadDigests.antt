@@ -1,6 +1,6 @@
 -- The digests that a text gives a slice, by what was read of it: where the next entry follows the slice, the entries that were read give
 -- all of them.
-use Rattle.ffv1_hold.proofs.Common.{◌≡◌, ℕ, suc, ◌<◌, cond, Bool, true, false, ◌||◌, List, [], ◌∷◌, ◌++◌, length, map, get_or, Option, Some, None, IfSome, refl, sym, ap, ◌∙◌, subst, inr, arith, append-nil, true≢false, list_any, Consumes, is_eq, eq_by_cmp, Less, false_from_ne_true, Entry, entry_cmp, entries_total, origins_total, origins_antisymmetric, IsRising, Reel, digests_in, Contents, IsHolding, digests_of, joined, rising_rest, items-rising, or_cases, Version, Second, FileEntry, entry_text, entries_text, begun_text, file_entries, IsStated, IsFileEntryOf, file_entry_cmp, next_text, IsFileReel, AreAllDigests, IsFileOf, IsFileOfSome, ReadsAll, Facts, part, both, IsReadUpTo, FollowsAll, ReadsToNext, Recordings}
+use Rattle.ffv1_hold.proofs.Common.{record_reel_is, ◌≡◌, ℕ, suc, ◌<◌, cond, Bool, true, false, ◌||◌, List, [], ◌∷◌, ◌++◌, length, map, get_or, Option, Some, None, IfSome, refl, sym, ap, ◌∙◌, subst, inr, arith, append-nil, true≢false, list_any, Consumes, is_eq, eq_by_cmp, Less, false_from_ne_true, Entry, entry_cmp, entries_total, origins_total, origins_antisymmetric, IsRising, Reel, digests_in, Contents, IsHolding, digests_of, joined, rising_rest, items-rising, or_cases, Version, Second, FileEntry, entry_text, entries_text, begun_text, file_entries, IsStated, IsFileEntryOf, file_entry_cmp, next_text, IsFileReel, AreAllDigests, IsFileOf, IsFileOfSome, ReadsAll, Facts, part, both, IsReadUpTo, FollowsAll, ReadsToNext, Recordings}
 use Rattle.ffv1_holding.specs.Sets as set
 use Rattle.ffv1_hold.proofs.DigestSets.{has, entry_tie, has-digests_in, digests_rise, same_digests}
 use Rattle.ffv1_hold.proofs.HeldEntries.{above_all, are_entries}
@@ -80,7 +80,7 @@ rest_states_none w r is e [] bytes None entry below fit up same = refl
 rest_states_none w r is e (g ∷ gs) bytes None entry below fit up same = grind (arith, no_tag, entries_after)
 rest_states_none w r is e rest bytes (Some x) entry below fit up same =
     let one = ap (λ t. t ++ bytes) (entries_text-cons w x [] ∙ ap (λ t. entry_text w x ++ t) (entries_text-none w) ∙ append-nil (entry_text w x)) in
-    let front = front_entries w rest (x ∷ []) [] bytes fit (fitting_all w r is.reel (x ∷ []) (entry, tt)) (same ∙ sym one) in
+    let front = front_entries w rest (x ∷ []) [] bytes fit (fitting_all w r (record_reel_is r is.reel) (x ∷ []) (entry, tt)) (same ∙ sym one) in
     cc (stated_above x front.0 e (subst (IsRising file_entry_cmp) front.1 up) below)
 
 -- the entries that were read give all digests of a slice before the next one

@@ -1,5 +1,5 @@
 -- What reading the text of a holding returns.
-use Rattle.ffv1_hold.proofs.Common.{◌≡◌, ℕ, ◌≤◌, List, [], ◌∷◌, ◌++◌, length, Option, Some, None, Result, Ok, Err, inl, inr, sym, ap, ◌∙◌, subst, arith, append_assoc, append-nil, length-append, Consumes, IsAtEnd, record_limit, ReadLog, HoldFileFault, Version, Contents, IsHolding, file_text, head_text, entries_text, file_entries, IsStated, FitsInFile, Refuses, StopsIn, IsPartOfFile, FileIsWhole, FileShows, ReadsFile, IsOutside, Returns, Recordings, MayRead, IsFileReel}
+use Rattle.ffv1_hold.proofs.Common.{◌≡◌, ℕ, ◌≤◌, List, [], ◌∷◌, ◌++◌, length, Option, Some, None, Result, Ok, Err, inl, inr, sym, ap, ◌∙◌, subst, arith, append_assoc, append-nil, length-append, Consumes, IsAtEnd, record_limit, ReadLog, HoldFileFault, Version, Contents, IsHolding, file_text, head_text, entries_text, file_entries, IsStated, FitsInFile, Refuses, StopsIn, IsPartOfFile, FileIsWhole, FileShows, ReadsFile, IsOutside, Returns, Recordings, MayTake, IsFileReel}
 use Rattle.ffv1_hold.specs.declared.file_fault.HoldFileFault.TheVariants as faults
 use Rattle.ffv1_hold.proofs.TextLaws.{one_file, same_head, same_entries, fitting_items, text_parts}
 use Rattle.ffv1_hold.proofs.HeldEntries.{version_of}
@@ -14,9 +14,9 @@ pub taken_all : (xs bs : List ℕ) (new : Option (List ℕ)) → Consumes (Some 
 taken_all xs bs None gone end = absurd gone
 taken_all xs bs (Some rest) is end = is ∙ ap (λ r. bs ++ r) end ∙ append-nil bs
 
-module _ (c : Recordings) (v : Version) (h : Contents) (is : IsHolding h) (taken : MayRead c h.reel.rules.is_profile) (fits : FitsInFile v h) where
+module _ (c : Recordings) (v : Version) (h : Contents) (is : IsHolding h) (taken : MayTake c h.reel) (fits : FitsInFile v h) where
   own : IsFileReel c h.reel
-  own = record { reel = is.reel; taken = taken; fits = fits.record' }
+  own = record { reel = taken.1; taken = taken.0; fits = fits.record' }
 
   -- no text goes on after another
   text_ends : (w : Version) (g : Contents) → IsHolding g → length g.reel.config ≤ record_limit → IsStated w g → (more : ℕ) (rest : List ℕ)

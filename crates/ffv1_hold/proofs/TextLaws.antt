@@ -1,5 +1,5 @@
 -- Texts of holdings are read in one way only.
-use Rattle.ffv1_hold.proofs.Common.{◌≡◌, ℕ, ◌<◌, ◌≤◌, ◌^◌, ◌==◌, Bool, true, false, List, [], ◌∷◌, ◌++◌, length, get_or, refl, sym, ap, ◌∙◌, subst, arith, append_assoc, AllByRecursion, record_limit, reel_small, HeadLimits, reel_limits, reel_tiles_few, slice_in_grid, Reel, IsReel, Contents, IsHolding, Version, First, Second, FileEntry, HasFileVersion, Recordings, be4, magic, sized_record, head_text, body_text, entry_text, entries_text, file_entries, file_text, IsStated, IsTextOf, HasText, IsFileEntryOf, IsFileReel, same_reel, ◌*◌}
+use Rattle.ffv1_hold.proofs.Common.{◌≡◌, ℕ, ◌<◌, ◌≤◌, ◌^◌, ◌==◌, Bool, true, false, List, [], ◌∷◌, ◌++◌, length, get_or, refl, sym, ap, ◌∙◌, subst, arith, append_assoc, AllByRecursion, record_limit, reel_small, HeadLimits, reel_limits, reel_tiles_few, slice_in_grid, Reel, IsReel, Contents, IsHolding, Version, First, Second, FileEntry, HasFileVersion, Recordings, be4, magic, sized_record, head_text, body_text, entry_text, entries_text, file_entries, file_text, IsStated, IsTextOf, HasText, IsFileEntryOf, IsFileReel, record_reel_is, same_in_frames, ◌*◌}
 use Rattle.ffv1_hold.proofs.NumberTexts.{same_front, same_back, no_tag, rest_same, number_same, after_number}
 use Rattle.ffv1_hold.proofs.DigestTexts.{has_text_after}
 use Rattle.ffv1_hold.proofs.BodyTexts.{same_body}
@@ -90,11 +90,19 @@ pub record IsShortReel (r : Reel) : Type 0 where
   pub fits : length r.config ≤ record_limit
 
 pub short_reel : {q : Recordings} (r : Reel) → IsFileReel q r → IsShortReel r
-short_reel r is = record { reel = is.reel; fits = is.fits }
+short_reel r is = record { reel = record_reel_is r is.reel; fits = is.fits }
 
 -- two heads that begin the same bytes are of one reel, and the same follows them
 pub one_reel : (v w : Version) (r s : Reel) (x y : List ℕ) → IsShortReel r → IsShortReel s → head_text v r ++ x ≡ head_text w s ++ y → (r ≡ s) × (x ≡ y)
-one_reel v w r s x y r_is s_is e = grind (arith, reel_small, head_parts, after_magic, same_sized, same_reel)
+one_reel v w r s x y r_is s_is e =
+    let p = r.rules.is_profile in
+    let q = s.rules.is_profile in
+    let magics = sym (head_parts v r x) ∙ e ∙ head_parts w s y in
+    let small = reel_small r r_is.reel in
+    let also_small = reel_small s s_is.reel in
+    let parts = same_sized r.config s.config r.setup.width r.setup.height s.setup.width s.setup.height x y r_is.fits s_is.fits small.0 small.1
+    also_small.0 also_small.1 (after_magic p q v w _ _ magics) in
+    (same_in_frames r s r_is.reel s_is.reel parts.config parts.width parts.height (same_name p q v w _ _ magics), parts.rest)
 
 -- and of one version, where both have theirs
 pub same_head : (v w : Version) (r s : Reel) (x y : List ℕ) → IsShortReel r → IsShortReel s → HasFileVersion v r.rules.is_profile

@@ -1,5 +1,5 @@
 -- No beginning of an unfinished file shows a fault.
-use Rattle.ffv1_hold.proofs.Common.{◌≡◌, ℕ, ◌<◌, ◌^◌, List, [], ◌∷◌, ◌++◌, length, take, drop, Option, Some, None, refl, sym, ap, ◌∙◌, subst, inl, inr, arith, append_assoc, append-nil, length-append, take-append-drop, record_limit, Bool, Recordings, TileRules, HoldFileFault, Version, sized_record, Reel, FileEntry, be4, magic, head_text, body_text, entries_text, last_of, AreEntries, IsPartOfEntry, EntryShows, IsPartOfReel, ReelShows, IsPartOfFile, FileShows}
+use Rattle.ffv1_hold.proofs.Common.{record_reel_is, ◌≡◌, ℕ, ◌<◌, ◌^◌, List, [], ◌∷◌, ◌++◌, length, take, drop, Option, Some, None, refl, sym, ap, ◌∙◌, subst, inl, inr, arith, append_assoc, append-nil, length-append, take-append-drop, record_limit, Bool, Recordings, TileRules, HoldFileFault, Version, sized_record, Reel, FileEntry, be4, magic, head_text, body_text, entries_text, last_of, AreEntries, IsPartOfEntry, EntryShows, IsPartOfReel, ReelShows, IsPartOfFile, FileShows}
 use Rattle.ffv1_hold.proofs.Bodies.{length-be4}
 use Rattle.ffv1_hold.proofs.NumberTexts.{rest_same, number_same, after_number}
 use Rattle.ffv1_hold.proofs.BodyTexts.{same_body, body_cut, part_body_none}
@@ -105,8 +105,8 @@ part_shows_none c f s t y same (inr (inr (x, q, p, q_is, s_split, (es, m, entrie
     let heads = same_head x w q r p (u ++ y) (short_reel q q_is) (short_reel r r_is) entries.version more.version (sym s_split ∙ same ∙ ap (λ z. z ++ y) split ∙ append_assoc (head_text w r) u y) in
     let rules = ap (λ (x : Reel). x.rules) heads.1 in
     let fs_all = subst (λ (k : Version). AreEntries k r.rules fs) (sym heads.0) more in
-    entries_unfinished x q.rules None es fs f m n y (valid_list x q.rules es entries) (fitting_all x q q_is.reel es entries.each)
-    (fitting_all x r r_is.reel fs fs_all.each)
+    entries_unfinished x q.rules None es fs f m n y (valid_list x q.rules es entries) (fitting_all x q (record_reel_is q q_is.reel) es entries.each)
+    (fitting_all x r (record_reel_is r r_is.reel) fs fs_all.each)
     (sym inner ∙ heads.2 ∙ ap (λ z. z ++ y) (after ∙ ap (λ (k : Version). entries_text k fs ++ n) (sym heads.0)))
     (subst (λ (l : Option FileEntry). IsPartOfEntry x q.rules l m) (last_of-none es) part)
     (subst (λ (l : Option FileEntry). EntryShows x q.rules l f n) (last_of-none fs) (subst (λ (k : TileRules). EntryShows x k (last_of fs) f n) (sym rules)

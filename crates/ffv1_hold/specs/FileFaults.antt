@@ -15,7 +15,7 @@ use Rattle.ffv1_hold.specs.declared.file_fault.HoldFileFault.TheVariants as faul
 use Rattle.ffv1_hold.specs.declared.version.Version.{Version}
 use Rattle.ffv1_hold.specs.declared.version.Version.TheVariants.{First, Second}
 use Rattle.ffv1_holding.specs.SliceOrder.{Entry}
-use Rattle.ffv1_holding.specs.Reels.{Reel, IsReel, IsRecordingFor, FirstRecordFault, WantsMemory}
+use Rattle.ffv1_holding.specs.Reels.{Reel, IsRecordReel, IsRecordingFor, FirstRecordFault, WantsMemory}
 use Rattle.ffv1_holding.specs.declared.recordings.Recordings.{Recordings}
 use Rattle.ffv1_holding.specs.declared.recordings.Recordings.TheVariants.{Profile, Any}
 use Rattle.ffv1_holding.specs.Contents.{Contents, IsHolding, IsEntryOf}
@@ -105,6 +105,10 @@ abbrev pub MayRead : Recordings → Bool → Type 0
 MayRead Profile of_profile = of_profile ≡ true
 MayRead Any of_profile = Unit {0}
 
+-- .. and in them those of their records' own rules
+abbrev pub MayTake : Recordings → Reel → Type 0
+MayTake recordings r = MayRead recordings r.rules.is_profile × IsRecordReel r
+
 -- as which recordings the record after a magic is read
 abbrev pub recordings_of : Bool → Recordings
 recordings_of true = Profile
@@ -112,7 +116,7 @@ recordings_of false = Any
 
 -- the record is one at the reel's size, of those that are read, and within its limit
 pub record IsFileReel (recordings : Recordings) (r : Reel) : Type 0 where
-  pub reel : IsReel r
+  pub reel : IsRecordReel r
   pub taken : MayRead recordings r.rules.is_profile
   pub fits : length r.config ≤ record_limit
 
@@ -210,7 +214,7 @@ Returns h (Err f) = IsOutside f
 -- A source was read to its end, and was the file of a holding.
 pub record ReadsHolding (recordings : Recordings) (old new : ReadLog) (h : Contents) : Type 0 where
   pub well_formed : IsHolding h
-  pub taken : MayRead recordings h.reel.rules.is_profile
+  pub taken : MayTake recordings h.reel
   pub file : TakesFile old.remaining new.remaining h
   pub at_end : IsAtEnd new.remaining
   pub tries' : GoesOn old.tries new.tries

@@ -8,7 +8,7 @@ use Rattle.ffv1_holding.specs.declared.recordings.Recordings.{Recordings}
 use Rattle.ffv1_hold.specs.declared.file_fault.HoldFileFault.{HoldFileFault}
 use Rattle.ffv1_hold.specs.declared.file_fault.HoldFileFault.TheVariants as faults
 use Rattle.ffv1_hold.specs.declared.version.Version.{Version}
-use Rattle.ffv1_hold.specs.FileFaults.{MayRead}
+use Rattle.ffv1_hold.specs.FileFaults.{MayTake}
 use Rattle.ffv1_hold.specs.MergedStreams.{Inputs, inputs_read, IsFileOf, IsFileOfSome, WritesUnion, ReturnsUnion, BeginsWithHead, ReturnsOther, MergeRefuses, LeftRefusesFirst, WritesNoEnd, WritesFrontSoFar, WritesAtMost, StaysInReadLimit}
 use Rattle.ffv1_hold.specs.MergeLogs.{Devices, MergeWent}
 
@@ -25,7 +25,7 @@ pub record JoinsStreams (recordings : Recordings) (result : Result (Unit {0}) Ho
   -- Both inputs are files of holdings of one reel, and the text of their union was written.
   pub union : OnOk result (WritesUnion (inputs_of recordings old new) old.sink.contents new.sink.contents)
   -- For such inputs the result is that, `Read`, `Write` or `Memory`, or `TooLong` where the union has no text.
-  pub only : (v w : Version) (g h : Contents) → IsSameReel g h → MayRead recordings g.reel.rules.is_profile → IsFileOf old.left.remaining v g
+  pub only : (v w : Version) (g h : Contents) → IsSameReel g h → MayTake recordings g.reel → IsFileOf old.left.remaining v g
       → IsFileOf old.right.remaining w h → ReturnsUnion (joined g h) result
   -- For inputs that begin with heads of two reels the result is `OtherReel`, `Read` or `Memory`.
   pub other : (g h : Reel) → BeginsWithHead recordings old.left.remaining g → BeginsWithHead recordings old.right.remaining h → ¬ (g ≡ h)

@@ -7,7 +7,7 @@ use Rattle.ffv1_holding.specs.declared.recordings.Recordings.{Recordings}
 use Rattle.ffv1_hold.specs.declared.version.Version.{Version}
 use Rattle.ffv1_hold.specs.HoldingText.{IsTextOf, FitsInFile, file_text}
 use Rattle.ffv1_hold.specs.ReadLimits.{IsReadLimitOf}
-use Rattle.ffv1_hold.specs.FileFaults.{MayRead, IsPartOfFile, IsHoldingText, FileShows, IsFaultOf}
+use Rattle.ffv1_hold.specs.FileFaults.{MayTake, IsPartOfFile, IsHoldingText, FileShows, IsFaultOf}
 pub use Rattle.ffv1_holding.specs.Laws.{CopiesHoldTheOriginal, NearCopiesHoldTheOriginal, HeldIsFound, OriginIsACopy}
 
 -- Two holdings with one text, of whatever version, are equal, and each holding has the text `holding_text` of version 2: so each
@@ -31,7 +31,7 @@ PartShowsNoFault =
 -- A text of a holding has no fault, where it and its record are within their limits.
 abbrev pub TextHasNoFault : Type 0
 TextHasNoFault =
-    (recordings : Recordings) (v : Version) (h : Contents) → IsHolding h → MayRead recordings h.reel.rules.is_profile → FitsInFile v h
+    (recordings : Recordings) (v : Version) (h : Contents) → IsHolding h → MayTake recordings h.reel → FitsInFile v h
     → (fault : HoldFileFault) → ¬ IsFaultOf recordings (file_text v h) fault
 
 -- Each text, beside another holding or none, and each bytes that were written have exactly one read_limit.

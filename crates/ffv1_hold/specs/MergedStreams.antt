@@ -13,7 +13,7 @@ use Rattle.ffv1_hold.specs.declared.version.Version.{Version}
 use Rattle.ffv1_hold.specs.declared.version.Version.TheVariants.{Second}
 use Rattle.ffv1_hold.specs.HoldingText.{HasFileVersion, head_text, begun_text, file_text, holding_text, IsStated, FitsInFile, TakesFile}
 use Rattle.ffv1_hold.specs.Reading.{Refuses}
-use Rattle.ffv1_hold.specs.FileFaults.{MayRead, IsFileReel, IsPartOfFile, IsHoldingText, FileIsWhole, FileShows, IsOutside}
+use Rattle.ffv1_hold.specs.FileFaults.{MayTake, IsFileReel, IsPartOfFile, IsHoldingText, FileIsWhole, FileShows, IsOutside}
 use Rattle.ffv1_hold.specs.ReadLimits.{IsReadLimitOf}
 
 -- which files are read, and what both inputs have left, before and after
@@ -64,7 +64,7 @@ pub record WritesUnion (i : Inputs) (old new : Option (List ℕ)) : Type 0 where
   pub left : Contents
   pub right : Contents
   pub read : ReadsBoth i left right
-  pub taken : MayRead i.recordings left.reel.rules.is_profile
+  pub taken : MayTake i.recordings left.reel
   pub fits : FitsInFile Second (joined left right)
   pub written : Appends old new (holding_text (joined left right))
 

@@ -1,7 +1,6 @@
 //! The entries of a holding file (own): slices with their footers (RFC 9043, section 4.9), their tiles, and their origins.
 ghost use Rattle.std.specs.Prelude.{◌≡◌, ◌^◌, ◌<◌, ◌≤◌, ◌↔◌, ◌==◌, length, IsTrue, Option, IfSome, OnOk, IfOk, IfErr};
 ghost use Rattle.ffv1_bits.specs.Limits.{slice_limit, file_limit};
-ghost use Rattle.ffv1_range.specs.TileHeaders.{rules_of};
 ghost use Rattle.ffv1_slice.specs.Slices.{IsSliceOf};
 ghost use Rattle.ffv1_hold.specs.Inner.Reading.{ReadsText, Never};
 ghost use Rattle.ffv1_hold.specs.HoldingText.{FileEntry, slice_text};
@@ -17,8 +16,8 @@ use crate::origins::read_after_slice;
 use crate::version::Version;
 use ffv1_bits::SLICE_LIMIT;
 use ffv1_devices::Source;
+use ffv1_holding::Reel;
 use ffv1_range::Recording;
-use ffv1_slice::read_slice;
 use std::alloc::Global;
 use std::cmp::Ordering;
 use std::marker::Model;
@@ -76,12 +75,12 @@ impl TileSlice {
     }
 
     /// Whether it is a slice of its tile, and then whether it follows the last one, which `follows` says.
-    fn judge(&self, recording: &Recording, follows: bool) -> Result<(), HoldFileFault>
-        ensures slice { OnOk result (IsSliceOf (rules_of recording.now) self.now.1 (self.now.0 == 0) self.now.0) }
+    fn judge(&self, reel: &Reel<Recording>, follows: bool) -> Result<(), HoldFileFault>
+        ensures slice { OnOk result (IsSliceOf reel.now.rules self.now.1 (self.now.0 == 0) self.now.0) }
         ensures place { OnOk result (IsTrue follows) }
-        ensures err { (last : Option FileEntry) → (IsTrue follows ↔ Follows last self.now) → IfErr result (IsWrong (rules_of recording.now) last self.now) }
+        ensures err { (last : Option FileEntry) → (IsTrue follows ↔ Follows last self.now) → IfErr result (IsWrong reel.now.rules last self.now) }
     {
-        if read_slice(recording, &self.bytes, self.tile == 0) != Ok(self.tile as usize) {
+        if reel.read_slice(&self.bytes, self.tile == 0) != Ok(self.tile as usize) {
             return Err(HoldFileFault::NotASlice);
         }
         if !follows {
@@ -155,13 +154,13 @@ pub(crate) fn read_entry<S: Source>(
     source: &mut S,
     place: &mut u32,
     version: Version,
-    recording: &Recording,
+    reel: &Reel<Recording>,
     last: Option<HeldSlice>,
 ) -> Result<Option<HeldSlice>, HoldFileFault>
     requires { place.old ≤ file_limit }
-    ensures read { ReadsText (next_text version) (IsPartOfEntry version (rules_of recording.now) last) Never (EntryShows version (rules_of recording.now) last)
+    ensures read { ReadsText (next_text version) (IsPartOfEntry version reel.now.rules last) Never (EntryShows version reel.now.rules last)
         (S.log source.old) (S.log source.new) place.old place.new result }
-    ensures entry { IfOk result (λ r. IfSome r (λ e. IsFileEntryOf version (rules_of recording.now) e × Follows last e.0)) }
+    ensures entry { IfOk result (λ r. IfSome r (λ e. IsFileEntryOf version reel.now.rules e × Follows last e.0)) }
 {
     let mut tag = [0u8; 1];
     read_field(source, place, &mut tag)?;
@@ -169,7 +168,7 @@ pub(crate) fn read_entry<S: Source>(
         0 => Ok(None),
         1 => {
             let (slice, follows) = read_tile_slice(alloc, source, place, last)?;
-            slice.judge(recording, follows)?;
+            slice.judge(reel, follows)?;
             let origins = read_after_slice(alloc, source, place, version)?;
             Ok(Some(HeldSlice { slice, origins }))
         }

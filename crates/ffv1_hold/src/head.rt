@@ -77,7 +77,7 @@ fn judge_reel(
 {
     let recordings = recordings_of(of_profile);
     match Reel::of_record(alloc, recordings, config, width, height) {
-        Ok(reel) if !of_profile && reel.recording().is_in_profile() => Err(HoldFileFault::Magic),
+        Ok(reel) if !of_profile && reel.is_of_profile() => Err(HoldFileFault::Magic),
         Ok(reel) => Ok(reel),
         Err(SetupFault::Memory) => Err(HoldFileFault::Memory),
         Err(fault) => Err(HoldFileFault::Setup(fault)),

@@ -2,7 +2,6 @@
 ghost use Rattle.std.specs.Prelude.{◌≡◌, ◌≤◌, None, IfSome, IfNone, IfOk, OnOk};
 ghost use Rattle.std.specs.Io.KnownBytes.{IsAtEnd};
 ghost use Rattle.ffv1_bits.specs.Limits.{file_limit};
-ghost use Rattle.ffv1_range.specs.TileHeaders.{rules_of};
 ghost use Rattle.ffv1_hold.specs.Inner.Reading.{ReadsText};
 ghost use Rattle.ffv1_hold.specs.HoldingText.{HasFileVersion, head_text};
 ghost use Rattle.ffv1_hold.specs.FileEntries.{Follows, IsFileEntryOf};
@@ -64,25 +63,18 @@ impl HoldReader {
         &mut self,
         alloc: Global,
         source: &mut S,
-        recording: &Recording,
+        reel: &Reel<Recording>,
     ) -> Result<(), HoldFileFault>
         requires { self.old.place ≤ file_limit }
-        ensures read { ReadsNextEntry self.old.version (rules_of recording.now) self.old.held self.new.held
+        ensures read { ReadsNextEntry self.old.version reel.now.rules self.old.held self.new.held
             (S.log source.old) (S.log source.new) self.old.place self.new.place result }
-        ensures entry { OnOk result (IfSome self.new.held (IsFileEntryOf self.old.version (rules_of recording.now))) }
+        ensures entry { OnOk result (IfSome self.new.held (IsFileEntryOf self.old.version reel.now.rules)) }
         ensures follows { OnOk result (IfSome self.new.held (λ e. Follows self.old.held e.0)) }
         ensures version { self.new.version ≡ self.old.version }
         ensures end { OnOk result (IfNone self.new.held (IsAtEnd (S.log source.new).remaining)) }
     {
         let last = self.held.take();
-        match read_entry(
-            alloc,
-            source,
-            &mut self.place,
-            self.version,
-            recording,
-            last,
-        )? {
+        match read_entry(alloc, source, &mut self.place, self.version, reel, last)? {
             Some(slice) => self.held = Some(slice),
             None => match next_byte(source)? {
                 Some(_) => return Err(HoldFileFault::Trailing),

@@ -4,7 +4,6 @@ ghost use Rattle.std.specs.Io.KnownBytes.{Appends};
 ghost use Rattle.ffv1_bits.specs.Limits.{record_limit, file_limit};
 ghost use Rattle.ffv1_devices.specs.Logs.{WriteLog};
 ghost use Rattle.ffv1_devices.specs.Touching.{WritesIfTouched};
-ghost use Rattle.ffv1_range.specs.TileHeaders.{rules_of};
 ghost use Rattle.ffv1_holding.specs.declared.recordings.Recordings.TheVariants.{Profile};
 ghost use Rattle.ffv1_hold.specs.HoldingText.{HasFileVersion, head_text, entry_text};
 ghost use Rattle.ffv1_hold.specs.FileEntries.{IsFileEntryOf};
@@ -178,7 +177,7 @@ impl Merge {
             (devices (R.log left.new) (Q.log right.new) (W.log sink.new)) (self.old.lefts.place, self.old.rights.place) (file_limit, file_limit) }
     {
         self.begin(alloc, reel, left, right, sink)?;
-        self.merge_entries(alloc, reel.recording(), left, right, sink)?;
+        self.merge_entries(alloc, reel, left, right, sink)?;
         if self.room == 0 {
             return Err(HoldFileFault::TooLong);
         }
@@ -215,8 +214,8 @@ impl Merge {
     {
         write_head(sink, reel)?;
         self.room -= 20 + reel.config().len() as u32;
-        self.lefts.advance(alloc, left, reel.recording())?;
-        self.rights.advance(alloc, right, reel.recording())?;
+        self.lefts.advance(alloc, left, reel)?;
+        self.rights.advance(alloc, right, reel)?;
         Ok(())
     }
 
@@ -225,19 +224,19 @@ impl Merge {
     fn merge_entries<R: Source, Q: Source, W: Sink>(
         &mut self,
         alloc: Global,
-        recording: &Recording,
+        reel: &Reel<Recording>,
         left: &mut R,
         right: &mut Q,
         sink: &mut W,
     ) -> Result<(), HoldFileFault>
         requires left_place { self.old.lefts.place ≤ file_limit }
         requires right_place { self.old.rights.place ≤ file_limit }
-        requires left_entry { IfSome self.old.lefts.held (IsFileEntryOf self.old.lefts.version (rules_of recording.now)) }
-        requires right_entry { IfSome self.old.rights.held (IsFileEntryOf self.old.rights.version (rules_of recording.now)) }
+        requires left_entry { IfSome self.old.lefts.held (IsFileEntryOf self.old.lefts.version reel.now.rules) }
+        requires right_entry { IfSome self.old.rights.held (IsFileEntryOf self.old.rights.version reel.now.rules) }
         requires room { self.old.room ≤ file_limit }
-        ensures ok { WhereStands self.old (rules_of recording.now) (devices (R.log left.old) (Q.log right.old) (W.log sink.old))
+        ensures ok { WhereStands self.old reel.now.rules (devices (R.log left.old) (Q.log right.old) (W.log sink.old))
             (λ s. OnOk result (Ends s (R.log left.new).remaining (Q.log right.new).remaining (W.log sink.new).contents self.new.room)) }
-        ensures err { WhereStands self.old (rules_of recording.now) (devices (R.log left.old) (Q.log right.old) (W.log sink.old))
+        ensures err { WhereStands self.old reel.now.rules (devices (R.log left.old) (Q.log right.old) (W.log sink.old))
             (λ s. IfErr result (Stops (inputs_from s (R.log left.new).remaining (Q.log right.new).remaining) s.sink (W.log sink.new).contents)) }
         ensures went { MergeWent result (devices (R.log left.old) (Q.log right.old) (W.log sink.old))
             (devices (R.log left.new) (Q.log right.new) (W.log sink.new)) (self.old.lefts.place, self.old.rights.place) (file_limit, file_limit) }
@@ -245,11 +244,11 @@ impl Merge {
         while let Some((entry, others, order)) = next_entry(&self.lefts.held, &self.rights.held) {
             write_entry(sink, &mut self.room, entry, others)?;
             match order {
-                Ordering::Less => self.lefts.advance(alloc, left, recording)?,
-                Ordering::Greater => self.rights.advance(alloc, right, recording)?,
+                Ordering::Less => self.lefts.advance(alloc, left, reel)?,
+                Ordering::Greater => self.rights.advance(alloc, right, reel)?,
                 Ordering::Equal => {
-                    self.lefts.advance(alloc, left, recording)?;
-                    self.rights.advance(alloc, right, recording)?;
+                    self.lefts.advance(alloc, left, reel)?;
+                    self.rights.advance(alloc, right, reel)?;
                 }
             }
         }

@@ -2,6 +2,7 @@
 ghost use Rattle.std.specs.Prelude.{◌≡◌, ℕ, List, [], ◌∷◌, map, IfOk, IfErr, OnOk};
 ghost use Rattle.ffv1_range.specs.Setup.{IsSetupOf};
 ghost use Rattle.ffv1_holding.specs.TakeFaults.{AreShort};
+ghost use Rattle.ffv1_holding.specs.Reels.{IsRecordReel};
 ghost use Rattle.ffv1_holding.specs.Contents.{holding_of, with_found, with_copies, joined, IsHolding, IsSameReel};
 ghost use Rattle.ffv1_holding.specs.declared.fault.HoldFault.TheVariants.{Memory};
 ghost use Rattle.ffv1_hold.specs.declared.plan.PlanFault.TheVariants.{Hold, File};
@@ -105,6 +106,7 @@ pub fn run(
     ensures setup { IfOk result (λ h. IsSetupOf config.now width height h.reel.setup) }
     ensures meaning { IfOk result (λ h. h ≡ holding_of h.reel (copies_of plan.now)) }
     ensures well_formed { IfOk result IsHolding }
+    ensures of_record { IfOk result (λ h. IsRecordReel h.reel) }
 
     // Where the plan's copies are near an original, with each of its slices intact in one of them, exactly its slices are held.
     ensures near { (original : List ℕ) (slices : List (List ℕ)) → IfOk result (λ h. AreNear h.reel.rules original slices (copies_of plan.now)

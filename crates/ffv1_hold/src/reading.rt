@@ -5,7 +5,7 @@ ghost use Rattle.ffv1_bits.specs.Limits.{file_limit};
 ghost use Rattle.ffv1_holding.specs.Contents.{Contents, IsEntryOf, IsHolding, AreDigests, no_slices, with_entry};
 ghost use Rattle.ffv1_hold.specs.declared.version.Version.{Version};
 ghost use Rattle.ffv1_hold.specs.HoldingText.{HasFileVersion, file_text, IsStated, FitsInFile};
-ghost use Rattle.ffv1_hold.specs.FileFaults.{ReadsFile, MayRead, Returns};
+ghost use Rattle.ffv1_hold.specs.FileFaults.{ReadsFile, MayTake, Returns};
 ghost use Rattle.ffv1_holding.specs.declared.recordings.Recordings.TheVariants.{Profile};
 ghost use Rattle.ffv1_hold.specs.Inner.FileFaults.{ReadsEntries};
 
@@ -55,7 +55,7 @@ pub fn read_holding<R: Source>(
     ensures read { ReadsFile recordings result (R.log source.old) (R.log source.new) }
 
     // For an input that is such a text of a holding the result is that holding, `Read` or `Memory`.
-    ensures only { (v : Version) (h : Contents) → IsHolding h → MayRead recordings h.reel.rules.is_profile → FitsInFile v h
+    ensures only { (v : Version) (h : Contents) → IsHolding h → MayTake recordings h.reel → FitsInFile v h
         → (R.log source.old).remaining ≡ Some (file_text v h) → Returns h result }
 {
     let mut reader = HoldReader::new();
@@ -96,10 +96,10 @@ fn read_entries<R: Source>(
     ensures stated { OnOk result (IsStated reader.old.version holding.new) }
     ensures reel { OnOk result (holding.new.reel ≡ holding.old.reel) }
 {
-    reader.advance(alloc, source, holding.reel().recording())?;
+    reader.advance(alloc, source, holding.reel())?;
     while let Some(entry) = &reader.held {
         insert(holding, entry)?;
-        reader.advance(alloc, source, holding.reel().recording())?;
+        reader.advance(alloc, source, holding.reel())?;
     }
     Ok(())
 }

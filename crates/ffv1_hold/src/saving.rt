@@ -18,16 +18,15 @@ use crate::union::{union_count, write_union};
 use crate::version::Version;
 use ffv1_bits::{FILE_LIMIT, RECORD_LIMIT};
 use ffv1_devices::{Sink, WriteFailed, write_field, write_pair};
-use ffv1_holding::{Holding, Reel};
-use ffv1_range::Recorded;
+use ffv1_holding::{Framed, Holding, Reel};
 
-/// Writes the holding file of a holding, of version 2. Its magic says whether the recording is of the profile.
+/// Writes the holding file of a holding, of version 2. Its magic says whether the slices are of the profile.
 ///
 /// Returns `TooLong` exactly if the record has more than 2^24 bytes or the file would have more than 2^31, before
 /// anything is written; more than 2^26 origins of one slice never fit. After `Write`, which is returned only if the sink counted a failure,
 /// a front of the file was written; the first failure that is no interruption is reported. No other fault is returned: nothing is
 /// allocated.
-pub fn write_hold<S: Recorded, W: Sink>(
+pub fn write_hold<S: Framed, W: Sink>(
     holding: &Holding<S>,
     sink: &mut W,
 ) -> Result<(), HoldFileFault>
@@ -43,7 +42,7 @@ pub fn write_hold<S: Recorded, W: Sink>(
 }
 
 /// Writes the text of a holding.
-fn write_text<R: Recorded, S: Sink>(holding: &Holding<R>, sink: &mut S) -> Result<(), WriteFailed>
+fn write_text<R: Framed, S: Sink>(holding: &Holding<R>, sink: &mut S) -> Result<(), WriteFailed>
     requires fits { FitsInFile Version.Second holding.now }
     requires entries { AreWritable holding.now }
     ensures { WritesAll result (S.log sink.old) (S.log sink.new) (holding_text holding.now) }
@@ -55,7 +54,7 @@ fn write_text<R: Recorded, S: Sink>(holding: &Holding<R>, sink: &mut S) -> Resul
 }
 
 /// Writes what stands before the entries.
-pub(crate) fn write_head<R: Recorded, S: Sink>(
+pub(crate) fn write_head<R: Framed, S: Sink>(
     sink: &mut S,
     reel: &Reel<R>,
 ) -> Result<(), WriteFailed>
@@ -63,22 +62,23 @@ pub(crate) fn write_head<R: Recorded, S: Sink>(
     ensures { WritesAll result (S.log sink.old) (S.log sink.new) (head_text Version.Second reel.now) }
 {
     let config = reel.config();
-    let recording = reel.recording();
-    let magic = written_magic(recording.is_in_profile());
-    let head = reel_head(
-        &magic,
-        recording.width(),
-        recording.height(),
-        config.len() as u32,
-    );
+    let magic = written_magic(reel.is_of_profile());
+    let (width, height) = size_of(reel);
+    let head = reel_head(&magic, width, height, config.len() as u32);
     write_pair(sink, &head, config)
 }
 
+/// The width and the height of the frames.
+fn size_of<R: Framed>(reel: &Reel<R>) -> (u32, u32)
+    ensures width { result.0 ≡ reel.now.setup.width }
+    ensures height { result.1 ≡ reel.now.setup.height }
+{
+    let recording = reel.recording();
+    (recording.width(), recording.height())
+}
+
 /// Writes the entries of all tiles.
-fn write_entries<R: Recorded, S: Sink>(
-    sink: &mut S,
-    holding: &Holding<R>,
-) -> Result<(), WriteFailed>
+fn write_entries<R: Framed, S: Sink>(sink: &mut S, holding: &Holding<R>) -> Result<(), WriteFailed>
     requires stated { IsStated Version.Second holding.now }
     requires entries { AreWritable holding.now }
     ensures { WritesAll result (S.log sink.old) (S.log sink.new) (entries_text Version.Second (file_entries holding.now)) }
@@ -90,7 +90,7 @@ fn write_entries<R: Recorded, S: Sink>(
 }
 
 /// Writes the entries of one tile.
-fn write_tile<R: Recorded, S: Sink>(
+fn write_tile<R: Framed, S: Sink>(
     sink: &mut S,
     holding: &Holding<R>,
     tile: usize,
@@ -108,7 +108,7 @@ fn write_tile<R: Recorded, S: Sink>(
 }
 
 /// Writes the entry of the slice of a tile at a place.
-fn write_held<R: Recorded, S: Sink>(
+fn write_held<R: Framed, S: Sink>(
     sink: &mut S,
     holding: &Holding<R>,
     tile: usize,
@@ -180,7 +180,7 @@ fn reel_head(magic: &[u8; 8], width: u32, height: u32, length: u32) -> [u8; 20]
 }
 
 /// Whether record and text are within their limits.
-fn fits_in_file<R: Recorded>(holding: &Holding<R>) -> bool
+fn fits_in_file<R: Framed>(holding: &Holding<R>) -> bool
     ensures well_formed { IsHolding holding.now }
     ensures fits { IsTrue result ↔ ((length holding.now.reel.config ≤ record_limit) × (length (holding_text holding.now) ≤ file_limit)) }
 {
@@ -196,7 +196,7 @@ fn fits_in_file<R: Recorded>(holding: &Holding<R>) -> bool
 }
 
 /// What is left of the room after the entries of all tiles, or `None` where they pass it.
-fn room_after<R: Recorded>(holding: &Holding<R>, room: u32) -> Option<u32>
+fn room_after<R: Framed>(holding: &Holding<R>, room: u32) -> Option<u32>
     requires well_formed { IsHolding holding.now }
     requires entries { AreWritable holding.now }
     requires room { room ≤ file_limit }
@@ -211,7 +211,7 @@ fn room_after<R: Recorded>(holding: &Holding<R>, room: u32) -> Option<u32>
 }
 
 /// What is left of the room after the entries of one tile, or `None` where they pass it.
-fn room_after_tile<R: Recorded>(holding: &Holding<R>, tile: usize, room: u32) -> Option<u32>
+fn room_after_tile<R: Framed>(holding: &Holding<R>, tile: usize, room: u32) -> Option<u32>
     requires tile { tile < reel_tiles holding.now.reel }
     requires fits { AreWithinLimit (tile_slices holding.now.slices tile) }
     requires room { room ≤ file_limit }

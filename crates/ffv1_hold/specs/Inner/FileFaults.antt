@@ -6,7 +6,7 @@ use Rattle.ffv1_hold.specs.declared.version.Version.{Version}
 use Rattle.ffv1_bits.specs.Limits.{record_limit}
 use Rattle.ffv1_devices.specs.Logs.{ReadLog}
 use Rattle.ffv1_range.specs.TileHeaders.{TileRules}
-use Rattle.ffv1_holding.specs.Reels.{Reel, IsReel}
+use Rattle.ffv1_holding.specs.Reels.{Reel, IsRecordReel}
 use Rattle.ffv1_holding.specs.declared.recordings.Recordings.{Recordings}
 use Rattle.ffv1_holding.specs.Contents.{Contents, IsHolding}
 use Rattle.ffv1_hold.specs.HoldingText.{FileEntry, magic, entries_text, file_entries, IsStated}
@@ -38,7 +38,7 @@ ReadsNextEntry v rules last next = ReadsText (λ _. next_text v next) (IsPartOfE
 
 -- the record after a magic is one that has it, and within its limit
 pub record IsReelAfter (of_profile : Bool) (r : Reel) : Type 0 where
-  pub reel : IsReel r
+  pub reel : IsRecordReel r
   pub named : r.rules.is_profile ≡ of_profile
   pub fits : length r.config ≤ record_limit
 

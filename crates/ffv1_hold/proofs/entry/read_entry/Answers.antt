@@ -1,4 +1,4 @@
-use Rattle.ffv1_hold.proofs.Common.{[], ◌∷◌, rules, subst, err_from_is_err_and, slice_text, TakesText, Never, IsPartOfSlice, IsEntryInPlace, IsPartAfter, IsPartOfEntry, SliceIsTooLong, ShowsAfter, EntryShows, rules_of}
+use Rattle.ffv1_hold.proofs.Common.{[], ◌∷◌, rules, subst, err_from_is_err_and, slice_text, TakesText, Never, IsPartOfSlice, IsEntryInPlace, IsPartAfter, IsPartOfEntry, SliceIsTooLong, ShowsAfter, EntryShows}
 use Rattle.ffv1_hold.proofs.TextReads.{TakesText-trans, StopsAt-after}
 use Rattle.ffv1_hold.proofs.Entries.{single, entry_text-of, part_of_slice, part_after_slice, slice_shows, after_shows, wrong_stops}
 use Rattle.ffv1_hold.proofs.entry.read_entry.Given.{Over}
@@ -13,9 +13,9 @@ pub returns-in_err-slice-in-1-clause-read : goal.returns-in_err-slice-in-1-claus
 returns-in_err-slice-in-1-clause-read g c =
     let p = err_from_is_err_and c.from_residual-in_err-slice-in-1.result c.from_residual-in_err-slice-in-1.ensures.1 in
     let tag = tag_taken g (goal.at.returns-in_err-slice-in-1-clause-read g c).In-1 in
-    rw (p.1, p.2) (StopsAt-after IsPartOfSlice (IsPartOfEntry c.args.version (rules_of c.args.recording.now) c.args.last) Never Never SliceIsTooLong
-    (EntryShows c.args.version (rules_of c.args.recording.now) c.args.last) _ _ _ _ _ (1 ∷ []) tag _ c.in_err-slice-in-1.ensures.read
-    (part_of_slice c.args.version (rules_of c.args.recording.now) c.args.last) (λ f s h. h) (slice_shows c.args.version (rules_of c.args.recording.now) c.args.last))
+    rw (p.1, p.2) (StopsAt-after IsPartOfSlice (IsPartOfEntry c.args.version c.args.reel.now.rules c.args.last) Never Never SliceIsTooLong
+    (EntryShows c.args.version c.args.reel.now.rules c.args.last) _ _ _ _ _ (1 ∷ []) tag _ c.in_err-slice-in-1.ensures.read
+    (part_of_slice c.args.version c.args.reel.now.rules c.args.last) (λ f s h. h) (slice_shows c.args.version c.args.reel.now.rules c.args.last))
 
 pub returns-in_err-judge-in-1-clause-read : goal.returns-in_err-judge-in-1-clause-read
 returns-in_err-judge-in-1-clause-read g c =
@@ -23,14 +23,14 @@ returns-in_err-judge-in-1-clause-read g c =
     let tag = tag_taken g (goal.at.returns-in_err-judge-in-1-clause-read g c).In-1 in
     let slice = c.in_ok-slice-in-1.ensures in
     let whole = TakesText-trans _ _ _ _ _ _ _ _ tag slice.read in
-    rw (p.1, p.2) (wrong_stops c.args.version (rules_of c.args.recording.now) c.args.last _ _ c.in_ok-slice-in-1.slice _ _ _ _ _ whole slice.tile slice.fits
+    rw (p.1, p.2) (wrong_stops c.args.version c.args.reel.now.rules c.args.last _ _ c.in_ok-slice-in-1.slice _ _ _ _ _ whole slice.tile slice.fits
     (c.in_err-judge-in-1.ensures.err c.args.last slice.follows))
 
 pub returns-in_err-origins-in-1-clause-read : goal.returns-in_err-origins-in-1-clause-read
 returns-in_err-origins-in-1-clause-read g c =
     let p = err_from_is_err_and c.from_residual-in_err-origins-in-1.result c.from_residual-in_err-origins-in-1.ensures.1 in
     let v = c.args.version in
-    let rules = rules_of c.args.recording.now in
+    let rules = c.args.reel.now.rules in
     let last = c.args.last in
     let tag = tag_taken g (goal.at.returns-in_err-origins-in-1-clause-read g c).In-1 in
     let slice = c.in_ok-slice-in-1.ensures in

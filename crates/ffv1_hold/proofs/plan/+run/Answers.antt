@@ -1,6 +1,6 @@
-use Rattle.ffv1_hold.proofs.Common.{common_steps, ◌≡◌, ℕ, List, Result, Ok, IfOk, IfErr, OnOk, sym, ap, ◌∙◌, refl, ◌++◌, subst, map, inr, [], ◌∷◌, arith, IsErrAnd, IfOk-weaker, IfErr-weaker, on_ok_weaker, err_from_is_err_and, IsSetupOf, Reel, Contents, holding_of, IsHolding, with_found, with_copies, joined, AreNear, HoldsExactly, AreShort, IsReelOf, copies_of, IsCarriedOut, IsPlanFault, IsFaultOfCopy, IsFaultOfCopies, IsFaultOfFile, IsRereadFault, RereadsFit, IsTooLong, HoldFileFault, Plan, PlanFault, Hold, File, Memory, near_exact, setup_reel_of, Profile, inl}
+use Rattle.ffv1_hold.proofs.Common.{common_steps, ◌≡◌, ℕ, List, Result, Ok, IfOk, IfErr, OnOk, sym, ap, ◌∙◌, refl, ◌++◌, subst, map, inr, [], ◌∷◌, arith, IsErrAnd, IfOk-weaker, IfErr-weaker, on_ok_weaker, err_from_is_err_and, IsSetupOf, Reel, Contents, holding_of, IsHolding, with_found, with_copies, joined, AreNear, HoldsExactly, AreShort, IsReelOf, copies_of, IsCarriedOut, IsPlanFault, IsFaultOfCopy, IsFaultOfCopies, IsFaultOfFile, IsRereadFault, RereadsFit, IsTooLong, HoldFileFault, Plan, PlanFault, Hold, File, Memory, near_exact, IsRecordReel, record_reel_is, setup_reel_of, Profile, inl}
 use Rattle.ffv1_hold.proofs.ReadSteps.{holding_none}
-use Rattle.ffv1_hold.proofs.PlanSteps.{after_same, after_found, after_copies, after_joined, AreShort-both, of_kept_reel, reel_on_same, one_reel, near_of_meaning}
+use Rattle.ffv1_hold.proofs.PlanSteps.{after_same, after_found, after_copies, after_joined, AreShort-both, of_kept_reel, reel_on_same, one_reel, reel_of_record, near_of_meaning}
 use Rattle.ffv1_hold.proofs.plan.+run.Goals as goal
 
 module _ (bytes : List ℕ) (width height : ℕ) where
@@ -11,6 +11,7 @@ module _ (bytes : List ℕ) (width height : ℕ) where
     setup : IfOk r (λ h. IsSetupOf bytes width height h.reel.setup);
     meaning : IfOk r (λ h. h ≡ holding_of h.reel (copies_of plan));
     well_formed : IfOk r IsHolding;
+    of_record : IfOk r (λ h. IsRecordReel h.reel);
     near : (original : List ℕ) (slices : List (List ℕ)) → IfOk r (λ h. AreNear h.reel.rules original slices (copies_of plan) → HoldsExactly h slices);
     short : OnOk r (AreShort (copies_of plan));
     fits : IfOk r (λ h. RereadsFit h.reel plan);
@@ -22,23 +23,35 @@ module _ (bytes : List ℕ) (width height : ℕ) where
       → IsPlanFault bytes width height step f → Says plan r
   refused plan step r f is refusal faulty =
       let p = err_from_is_err_and r refusal in
-      rw (p.1, p.2, is) (record { config = tt; setup = tt; meaning = tt; well_formed = tt; near = λ original slices. tt; short = tt; fits = tt; fault = faulty })
+      rw (p.1, p.2, is) (record { config = tt; setup = tt; meaning = tt; well_formed = tt; of_record = tt; near = λ original slices. tt; short = tt; fits = tt; fault = faulty })
 
   -- the reel of what is returned is the record's
-  says_reel : (h : Contents) → IsHolding h → h.reel.config ≡ bytes → IsSetupOf bytes width height h.reel.setup → IsReelOf Profile bytes width height h.reel
-  says_reel h is config setup = setup_reel_of bytes width height h.reel is.reel config setup
+  says_reel : (h : Contents) → IsRecordReel h.reel → h.reel.config ≡ bytes → IsSetupOf bytes width height h.reel.setup → IsReelOf Profile bytes width height h.reel
+  says_reel h is config setup = setup_reel_of bytes width height h.reel is config setup
 
   -- a plan that gave a holding is carried out
   carried : (plan lent : Plan) (h : Contents) → lent ≡ plan → Says lent (Ok h) → IsCarriedOut bytes width height plan
-  carried plan lent h is was = subst (IsCarriedOut bytes width height) is (h.reel, says_reel h was.well_formed was.config was.setup, was.short, was.fits)
+  carried plan lent h is was = subst (IsCarriedOut bytes width height) is (h.reel, says_reel h was.of_record was.config was.setup, was.short, was.fits)
 
   -- what a step says that keeps the reel of the holding before it
   stepped : (plan step : Plan) (reel : Reel) (r : Result Contents PlanFault) (Took : Contents → Type 0) → plan ≡ step → IsReelOf Profile bytes width height reel
       → IfOk r Took → ((h : Contents) → Took h → h.reel ≡ reel) → ((h : Contents) → Took h → h ≡ holding_of h.reel (copies_of step)) → IfOk r IsHolding
       → OnOk r (AreShort (copies_of step)) → IfOk r (λ h. RereadsFit h.reel step) → IfErr r (IsPlanFault bytes width height step) → Says plan r
   stepped plan step reel r Took is of_reel took keeps means well_formed short fits faulty =
+      let of_record : IfOk r (λ h. IsRecordReel h.reel) = of_kept_reel r Took reel keeps IsRecordReel (reel_of_record Profile bytes width height reel of_reel) took in
       let meaning = IfOk-weaker r Took (λ h. h ≡ holding_of h.reel (copies_of step)) means took in
-      grind (arith, common_steps, of_kept_reel, near_of_meaning)
+      let setup : IsSetupOf bytes width height reel.setup = record { recording = of_reel.0; record_of = of_reel.1; is = ap (λ (q : Reel). q.setup) of_reel.2 } in
+      subst (λ p. Says p r) (sym is) (record {
+        config = of_kept_reel r Took reel keeps (λ q. q.config ≡ bytes) (ap (λ (q : Reel). q.config) of_reel.2) took;
+        setup = of_kept_reel r Took reel keeps (λ q. IsSetupOf bytes width height q.setup) setup took;
+        meaning = meaning;
+        well_formed = well_formed;
+        of_record = of_record;
+        near = λ original slices. near_of_meaning r original slices (copies_of step) meaning;
+        short = short;
+        fits = fits;
+        fault = faulty;
+      })
 
   -- copies are taken into what the plan before gave, which is `lent`: what is held grows by what is found in them
   taken : (plan step before lent : Plan) (h grown : Contents) (r : Result Contents PlanFault) (more : List (List ℕ)) (Faulty : PlanFault → Type 0)
@@ -51,7 +64,7 @@ module _ (bytes : List ℕ) (width height : ℕ) where
       let was : Says before (Ok h) = subst (λ p. Says p (Ok h)) deref given in
       let keeps = λ (k : Contents) (e : k ≡ grown). ap (λ (k : Contents). k.reel) e ∙ same in
       let short = on_ok_weaker r (AreShort-both (copies_of before) more was.short) took.short in
-      stepped plan step h.reel r (λ k. k ≡ grown) is (says_reel h was.well_formed was.config was.setup) took.ok keeps (λ k e. means k was.meaning e) took.well_formed
+      stepped plan step h.reel r (λ k. k ≡ grown) is (says_reel h was.of_record was.config was.setup) took.ok keeps (λ k e. means k was.meaning e) took.well_formed
       (subst (λ c. OnOk r (AreShort c)) (sym all) short)
       (of_kept_reel r (λ k. k ≡ grown) h.reel keeps (λ q. RereadsFit q step) (fits h.reel was.fits) took.ok)
       (IfErr-weaker r Faulty (IsPlanFault bytes width height step) (λ f. faulty f (carried before lent h deref given)) took.fault)
@@ -77,8 +90,8 @@ union_of-requires t c =
     let left = c.in_ok-holding-in-Join in
     let right = c.in_ok-other-in-Join in
     one_reel Profile c.args.config.now c.args.width c.args.height left.holding.reel right.other.reel
-    (says_reel c.args.config.now c.args.width c.args.height left.holding left.ensures.well_formed left.ensures.config left.ensures.setup)
-    (says_reel c.args.config.now c.args.width c.args.height right.other right.ensures.well_formed right.ensures.config right.ensures.setup)
+    (says_reel c.args.config.now c.args.width c.args.height left.holding left.ensures.of_record left.ensures.config left.ensures.setup)
+    (says_reel c.args.config.now c.args.width c.args.height right.other right.ensures.of_record right.ensures.config right.ensures.setup)
 
 -- what the second plan gave is joined into what the first gave
 pub returns-in_err-other-in-Join-clause-fault : goal.returns-in_err-other-in-Join-clause-fault
@@ -100,12 +113,12 @@ returns-in_ok-other-in-Join t c =
     let was : says c.in-Join.left.value (Ok before) = subst (λ p. says p (Ok before)) c.deref-in-Join.ensures c.in_ok-holding-in-Join.ensures in
     let too : says c.in-Join.right.value (Ok other) = subst (λ p. says p (Ok other)) c.deref-in-Join-2.ensures c.in_ok-other-in-Join.ensures in
     let same = one_reel Profile c.args.config.now c.args.width c.args.height before.reel other.reel
-    (says_reel c.args.config.now c.args.width c.args.height before was.well_formed was.config was.setup) (says_reel c.args.config.now c.args.width c.args.height other too.well_formed too.config too.setup) in
+    (says_reel c.args.config.now c.args.width c.args.height before was.of_record was.config was.setup) (says_reel c.args.config.now c.args.width c.args.height other too.of_record too.config too.setup) in
     let r = c.union_of.result in
     let Took = λ (h : Contents). h ≡ joined before other in
     let keeps = λ (h : Contents) (is : Took h). ap (λ (k : Contents). k.reel) is in
     let done = carried c.args.config.now c.args.width c.args.height in
-    stepped c.args.config.now c.args.width c.args.height _ _ before.reel r Took c.in-Join.is (says_reel c.args.config.now c.args.width c.args.height before was.well_formed was.config was.setup) c.union_of.ensures.ok keeps
+    stepped c.args.config.now c.args.width c.args.height _ _ before.reel r Took c.in-Join.is (says_reel c.args.config.now c.args.width c.args.height before was.of_record was.config was.setup) c.union_of.ensures.ok keeps
     (λ h is. after_joined before h (copies_of c.in-Join.left.value) was.meaning other (copies_of c.in-Join.right.value) too.meaning same is)
     c.union_of.ensures.well_formed
     (IfOk-weaker r Took _ (λ _ _. AreShort-both (copies_of c.in-Join.left.value) (copies_of c.in-Join.right.value) was.short too.short)
@@ -126,7 +139,8 @@ returns-in_ok-new-in-New t c =
       config = new.config;
       setup = new.setup;
       meaning = meaning;
-      well_formed = subst IsHolding (sym new.empty) (holding_none h.reel reel);
+      well_formed = subst IsHolding (sym new.empty) (holding_none h.reel (record_reel_is h.reel reel));
+      of_record = reel;
       near = λ original slices near. near_exact h original slices (copies_of plan) near (ap (λ (k : Contents). k.slices) meaning);
       short = subst (λ (p : Plan). AreShort (copies_of p)) (sym c.in-New.is) tt;
       fits = subst (RereadsFit h.reel) (sym c.in-New.is) tt;
@@ -142,7 +156,7 @@ returns-in_ok-holding-in-Reread t c =
     let copies = copies_of c.in-Reread.before.value in
     let r = c.through_file.result in
     let same = c.through_file.ensures.same in
-    stepped c.args.config.now c.args.width c.args.height _ _ before.reel r (λ h. h ≡ before) c.in-Reread.is (says_reel c.args.config.now c.args.width c.args.height before was.well_formed was.config was.setup) same
+    stepped c.args.config.now c.args.width c.args.height _ _ before.reel r (λ h. h ≡ before) c.in-Reread.is (says_reel c.args.config.now c.args.width c.args.height before was.of_record was.config was.setup) same
     (λ h is. ap (λ (k : Contents). k.reel) is) (λ h is. after_same before h copies was.meaning is)
     (IfOk-weaker r (λ h. h ≡ before) IsHolding (λ h is. subst IsHolding (sym is) was.well_formed) same)
     (IfOk-weaker r (λ h. h ≡ before) _ (λ _ _. was.short) same)
@@ -152,5 +166,5 @@ returns-in_ok-holding-in-Reread t c =
     (λ f is. inr (
       carried c.args.config.now c.args.width c.args.height c.in-Reread.before.value _ before refl was,
       subst (IsFaultOfFile c.args.config.now c.args.width c.args.height copies) (sym is.1)
-          (before.reel, says_reel c.args.config.now c.args.width c.args.height before was.well_formed was.config was.setup, subst (λ (k : Contents). IsRereadFault k is.0) was.meaning is.2),
+          (before.reel, says_reel c.args.config.now c.args.width c.args.height before was.of_record was.config was.setup, subst (λ (k : Contents). IsRereadFault k is.0) was.meaning is.2),
     )) c.through_file.ensures.fault)

@@ -28,7 +28,7 @@ returns-in_err-advance g c =
     let v = c.args.reader.now.version in
     let h = c.args.holding.now in
     let none = none_read v _ _ h c.args.reader.now.held c.requires.place c.reel.ensures.well_formed.reel c.requires.empty c.requires.version c.requires.first in
-    rw (p.1, p.2) (record { read = next_refused v h.reel _ _ _ _ h _ none v _ refl (c.recording.ensures.rules ∙ ap (λ (r : Reel). r.rules) c.reel.ensures.value) _ _ c.in_err-advance.ensures.read; end = tt; well_formed = tt; stated = tt; reel = tt })
+    rw (p.1, p.2) (record { read = next_refused v h.reel _ _ _ _ h _ none v _ refl (ap (λ (r : Reel). r.rules) c.reel.ensures.value) _ _ c.in_err-advance.ensures.read; end = tt; well_formed = tt; stated = tt; reel = tt })
 
 pub loop-reader-init : goal.loop-reader-init
 loop-reader-init g c =
@@ -42,7 +42,7 @@ loop-reader-init g c =
       well_formed = c.reel.ensures.well_formed;
       stated = none.stated;
       reel = refl;
-      entry = subst (λ (x : TileRules). IfSome c.advance.new.self.held (IsFileEntryOf v x)) (c.recording.ensures.rules ∙ ap (λ (r : Reel). r.rules) c.reel.ensures.value) next.entry;
+      entry = subst (λ (x : TileRules). IfSome c.advance.new.self.held (IsFileEntryOf v x)) (ap (λ (r : Reel). r.rules) c.reel.ensures.value) next.entry;
       follows = next_follows v h.reel _ _ _ _ h _ none c.advance.new.self.held next.follows;
       at_end = next.end;
     }
@@ -65,7 +65,7 @@ loop-reader-preserved g c =
     let v = c.args.reader.now.version in
     let more = read_with g (goal.at.loop-reader-preserved g c).In-Some c.insert.new.holding c.in_ok-insert.ensures.ok in
     let next = c.in_ok-advance-2.ensures in
-    let rules = (c.recording-in-Some.ensures.rules ∙ ap (λ (r : Reel). r.rules) c.reel-in-Some.ensures.value) ∙ ap (λ (r : Reel). r.rules) more.reel' in
+    let rules = (ap (λ (r : Reel). r.rules) c.reel-in-Some.ensures.value) ∙ ap (λ (r : Reel). r.rules) more.reel' in
     record {
       text = next_taken v c.loop-reader.reader.version _ _ _ _ _ _ _ _ inv.version more.text next.read;
       version = next.version ∙ inv.version;
@@ -81,7 +81,7 @@ pub returns-in_err-advance-2-clause-read : goal.returns-in_err-advance-2-clause-
 returns-in_err-advance-2-clause-read g c =
     let p = err_from_is_err_and c.from_residual-in_err-advance-2.result c.from_residual-in_err-advance-2.ensures.1 in
     let more = read_with g (goal.at.returns-in_err-advance-2-clause-read g c).In-Some c.insert.new.holding c.in_ok-insert.ensures.ok in
-    let rules = (c.recording-in-Some.ensures.rules ∙ ap (λ (r : Reel). r.rules) c.reel-in-Some.ensures.value) ∙ ap (λ (r : Reel). r.rules) more.reel' in
+    let rules = (ap (λ (r : Reel). r.rules) c.reel-in-Some.ensures.value) ∙ ap (λ (r : Reel). r.rules) more.reel' in
     rw (p.1, p.2) (next_refused c.args.reader.now.version c.args.holding.now.reel _ _ _ _ _ _ more _ _ c.loop-reader.invariant.version rules _ _
     c.in_err-advance-2.ensures.read)
 

@@ -1,4 +1,4 @@
-use Rattle.ffv1_hold.proofs.Common.{common_steps, [], ◌∷◌, ◌++◌, arith, inl, sym, subst, ap, ◌∙◌, append_assoc, err_from_is_err_and, Reel, Contents, head_text, entries_text, file_entries, TakesText, IsPartOfEntries, IsPartOfFile, FileIsWhole, EntriesShow, FileShows, EntriesAreWhole, MayRead}
+use Rattle.ffv1_hold.proofs.Common.{common_steps, [], ◌∷◌, ◌++◌, arith, inl, sym, subst, ap, ◌∙◌, append_assoc, err_from_is_err_and, Reel, Contents, head_text, entries_text, file_entries, TakesText, IsPartOfEntries, IsPartOfFile, FileIsWhole, EntriesShow, FileShows, EntriesAreWhole, MayTake}
 use Rattle.ffv1_hold.proofs.TextReads.{TakesText-trans, StopsAt-after, memory_stops}
 use Rattle.ffv1_hold.proofs.Heads.{head_is_part, head_file, file_from_entries_part, file_from_whole_entries, file_from_entries_fault}
 use Rattle.ffv1_hold.proofs.reading.read_parts.Goals as goal
@@ -43,7 +43,7 @@ returns g c =
     ∙ ap (λ (x : Reel). head_text v x ++ entries ++ 0 ∷ []) (sym reel)) all in
     record {
       well_formed = more.well_formed;
-      taken = subst (λ (x : Reel). MayRead c.args.recordings x.rules.is_profile) (sym reel) first.reel.taken;
+      taken = subst (MayTake c.args.recordings) (sym reel) (first.reel.taken, first.reel.reel);
       file = grind (arith, common_steps);
       at_end = more.end;
       tries' = whole.tries';

@@ -3,6 +3,4 @@ use Rattle.ffv1_hold.proofs.WrittenParts.{head_spelled}
 use Rattle.ffv1_hold.proofs.saving.write_head.Goals as goal
 
 pub returns : goal.returns
-returns g c =
-    let setup = c.recording-recording.ensures.setup in
-    grind (arith, common_steps, head_spelled)
+returns g c = grind (arith, common_steps, head_spelled)

@@ -1,12 +1,12 @@
-use Rattle.ffv1_hold.proofs.Common.{common_steps, refl, inr, arith, err_from_is_err_and, IsPartOfEntry, EntryShows, rules_of}
+use Rattle.ffv1_hold.proofs.Common.{common_steps, refl, inr, arith, err_from_is_err_and, IsPartOfEntry, EntryShows}
 use Rattle.ffv1_hold.proofs.TextReads.{TakesText-nil, StopsAt-after, broke_after}
 use Rattle.ffv1_hold.proofs.hold_reader.HoldReader.advance.Goals as goal
 
 pub returns-in_err-slice : goal.returns-in_err-slice
 returns-in_err-slice g c =
     let p = err_from_is_err_and c.from_residual.result c.from_residual.ensures.1 in
-    let part = IsPartOfEntry c.args.self.now.version (rules_of c.args.recording.now) c.args.self.now.held in
-    let shows = EntryShows c.args.self.now.version (rules_of c.args.recording.now) c.args.self.now.held in
+    let part = IsPartOfEntry c.args.self.now.version c.args.reel.now.rules c.args.self.now.held in
+    let shows = EntryShows c.args.self.now.version c.args.reel.now.rules c.args.self.now.held in
     let stops = rw c.take-last.ensures.value at c.in_err-slice.ensures.read in
     grind (arith, common_steps, StopsAt-after, TakesText-nil)
 

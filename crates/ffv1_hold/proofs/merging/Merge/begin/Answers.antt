@@ -1,4 +1,4 @@
-use Rattle.ffv1_hold.proofs.Common.{common_steps, ◌≡◌, ℕ, ◌+◌, ◌-◌, ◌≤◌, length, arith, ap, ◌∙◌, file_limit, record_limit, err_from_is_err_and, rules_of}
+use Rattle.ffv1_hold.proofs.Common.{common_steps, ◌≡◌, ℕ, ◌+◌, ◌-◌, ◌≤◌, length, arith, ap, ◌∙◌, refl, file_limit, record_limit, err_from_is_err_and}
 use Rattle.ffv1_hold.proofs.JoinSteps.{AllGoOn-trans, OneStops-after, left_read, right_read, left_stops, right_stops, wrote, sink_stops}
 use Rattle.ffv1_hold.proofs.MergeStarts.{head_stops, first_left_stops, first_right_stops, left_held, right_held, opened_stands}
 use Rattle.ffv1_hold.proofs.MergeSteps.{same_version_entry}
@@ -17,7 +17,7 @@ returns-in_err-write_head-clause-went g c =
 pub returns-in_err-advance-clause-err : goal.returns-in_err-advance-clause-err
 returns-in_err-advance-clause-err g c s is o =
     let p = err_from_is_err_and c.from_residual-in_err-advance.result c.from_residual-in_err-advance.ensures.1 in
-    rw (p.1, p.2) (first_left_stops s _ _ _ _ _ _ o _ _ _ _ (rules_of c.recording.result.now) _ c.requires.left_held is.left_is c.recording.ensures.rules
+    rw (p.1, p.2) (first_left_stops s _ _ _ _ _ _ o _ _ _ _ c.args.reel.now.rules _ c.requires.left_held is.left_is refl
     c.in_err-advance.ensures.read.fault c.in_ok-write_head.ensures.bytes')
 
 pub returns-in_err-advance-clause-went : goal.returns-in_err-advance-clause-went
@@ -30,8 +30,8 @@ pub returns-in_err-advance-2-clause-err : goal.returns-in_err-advance-2-clause-e
 returns-in_err-advance-2-clause-err g c s is o =
     let p = err_from_is_err_and c.from_residual-in_err-advance-2.result c.from_residual-in_err-advance-2.ensures.1 in
     let one = c.in_ok-advance.ensures in
-    let held = left_held s _ _ _ _ _ _ o _ _ _ _ _ (rules_of c.recording.result.now) c.requires.left_held is.left_is c.recording.ensures.rules one.read.text one.entry one.follows one.end in
-    rw (p.1, p.2) (first_right_stops s _ _ _ _ _ _ o _ _ _ _ _ _ _ (rules_of c.recording-2.result.now) _ c.requires.right_held is.right_is c.recording-2.ensures.rules
+    let held = left_held s _ _ _ _ _ _ o _ _ _ _ _ c.args.reel.now.rules c.requires.left_held is.left_is refl one.read.text one.entry one.follows one.end in
+    rw (p.1, p.2) (first_right_stops s _ _ _ _ _ _ o _ _ _ _ _ _ _ c.args.reel.now.rules _ c.requires.right_held is.right_is refl
     c.in_err-advance-2.ensures.read.fault held c.in_ok-write_head.ensures.bytes')
 
 pub returns-in_err-advance-2-clause-went : goal.returns-in_err-advance-2-clause-went
@@ -61,10 +61,10 @@ returns g c =
       right_entry = grind (arith, common_steps, same_version_entry);
       room = within_file _ _ room;
       ok = λ s is o.
-          let left = left_held s _ _ _ _ _ _ o _ _ _ _ _ (rules_of c.recording.result.now) c.requires.left_held is.left_is
-          c.recording.ensures.rules one.read.text one.entry one.follows one.end in
-          let right = right_held s _ _ _ _ _ _ o _ _ _ _ _ (rules_of c.recording-2.result.now) c.requires.right_held
-          is.right_is c.recording-2.ensures.rules two.read.text two.entry two.follows two.end in (
+          let left = left_held s _ _ _ _ _ _ o _ _ _ _ _ c.args.reel.now.rules c.requires.left_held is.left_is
+          refl one.read.text one.entry one.follows one.end in
+          let right = right_held s _ _ _ _ _ _ o _ _ _ _ _ c.args.reel.now.rules c.requires.right_held
+          is.right_is refl two.read.text two.entry two.follows two.end in (
             record { left_is = one.version ∙ is.left_is; right_is = two.version ∙ is.right_is },
             opened_stands s _ _ _ _ _ _ o _ _ _ _ _ _ _ _ left right head.bytes' room,
           );

@@ -1,4 +1,4 @@
-use Rattle.ffv1_hold.proofs.Common.{common_steps, ◌≡◌, ℕ, ◌+◌, ◌≤◌, subst, arith, file_limit, Less, Equal, Greater, err_from_is_err_and, IsTurn, Ordering, AllGoOn, rules_of}
+use Rattle.ffv1_hold.proofs.Common.{common_steps, ◌≡◌, ℕ, ◌+◌, ◌≤◌, subst, arith, file_limit, Less, Equal, Greater, err_from_is_err_and, IsTurn, Ordering, AllGoOn}
 use Rattle.ffv1_hold.proofs.JoinSteps.{AllGoOn-trans, OneStops-after, left_read, right_read, left_stops, right_stops, wrote, entry_stopped}
 use Rattle.ffv1_hold.proofs.MergeSteps.{entry_stops, left_shows_none, less_stands, greater_stands, equal_stands, left_refused, right_refused, left_now_shows_none, ends, same_version_entry}
 use Rattle.ffv1_hold.proofs.merging.Merge.merge_entries.Given.{Over}
@@ -41,7 +41,7 @@ loop-entry-preserved-in-Continue-branch-2 g c =
     let read = c.in_ok-advance-in-Less.ensures in
     record {
       stands = λ start same is first. let now = inv.stands start same is first in
-          less_stands start _ _ _ _ _ _ _ _ now.1 _ _ _ _ done.0.bytes' done.1 _ _ now.0 (rules_of c.args.recording.now) same turn _ _ _ _ read.version
+          less_stands start _ _ _ _ _ _ _ _ now.1 _ _ _ _ done.0.bytes' done.1 _ _ now.0 c.args.reel.now.rules same turn _ _ _ _ read.version
           read.read.text read.entry read.follows read.end;
       room = room_left _ _ _ done.1 inv.room;
       left_place = read.read.text.within;
@@ -57,7 +57,7 @@ returns-in_err-advance-in-Less-clause-err g c start same is first =
     let turn = turn_is g (goal.at.returns-in_err-advance-in-Less-clause-err g c).In_ok-write_entry Less c.in-Less.is in
     let now = c.loop-entry.invariant.stands start same is first in
     let done = c.in_ok-write_entry.ensures in
-    rw (p.1, p.2) (left_refused start _ _ _ _ _ _ _ _ now.1 _ _ _ _ done.0.bytes' done.1 _ _ now.0 (rules_of c.args.recording.now) same Less turn turn.0 _ _
+    rw (p.1, p.2) (left_refused start _ _ _ _ _ _ _ _ now.1 _ _ _ _ done.0.bytes' done.1 _ _ now.0 c.args.reel.now.rules same Less turn turn.0 _ _
     c.in_err-advance-in-Less.ensures.read.fault)
 
 pub returns-in_err-advance-in-Less-clause-went : goal.returns-in_err-advance-in-Less-clause-went
@@ -76,7 +76,7 @@ loop-entry-preserved-in-Continue-branch-3 g c =
     let read = c.in_ok-advance-in-Greater.ensures in
     record {
       stands = λ start same is first. let now = inv.stands start same is first in
-          greater_stands start _ _ _ _ _ _ _ _ now.1 _ _ _ _ done.0.bytes' done.1 _ _ now.0 (rules_of c.args.recording.now) same turn _ _ _ _ read.version
+          greater_stands start _ _ _ _ _ _ _ _ now.1 _ _ _ _ done.0.bytes' done.1 _ _ now.0 c.args.reel.now.rules same turn _ _ _ _ read.version
           read.read.text read.entry read.follows read.end;
       room = room_left _ _ _ done.1 inv.room;
       left_place = inv.left_place;
@@ -92,7 +92,7 @@ returns-in_err-advance-in-Greater-clause-err g c start same is first =
     let turn = turn_is g (goal.at.returns-in_err-advance-in-Greater-clause-err g c).In_ok-write_entry Greater c.in-Greater.is in
     let now = c.loop-entry.invariant.stands start same is first in
     let done = c.in_ok-write_entry.ensures in
-    rw (p.1, p.2) (right_refused start _ _ _ _ _ _ _ _ now.1 _ _ _ _ done.0.bytes' done.1 _ _ now.0 (rules_of c.args.recording.now) same Greater turn _ turn.0 _ _
+    rw (p.1, p.2) (right_refused start _ _ _ _ _ _ _ _ now.1 _ _ _ _ done.0.bytes' done.1 _ _ now.0 c.args.reel.now.rules same Greater turn _ turn.0 _ _
     (left_shows_none start _ _ _ _ _ _ _ _ now.1) _ c.in_err-advance-in-Greater.ensures.read.fault)
 
 pub returns-in_err-advance-in-Greater-clause-went : goal.returns-in_err-advance-in-Greater-clause-went
@@ -109,7 +109,7 @@ returns-in_err-advance-in-Equal-clause-err g c start same is first =
     let turn = turn_is g (goal.at.returns-in_err-advance-in-Equal-clause-err g c).In_ok-write_entry Equal c.in-Equal.is in
     let now = c.loop-entry.invariant.stands start same is first in
     let done = c.in_ok-write_entry.ensures in
-    rw (p.1, p.2) (left_refused start _ _ _ _ _ _ _ _ now.1 _ _ _ _ done.0.bytes' done.1 _ _ now.0 (rules_of c.args.recording.now) same Equal turn turn.0 _ _
+    rw (p.1, p.2) (left_refused start _ _ _ _ _ _ _ _ now.1 _ _ _ _ done.0.bytes' done.1 _ _ now.0 c.args.reel.now.rules same Equal turn turn.0 _ _
     c.in_err-advance-in-Equal.ensures.read.fault)
 
 pub returns-in_err-advance-in-Equal-clause-went : goal.returns-in_err-advance-in-Equal-clause-went
@@ -125,8 +125,8 @@ returns-in_err-advance-in-Equal-2-clause-err g c start same is first =
     let now = c.loop-entry.invariant.stands start same is first in
     let done = c.in_ok-write_entry.ensures in
     let read = c.in_ok-advance-in-Equal.ensures in
-    rw (p.1, p.2) (right_refused start _ _ _ _ _ _ _ _ now.1 _ _ _ _ done.0.bytes' done.1 _ _ now.0 (rules_of c.args.recording.now) same Equal turn _ turn.1 _ _
-    (left_now_shows_none start _ _ _ _ _ _ _ _ now.1 _ _ _ _ done.0.bytes' done.1 _ _ now.0 (rules_of c.args.recording.now) same turn _ _ _
+    rw (p.1, p.2) (right_refused start _ _ _ _ _ _ _ _ now.1 _ _ _ _ done.0.bytes' done.1 _ _ now.0 c.args.reel.now.rules same Equal turn _ turn.1 _ _
+    (left_now_shows_none start _ _ _ _ _ _ _ _ now.1 _ _ _ _ done.0.bytes' done.1 _ _ now.0 c.args.reel.now.rules same turn _ _ _
     read.read.text read.entry read.follows read.end) _ c.in_err-advance-in-Equal-2.ensures.read.fault)
 
 pub returns-in_err-advance-in-Equal-2-clause-went : goal.returns-in_err-advance-in-Equal-2-clause-went
@@ -146,7 +146,7 @@ loop-entry-preserved g c =
     let also = c.in_ok-advance-in-Equal-2.ensures in
     record {
       stands = λ start same is first. let now = inv.stands start same is first in
-          equal_stands start _ _ _ _ _ _ _ _ now.1 _ _ _ _ done.0.bytes' done.1 _ _ now.0 (rules_of c.args.recording.now) same turn _ _ _
+          equal_stands start _ _ _ _ _ _ _ _ now.1 _ _ _ _ done.0.bytes' done.1 _ _ now.0 c.args.reel.now.rules same turn _ _ _
           read.read.text read.entry read.follows read.end _ _ _ _ _ read.version also.version also.read.text also.entry also.follows also.end;
       room = room_left _ _ _ done.1 inv.room;
       left_place = read.read.text.within;
