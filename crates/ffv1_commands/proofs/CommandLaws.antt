@@ -13,10 +13,10 @@ use Rattle.ffv1_range.proofs.SetupLaws.{record_is_one}
 use Rattle.ffv1_holding.specs.Reels.{Reel, IsReel, reel_of}
 use Rattle.ffv1_holding.specs.declared.recordings.Recordings.{Recordings}
 use Rattle.ffv1_holding.specs.declared.recordings.Recordings.TheVariants.{Profile, Any}
-use Rattle.ffv1_holding.proofs.Reels.{reel_is, has_parities}
+use Rattle.ffv1_holding.proofs.Reels.{record_reel_is, has_parities}
 use Rattle.ffv1_holding.specs.Contents.{Contents, holding_of, joined, HasSameCopies}
 use Rattle.ffv1_holding.proofs.ContentsLaws.{joined-holding_of, holding_of-same}
-use Rattle.ffv1_hold.specs.FileFaults.{MayRead, IsFaultOf}
+use Rattle.ffv1_hold.specs.FileFaults.{MayTake, IsFaultOf}
 use Rattle.ffv1_hold.specs.Headline.{IsReelOf}
 use Rattle.ffv1_hold.specs.HoldingText.{holding_text}
 use Rattle.ffv1_hold.specs.declared.version.Version.TheVariants.{Second}
@@ -25,7 +25,7 @@ use Rattle.ffv1_holding.specs.Originals.{AreCopiesOfSlices, HoldsExactly}
 use Rattle.ffv1_holding.specs.TileState.{restored_payload, IsLeastUnsettled}
 use Rattle.ffv1_hold.proofs.Returned.{refused_outside}
 use Rattle.ffv1_holding.proofs.ExactlyHeld.{exactly_held, near_are_copies}
-use Rattle.ffv1_hold.proofs.PlanSteps.{one_reel}
+use Rattle.ffv1_hold.proofs.PlanSteps.{one_reel, reel_of_record}
 use Rattle.ffv1_holding.proofs.Restored.{restored_original}
 use Rattle.ffv1_hold.proofs.TextLaws.{one_text}
 use Rattle.ffv1_hold.specs.Restorations.{AreEqualInAll, ShowsSlices}
@@ -164,10 +164,10 @@ module _ (recordings : Recordings) (config : List ℕ) (width height : ℕ) wher
 
 -- the reel of a record is of the recordings as which it is read
 pub taken_reel : (recordings : Recordings) (config : List ℕ) (width height : ℕ) (reel : Reel) → IsReelOf recordings config width height reel
-    → MayRead recordings reel.rules.is_profile
+    → MayTake recordings reel
 taken_reel Profile config width height reel is =
-    ap (λ (r : Reel). r.rules.is_profile) is.2 ∙ record_of_profile config width height is.0 is.1
-taken_reel Any config width height reel is = tt
+    (ap (λ (r : Reel). r.rules.is_profile) is.2 ∙ record_of_profile config width height is.0 is.1, reel_of_record Profile config width height reel is)
+taken_reel Any config width height reel is = (tt, reel_of_record Any config width height reel is)
 
 -- a record and a size are those of one reel, as whichever recordings it is read
 reel_of_either : (recordings also : Recordings) (config : List ℕ) (width height : ℕ) (r s : Reel) → IsReelOf recordings config width height r
@@ -235,7 +235,7 @@ same_copies_make_one_report recordings also config width height copies others fi
 -- ---- copies of an original
 
 -- a holding's own file shows no fault
-pub no_fault : (recordings : Recordings) (h : Contents) (file : List ℕ) → MayRead recordings h.reel.rules.is_profile → file ≡ holding_text h → HasFile h
+pub no_fault : (recordings : Recordings) (h : Contents) (file : List ℕ) → MayTake recordings h.reel → file ≡ holding_text h → HasFile h
     → (fault : HoldFileFault) → IsHoldingFault recordings (paths.Hold 0) (Some file) (faults.HoldFile fault) → ⊥
 no_fault recordings h file of text has fault stops =
     let own : IsFaultOf recordings (holding_text h) fault = subst (λ (t : List ℕ). IsFaultOf recordings t fault) text stops in
@@ -248,9 +248,9 @@ module _ (recordings : Recordings) (config : List ℕ) (width height : ℕ) (ree
   same_reel = one_reel recordings config width height reel is.reel of_record is.of_record
 
   pub is_reel : IsReel is.reel
-  is_reel = subst IsReel (sym is.of_record.2) (reel_is recordings config width height is.of_record.0 is.of_record.1)
+  is_reel = record_reel_is is.reel (reel_of_record recordings config width height is.reel is.of_record)
 
-  is_taken : MayRead recordings is.reel.rules.is_profile
+  is_taken : MayTake recordings is.reel
   is_taken = taken_reel recordings config width height is.reel is.of_record
 
   pub exact : HoldsExactly (holding_of is.reel copies) slices

@@ -17,7 +17,7 @@ use Rattle.ffv1_hold.specs.declared.file_fault.HoldFileFault.TheVariants as file
 use Rattle.ffv1_hold.proofs.MergeSteps.{part_begins}
 use Rattle.ffv1_hold.proofs.MergeStarts.{all_part}
 use Rattle.ffv1_holding.specs.declared.recordings.Recordings.{Recordings}
-use Rattle.ffv1_hold.specs.FileFaults.{MayRead}
+use Rattle.ffv1_hold.specs.FileFaults.{MayTake}
 use Rattle.ffv1_hold.specs.JoinedStreams.{inputs_of}
 use Rattle.ffv1_commands.specs.Fault.{NamesPath, of_merge}
 use Rattle.ffv1_commands.specs.Paths.{IsMergePath}
@@ -26,7 +26,7 @@ use Rattle.ffv1_commands.specs.MergeText.{MergesFiles, BeginsUnion, HeadsDiffer,
 use Rattle.ffv1_commands.specs.declared.fault.CliFault.{CliFault}
 use Rattle.ffv1_commands.specs.declared.fault.CliFault.TheVariants as faults
 
-holding_file : (recordings : Recordings) (old new : Option (List ℕ)) (h : Contents) → MayRead recordings h.reel.rules.is_profile → ReadsAll old new h
+holding_file : (recordings : Recordings) (old new : Option (List ℕ)) (h : Contents) → MayTake recordings h.reel → ReadsAll old new h
     → IsHoldingFile recordings old h
 holding_file recordings old new h taken a = record {
   version = a.file.version;
@@ -49,7 +49,7 @@ module _ (i : Inputs) (w v : Option (List ℕ)) where
     one = u.left;
     other = u.right;
     left_file = holding_file i.recordings _ _ u.left u.taken u.read.left_read;
-    right_file = holding_file i.recordings _ _ u.right (subst (λ (r : Reel). MayRead i.recordings r.rules.is_profile) u.read.same u.taken) u.read.right_read;
+    right_file = holding_file i.recordings _ _ u.right (subst (MayTake i.recordings) u.read.same u.taken) u.read.right_read;
     same = u.read.same;
     has_file = record { well_formed = holding-joined u.left u.right u.read.same u.read.left_read.well_formed u.read.right_read.well_formed; fits = u.fits };
     written = u.written;

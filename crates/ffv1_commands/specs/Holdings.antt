@@ -6,7 +6,7 @@ use Rattle.ffv1_hold.specs.HoldingText.{file_text, holding_text, FitsInFile}
 use Rattle.ffv1_hold.specs.declared.version.Version.{Version}
 use Rattle.ffv1_hold.specs.declared.version.Version.TheVariants.{Second}
 use Rattle.ffv1_devices.specs.Logs.{ReadLog, WriteLog, Writes, StopsWriting}
-use Rattle.ffv1_hold.specs.FileFaults.{MayRead, IsFaultOf, ReadsFile}
+use Rattle.ffv1_hold.specs.FileFaults.{MayTake, IsFaultOf, ReadsFile}
 use Rattle.ffv1_hold.specs.Saving.{IsTooLong}
 use Rattle.ffv1_hold.specs.declared.file_fault.HoldFileFault.{HoldFileFault}
 use Rattle.ffv1_hold.specs.declared.file_fault.HoldFileFault.TheVariants as files
@@ -23,7 +23,7 @@ pub record IsHoldingFile (recordings : Recordings) (input : Option (List ℕ)) (
   pub version : Version
   pub text : HasBytes input (file_text version h)
   pub well_formed : IsHolding h
-  pub taken : MayRead recordings h.reel.rules.is_profile
+  pub taken : MayTake recordings h.reel
   pub fits : FitsInFile version h
 
 -- A holding that has a file of version 2: it is one, and it and its record are within their limits.

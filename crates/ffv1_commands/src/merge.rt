@@ -5,7 +5,7 @@ ghost use Rattle.ffv1_devices.specs.Touching.{WritesIfTouched};
 ghost use Rattle.ffv1_holding.specs.Reels.{Reel};
 ghost use Rattle.ffv1_holding.specs.Contents.{Contents, IsSameReel, joined};
 ghost use Rattle.ffv1_hold.specs.declared.version.Version.{Version};
-ghost use Rattle.ffv1_hold.specs.FileFaults.{MayRead};
+ghost use Rattle.ffv1_hold.specs.FileFaults.{MayTake};
 ghost use Rattle.ffv1_hold.specs.MergedStreams.{IsFileOf, BeginsWithHead, WritesAtMost};
 ghost use Rattle.ffv1_commands.specs.Devices.{IsWrittenIfTouched};
 ghost use Rattle.ffv1_commands.specs.Fault.{NamesPath};
@@ -39,7 +39,7 @@ pub fn run_merge<R: Read, Q: Read, O: Write>(
     ensures leaves { IfErr result (MergeLeaves (R.remaining left.old) (Q.remaining right.old) (O.contents out.old) (O.contents out.new)) }
     ensures most { WritesAtMost (O.contents out.old) (O.contents out.new) file_limit }
 
-    ensures only { (v w : Version) (g h : Contents) → IsSameReel g h → MayRead recordings g.reel.rules.is_profile → IsFileOf (R.remaining left.old) v g → IsFileOf (Q.remaining right.old) w h
+    ensures only { (v w : Version) (g h : Contents) → IsSameReel g h → MayTake recordings g.reel → IsFileOf (R.remaining left.old) v g → IsFileOf (Q.remaining right.old) w h
         → ReturnsFiles (joined g h) result }
     ensures other { (g h : Reel) → BeginsWithHead recordings (R.remaining left.old) g → BeginsWithHead recordings (Q.remaining right.old) h → ¬ (g ≡ h)
         → ReturnsOtherHeads result }
@@ -69,7 +69,7 @@ pub fn merge_of<R: Source, Q: Source, O: Sink>(
         (record { left = R.log left.new; right = Q.log right.new; sink = O.log out.new }) }
     ensures most { WritesAtMost (O.log out.old).contents (O.log out.new).contents file_limit }
 
-    ensures only { (v w : Version) (g h : Contents) → IsSameReel g h → MayRead recordings g.reel.rules.is_profile → IsFileOf (R.log left.old).remaining v g → IsFileOf (Q.log right.old).remaining w h
+    ensures only { (v w : Version) (g h : Contents) → IsSameReel g h → MayTake recordings g.reel → IsFileOf (R.log left.old).remaining v g → IsFileOf (Q.log right.old).remaining w h
         → ReturnsFiles (joined g h) result }
     ensures other { (g h : Reel) → BeginsWithHead recordings (R.log left.old).remaining g → BeginsWithHead recordings (Q.log right.old).remaining h → ¬ (g ≡ h)
         → ReturnsOtherHeads result }

@@ -3,7 +3,7 @@
 use crate::buffer::Buffer;
 use ebml::crc32;
 use ffv1_hold::{FromWrite, Holding, write_hold};
-use ffv1_range::Recorded;
+use ffv1_holding::Framed;
 use ffv1_test_frames::{RECORDED, RECORDED_RECORD};
 use std::alloc::Global;
 use std::io;
@@ -96,7 +96,7 @@ pub fn holding_of(alloc: Global, copies: &[&[u8]]) -> io::Result<Holding> {
 }
 
 /// The file of a holding; no bytes where it could not be written.
-pub fn file_of<S: Recorded>(holding: &Holding<S>) -> Buffer {
+pub fn file_of<S: Framed>(holding: &Holding<S>) -> Buffer {
     let mut sink = FromWrite::new(Buffer::new());
     match write_hold(holding, &mut sink) {
         Ok(()) => sink.into_inner(),
@@ -105,7 +105,7 @@ pub fn file_of<S: Recorded>(holding: &Holding<S>) -> Buffer {
 }
 
 /// The remainder of the file of a holding.
-pub fn remainder_of<S: Recorded>(holding: &Holding<S>) -> u32 {
+pub fn remainder_of<S: Framed>(holding: &Holding<S>) -> u32 {
     file_of(holding).remainder()
 }
 
