@@ -51,7 +51,7 @@ pub use Rattle.ffv1_hold.specs.Inner.Reading.{IsShorter, Never, ReadsText, Takes
 pub use Rattle.ffv1_hold.specs.Inner.Saving.{AreWithinLimit, AreWritable, entries_length, file_entries_below, tile_file_entries}
 pub use Rattle.ffv1_hold.specs.MergeLogs.{AllGoOn, Devices, MergeWent, OneStops, TakesAtMost, is_write}
 pub use Rattle.ffv1_hold.specs.MergedStreams.{BeginsWithHead, BeginsWithPart, BothRefuse, EntriesPass, InputRefuses, Inputs, IsFileOf, IsFileOfSome, LeftRefusesFirst, MergeRefuses, OneRefuses, ReadsAll, ReadsOtherHeads, ReadsPart, ReadsSoFar, ReturnsOther, ReturnsUnion, ShowsNoFault, StaysInReadLimit, StreamBegins, UnionPasses, WritesAtMost, WritesEntries, WritesFrontSoFar, WritesNoEnd, WritesUnion}
-pub use Rattle.ffv1_hold.specs.Plans.{IsCarriedOut, IsFaultOfCopies, IsFaultOfCopy, IsFaultOfFile, IsPlanFault, IsRereadFault, RereadsFit, copies_of}
+pub use Rattle.ffv1_hold.specs.Plans.{CanBeCarriedOut, IsCarriedOut, IsFaultOfCopies, IsFaultOfCopy, IsFaultOfFile, IsFirstPlanFault, IsPlanFault, IsRereadFault, RereadsFit, copies_of}
 pub use Rattle.ffv1_hold.specs.JoinedStreams.{JoinsStreams}
 pub use Rattle.ffv1_hold.specs.ReadLimits.{AreAllDigests, EndsFirstOpen, IsReadLimitOf, LiesWhole}
 pub use Rattle.ffv1_hold.specs.Reading.{EndsIn, GoesOnIn, PassesIn, Refuses, StopsAt, StopsIn, WentBefore, is_read}

@@ -1,5 +1,6 @@
 -- One step of a plan.
-use Rattle.ffv1_hold.proofs.Common.{◌≡◌, ℕ, Result, Ok, Err, IfOk, OnOk, List, [], ◌∷◌, ◌++◌, sym, ap, ◌∙◌, subst, arith, IfOk-weaker, Reel, IsReelOf, AreNear, HoldsExactly, near_exact, AreShort, contents, IsKept, Contents, IsHolding, IsSameReel, with_found, with_copies, joined, holding_of, with_found-holding_of, with_copies-holding_of, joined-holding_of, Recordings, one_record, IsRecordReel, reel_is, reel_of}
+use Rattle.ffv1_hold.proofs.Common.{◌≡◌, ℕ, Result, Ok, Err, IfOk, OnOk, List, [], ◌∷◌, ◌++◌, sym, ap, ◌∙◌, subst, arith, IfOk-weaker, Reel, IsReelOf, AreNear, HoldsExactly, near_exact, AreShort, contents, IsKept, Contents, IsHolding, IsSameReel, with_found, with_copies, joined, holding_of, with_found-holding_of, with_copies-holding_of, joined-holding_of, Recordings, Profile, IsSetupOf, true, one_record, IsRecordReel, reel_is, reel_of}
+use Rattle.ffv1_range.proofs.ProfileLaws.{record_of_profile}
 use Rattle.ffv1_holding.specs.declared.holding.Holding.TheInside.{Inside}
 
 pub AreShort-both : (xs ys : List (List ℕ)) → AreShort xs → AreShort ys → AreShort (xs ++ ys)
@@ -33,6 +34,17 @@ pub one_reel : (recordings : Recordings) (config : List ℕ) (width height : ℕ
     → IsReelOf recordings config width height s → r ≡ s
 one_reel recordings config width height r s is also =
     is.2 ∙ ap (reel_of config) (one_record recordings config width height is.0 also.0 is.1 also.1) ∙ sym also.2
+
+-- the reel of a record of the profile
+module _ (config : List ℕ) (width height : ℕ) (reel : Reel) (is : IsReelOf Profile config width height reel) where
+  pub reel_config : reel.config ≡ config
+  reel_config = ap (λ (r : Reel). r.config) is.2
+
+  pub reel_setup : IsSetupOf config width height reel.setup
+  reel_setup = record { recording = is.0; record_of = is.1; is = ap (λ (r : Reel). r.setup) is.2 }
+
+  pub reel_profile : reel.rules.is_profile ≡ true
+  reel_profile = ap (λ (r : Reel). r.rules.is_profile) is.2 ∙ record_of_profile config width height is.0 is.1
 
 -- what is held of near copies is the original's slices, where a holding is returned that is exactly what the copies give
 pub near_of_meaning : {E : Type 0} (r : Result Contents E) (original : List ℕ) (slices copies : List (List ℕ))

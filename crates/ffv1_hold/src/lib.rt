@@ -33,7 +33,7 @@ pub use ffv1_holding::{
 pub use file_fault::HoldFileFault;
 pub use laws::{one_fault, one_read_limit, one_text, text_shows_no_fault};
 pub use merging::{join_streams, join_streams_of};
-pub use plan::{Plan, PlanFault, run, same_copies};
+pub use plan::{Plan, PlanFault, carry_out, run, same_copies};
 pub use reading::{read_hold, read_holding};
 pub use restoring::{Restoration, RestorationFault, restored};
 pub use saving::write_hold;

@@ -8,15 +8,15 @@ ghost use Rattle.ffv1_holding.specs.declared.fault.HoldFault.TheVariants.{Memory
 ghost use Rattle.ffv1_hold.specs.declared.plan.PlanFault.TheVariants.{Hold, File};
 ghost use Rattle.ffv1_hold.specs.Saving.{IsTooLong};
 ghost use Rattle.ffv1_holding.specs.Originals.{AreNear, HoldsExactly};
-ghost use Rattle.ffv1_hold.specs.Plans.{copies_of, IsPlanFault, IsFaultOfCopy, IsFaultOfCopies, IsRereadFault, RereadsFit};
-ghost use Rattle.ffv1_hold.specs.Headline.{SameCopiesAreEqual};
+ghost use Rattle.ffv1_hold.specs.Plans.{copies_of, IsPlanFault, IsFirstPlanFault, IsFaultOfCopy, IsFaultOfCopies, IsRereadFault, RereadsFit};
+ghost use Rattle.ffv1_hold.specs.Headline.{IsReelOf, SameCopiesAreEqual};
 
 use crate::file_fault::HoldFileFault;
-use crate::reading::read_hold;
+use crate::reading::read_holding;
 use crate::saving::write_hold;
 use ffv1_devices::{FromRead, FromWrite};
-use ffv1_holding::{HoldFault, Holding, Join, TakeAllFault};
-use ffv1_range::SetupFault;
+use ffv1_holding::{HoldFault, Holding, Join, Recordings, TakeAllFault};
+use ffv1_range::{Recording, SetupFault};
 use std::alloc::Global;
 
 /// How a holding comes to be. Every step is carried out for one record and size.
@@ -89,8 +89,7 @@ impl From<HoldFileFault> for PlanFault {
     }
 }
 
-/// Carries a plan out. What is held then is exactly what is found in the plan's copies, however they are ordered, grouped
-/// or repeated. A refusal is that of the plan's first step that is refused, where all steps before it are carried out.
+/// Carries a plan out for a recording of the profile. It is `carry_out` of such recordings.
 ///
 /// `config` is the configuration record, `width` and `height` the frames' size in samples. Returns `Setup` with the record's first fault,
 /// `Hold` if a copy has more than 2^30 bytes, `File` if a holding that is reread has no file; each also
@@ -116,26 +115,64 @@ pub fn run(
     ensures fits { IfOk result (λ h. RereadsFit h.reel plan.now) }
     ensures fault { IfErr result (IsPlanFault config.now width height plan.now) }
 {
+    let holding = carry_out(alloc, Recordings::Profile, plan, config, width, height)?;
+    match holding.into_profile() {
+        Ok(holding) => Ok(holding),
+        // No other record is read.
+        Err(_) => Err(PlanFault::Setup(SetupFault::Memory)),
+    }
+}
+
+/// Carries a plan out for one of these recordings. What is held then is exactly what is found in the plan's copies, however they are
+/// ordered, grouped or repeated. A refusal is that of the plan's first step that is refused, where all steps before it are carried out.
+///
+/// `config` is the configuration record, `width` and `height` the frames' size in samples. Returns `Setup` with the record's first fault,
+/// `Hold` if a copy has more than 2^30 bytes, `File` if a holding that is reread has no file; each also
+/// because memory ran out.
+pub fn carry_out(
+    alloc: Global,
+    recordings: Recordings,
+    plan: &Plan<'_>,
+    config: &[u8],
+    width: u32,
+    height: u32,
+) -> Result<Holding<Recording>, PlanFault>
+    ensures reel { IfOk result (λ h. IsReelOf recordings config.now width height h.reel) }
+    ensures meaning { IfOk result (λ h. h ≡ holding_of h.reel (copies_of plan.now)) }
+    ensures well_formed { IfOk result IsHolding }
+
+    // Where the plan's copies are near an original, with each of its slices intact in one of them, exactly its slices are held.
+    ensures near { (original : List ℕ) (slices : List (List ℕ)) → IfOk result (λ h. AreNear h.reel.rules original slices (copies_of plan.now)
+        → HoldsExactly h slices) }
+
+    ensures short { OnOk result (AreShort (copies_of plan.now)) }
+    ensures fits { IfOk result (λ h. RereadsFit h.reel plan.now) }
+    ensures fault { IfErr result (IsFirstPlanFault recordings config.now width height plan.now) }
+{
     match plan {
-        Plan::New => Ok(Holding::new(alloc, config, width, height)?),
-        Plan::Take(before, copy) => with_copy(run(alloc, before, config, width, height)?, copy),
-        Plan::TakeAll(before, copies) => {
-            with_all_copies(run(alloc, before, config, width, height)?, copies)
-        }
+        Plan::New => Ok(Holding::of_record(alloc, recordings, config, width, height)?),
+        Plan::Take(before, copy) => with_copy(
+            carry_out(alloc, recordings, before, config, width, height)?,
+            copy,
+        ),
+        Plan::TakeAll(before, copies) => with_all_copies(
+            carry_out(alloc, recordings, before, config, width, height)?,
+            copies,
+        ),
         Plan::Join(left, right) => {
-            let holding = run(alloc, left, config, width, height)?;
-            let other = run(alloc, right, config, width, height)?;
+            let holding = carry_out(alloc, recordings, left, config, width, height)?;
+            let other = carry_out(alloc, recordings, right, config, width, height)?;
             union_of(holding, other)
         }
         Plan::Reread(before) => {
-            let holding = run(alloc, before, config, width, height)?;
+            let holding = carry_out(alloc, recordings, before, config, width, height)?;
             through_file(alloc, holding)
         }
     }
 }
 
 /// Takes a copy into a holding.
-fn with_copy(holding: Holding, copy: &[u8]) -> Result<Holding, PlanFault>
+fn with_copy(holding: Holding<Recording>, copy: &[u8]) -> Result<Holding<Recording>, PlanFault>
     ensures ok { IfOk result (λ h. h ≡ with_found holding copy.now) }
     ensures well_formed { IfOk result IsHolding }
     ensures short { OnOk result (AreShort (copy.now ∷ [])) }
@@ -147,7 +184,10 @@ fn with_copy(holding: Holding, copy: &[u8]) -> Result<Holding, PlanFault>
 }
 
 /// Takes many copies into a holding, one after the other.
-fn with_all_copies(holding: Holding, copies: &[&[u8]]) -> Result<Holding, PlanFault>
+fn with_all_copies(
+    holding: Holding<Recording>,
+    copies: &[&[u8]],
+) -> Result<Holding<Recording>, PlanFault>
     ensures ok { IfOk result (λ h. h ≡ with_copies holding (map (λ copy. copy.now) copies.now)) }
     ensures well_formed { IfOk result IsHolding }
     ensures short { OnOk result (AreShort (map (λ copy. copy.now) copies.now)) }
@@ -159,7 +199,10 @@ fn with_all_copies(holding: Holding, copies: &[&[u8]]) -> Result<Holding, PlanFa
 }
 
 /// Joins a holding of the same reel into a holding.
-fn union_of(holding: Holding, other: Holding) -> Result<Holding, PlanFault>
+fn union_of(
+    holding: Holding<Recording>,
+    other: Holding<Recording>,
+) -> Result<Holding<Recording>, PlanFault>
     requires { IsSameReel holding other }
     ensures ok { IfOk result (λ h. h ≡ joined holding other) }
     ensures well_formed { IfOk result IsHolding }
@@ -171,8 +214,9 @@ fn union_of(holding: Holding, other: Holding) -> Result<Holding, PlanFault>
 }
 
 /// What comes back of a holding that goes through a file: the same. It is let go as well where it does not come back.
-fn through_file(alloc: Global, holding: Holding) -> Result<Holding, PlanFault>
-    requires { IsHolding holding }
+fn through_file(alloc: Global, holding: Holding<Recording>) -> Result<Holding<Recording>, PlanFault>
+    requires well_formed { IsHolding holding }
+    requires of_record { IsRecordReel holding.reel }
     ensures same { IfOk result (λ h. h ≡ holding) }
     ensures fits { OnOk result (¬ IsTooLong holding) }
     ensures fault { IfErr result (λ fault. (cause : HoldFileFault) × (fault ≡ File cause) × IsRereadFault holding cause) }
@@ -182,14 +226,13 @@ fn through_file(alloc: Global, holding: Holding) -> Result<Holding, PlanFault>
 
 /// Writes a holding file to memory, and reads it again. Returns `TooLong` exactly if the holding has none; the only other
 /// refusal is `Memory`.
-fn reread(alloc: Global, holding: &Holding) -> Result<Holding, HoldFileFault>
-    requires { IsHolding holding.now }
+fn reread(alloc: Global, holding: &Holding<Recording>) -> Result<Holding<Recording>, HoldFileFault>
+    requires well_formed { IsHolding holding.now }
+    requires of_record { IsRecordReel holding.now.reel }
     ensures same { IfOk result (λ h. h ≡ holding.now) }
     ensures fits { OnOk result (¬ IsTooLong holding.now) }
     ensures fault { IfErr result (IsRereadFault holding.now) }
 {
-    // Its contract says that the recording is of the profile.
-    let _setup = holding.setup();
     let mut text = FromWrite::new(Vec::new(alloc));
     match write_hold(holding, &mut text) {
         Ok(()) => {}
@@ -198,7 +241,7 @@ fn reread(alloc: Global, holding: &Holding) -> Result<Holding, HoldFileFault>
         Err(_) => return Err(HoldFileFault::Memory),
     }
     let text = text.into_inner();
-    match read_hold(alloc, &mut FromRead::new(text.as_slice())) {
+    match read_holding(alloc, Recordings::Any, &mut FromRead::new(text.as_slice())) {
         Ok(read) => Ok(read),
         // The text of a holding shows no fault, and no other device than memory was read.
         Err(_) => Err(HoldFileFault::Memory),
