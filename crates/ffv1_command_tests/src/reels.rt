@@ -6,7 +6,7 @@ use ffv1_hold::{
 };
 use ffv1_holding::{Holding, Join, Recordings, Reel};
 use ffv1_range::{Recording, Scope, SetupFault, read_scoped, read_tile};
-use ffv1_test_frames::TWO_TILES;
+use ffv1_test_frames::{BLACK, TWO_TILES};
 use std::alloc::Global;
 
 /// The record of gray of two tiles, 2 x 1 samples, that is range-coded.
@@ -152,7 +152,7 @@ fn is_profile(alloc: Global, record: &[u8]) -> Option<bool> {
         return None;
     };
     match Reel::of_record(alloc, Recordings::Any, config, 2, 1) {
-        Ok(reel) => Some(reel.into_profile().is_ok()),
+        Ok(reel) => Some(reel.is_of_profile() && reel.into_profile().is_ok()),
         Err(_) => None,
     }
 }
@@ -172,4 +172,32 @@ fn reels_and_holdings_become_those_of_the_profile(rt: HostRuntime) {
     assert!(rt; is_profile(alloc, &CODED_TILES) == Some(false));
     assert!(rt; is_held_as_profile(alloc, &TWO_TILES) == Some(true));
     assert!(rt; is_held_as_profile(alloc, &CODED_TILES) == Some(false));
+}
+
+/// The slice of tile 0 with one sample 0, of a frame that is no keyframe.
+const BETWEEN: [u8; 11] = [0x7E, 0x76, 0x80, 0, 0, 3, 0, 0x45, 0xDC, 0xCC, 0x1E];
+
+/// How many slices of a copy are taken by the rules of a record of the profile, how many as of any frames, and whether the latter are all
+/// by those rules.
+fn slices_taken(alloc: Global, copy: &[u8]) -> Option<(usize, usize, bool)> {
+    let (Ok(mut own), Ok(other)) = (two_tiles(alloc), two_tiles(alloc)) else {
+        return None;
+    };
+    let mut any = other.into_any_frames();
+    let (Ok(ruled), Ok(taken)) = (own.take(copy), any.take(copy)) else {
+        return None;
+    };
+    let are_own = !any.reel().is_of_profile() && any.into_own_frames().is_ok();
+    Some((ruled.slices, taken.slices, are_own))
+}
+
+/// A holding of a record of the profile, without slices.
+fn two_tiles(alloc: Global) -> Result<Holding<Recording>, SetupFault> {
+    Holding::of_record(alloc, Recordings::Any, &TWO_TILES, 2, 1)
+}
+
+#[test]
+fn slices_between_keyframes_are_held_as_of_any_frames(rt: HostRuntime) {
+    assert!(rt; slices_taken(rt.alloc(), &BLACK) == Some((1, 1, true)));
+    assert!(rt; slices_taken(rt.alloc(), &BETWEEN) == Some((0, 1, false)));
 }

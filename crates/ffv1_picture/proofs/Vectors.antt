@@ -1,5 +1,5 @@
 -- The definitions, evaluated on worked frames.
-use Rattle.std.proofs.Common.{◌≡◌, ℕ, true, List, [], ◌∷◌, Some, None, refl}
+use Rattle.std.proofs.Common.{◌≡◌, ℕ, true, [], ◌∷◌, Some, None, refl}
 use Rattle.ffv1_range.specs.Tiles.{GridValue}
 use Rattle.ffv1_picture.specs.WholePicture.{Planes, greatest_sample, whole_plane, whole_picture}
 

@@ -1,4 +1,4 @@
-use Rattle.ffv1_hold.proofs.Common.{◌<◌, arith, ap, le_refl, ◌∙◌, err_from_is_err_and, Reel}
+use Rattle.ffv1_hold.proofs.Common.{◌<◌, arith, ap, le_refl, err_from_is_err_and, Reel}
 use Rattle.ffv1_hold.proofs.JoinSteps.{AllGoOn-trans, OneStops-after, wrote, sink_stops}
 use Rattle.ffv1_hold.proofs.MergeStarts.{full_stops, end_stops, union_written, union_within}
 use Rattle.ffv1_hold.proofs.merging.Merge.merge_after_heads.Goals as goal

@@ -1,4 +1,4 @@
-use Rattle.std.proofs.Common.{◌==◌, sym, subst}
+use Rattle.std.proofs.Common.{sym, subst}
 use Rattle.ffv1_slice.specs.Slices.{IsSliceOf}
 use Rattle.ffv1_holding.specs.Reels.{Reel}
 use Rattle.ffv1_holding.proofs.reel.Reel.read_slice.Goals as goal
