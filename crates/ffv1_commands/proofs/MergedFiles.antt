@@ -5,7 +5,6 @@ use Rattle.std.specs.Io.KnownBytes.{Consumes}
 use Rattle.std.proofs.KnownBytes.{Consumes-whole}
 use Rattle.ffv1_bits.specs.Limits.{file_limit}
 use Rattle.ffv1_holding.specs.Contents.{Contents, IsSameReel, joined}
-use Rattle.ffv1_holding.specs.Reels.{Reel}
 use Rattle.ffv1_hold.proofs.HeldEntries.{holding-joined}
 use Rattle.ffv1_hold.specs.HoldingText.{head_text, begun_text, file_text, holding_text}
 use Rattle.ffv1_hold.specs.declared.version.Version.TheVariants.{Second}
