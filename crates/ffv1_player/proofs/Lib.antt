@@ -15,3 +15,4 @@ pub mod OneShown
 pub mod ShownSlices
 pub mod ProfilePictures
 pub mod PlayedSlices
+pub mod PlanRestorations

@@ -10,5 +10,6 @@ pub mod ShownSlices
 pub mod PlayedSlices
 pub mod Profile
 pub mod ProfilePictures
+pub mod Restored
 pub mod Laws
 pub mod Inner
