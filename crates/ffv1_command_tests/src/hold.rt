@@ -3,9 +3,10 @@ use crate::failing::Input;
 use crate::picture::joined;
 use crate::streams::{Failing, has_failed_after, narrow_sink};
 use ffv1_hold::{
-    FromRead, FromWrite, HoldFileFault, Holding, Join, Plan, Source, read_hold, run, write_hold,
+    FromRead, FromWrite, HoldFileFault, Holding, Join, Plan, Recordings, Source, carry_out,
+    read_hold, run, write_hold,
 };
-use ffv1_range::SetupFault;
+use ffv1_range::{Recorded, SetupFault};
 use ffv1_test_frames::{BLACK, DARK, ONE_TILE};
 use std::alloc::{AllocError, Global};
 use std::io::ErrorKind;
@@ -41,7 +42,7 @@ pub(crate) const SECOND: [u8; 146] = [
 ];
 
 /// The file of a holding, if it is written.
-pub(crate) fn written(alloc: Global, holding: &Holding) -> Option<Vec<u8>> {
+pub(crate) fn written<S: Recorded>(alloc: Global, holding: &Holding<S>) -> Option<Vec<u8>> {
     let mut sink = FromWrite::new(Vec::new(alloc));
     match write_hold(holding, &mut sink) {
         Ok(()) => Some(sink.into_inner()),
@@ -55,7 +56,7 @@ pub(crate) fn read_back(alloc: Global, file: &[u8]) -> Result<Holding, HoldFileF
 }
 
 /// Whether a holding is written as this file.
-pub(crate) fn is_file_of(alloc: Global, holding: &Holding, file: &[u8]) -> bool {
+pub(crate) fn is_file_of<S: Recorded>(alloc: Global, holding: &Holding<S>, file: &[u8]) -> bool {
     match written(alloc, holding) {
         Some(bytes) => bytes.as_slice() == file,
         None => false,
@@ -63,7 +64,11 @@ pub(crate) fn is_file_of(alloc: Global, holding: &Holding, file: &[u8]) -> bool 
 }
 
 /// Whether a holding was made, and is written as this file.
-fn is_held_as<Fault: Copy>(alloc: Global, made: Result<Holding, Fault>, file: &[u8]) -> bool {
+fn is_held_as<S: Recorded, Fault: Copy>(
+    alloc: Global,
+    made: Result<Holding<S>, Fault>,
+    file: &[u8],
+) -> bool {
     match made {
         Ok(holding) => is_file_of(alloc, &holding, file),
         Err(_) => false,
@@ -271,7 +276,11 @@ fn through_a_file<'a>(alloc: Global, copies: &'a [&'a [u8]]) -> Result<Plan<'a>,
 /// Whether what a plan for frames of one sample makes is the holding of this file.
 fn makes(alloc: Global, plan: Result<Plan<'_>, AllocError>, file: &[u8]) -> bool {
     match plan {
-        Ok(plan) => is_held_as(alloc, run(alloc, &plan, &ONE_TILE, 1, 1), file),
+        Ok(plan) => {
+            let any = carry_out(alloc, Recordings::Any, &plan, &ONE_TILE, 1, 1);
+            is_held_as(alloc, run(alloc, &plan, &ONE_TILE, 1, 1), file)
+                && is_held_as(alloc, any, file)
+        }
         Err(_) => false,
     }
 }

@@ -18,3 +18,4 @@ pub mod PlayedSlices
 pub mod Turns
 pub mod PlaySteps
 pub mod LineSteps
+pub mod PlanRestorations

@@ -13,6 +13,7 @@ pub mod ShownSlices
 pub mod PlayedSlices
 pub mod Profile
 pub mod ProfilePictures
+pub mod Restored
 pub mod Laws
 pub mod Inner
 -- what the clauses cite of the crates below

@@ -8,6 +8,7 @@ mod fault;
 mod frame_lines;
 mod player;
 mod playing;
+mod restored;
 mod samples;
 mod shown;
 mod write;
@@ -15,6 +16,7 @@ mod write;
 pub use fault::{ContentFault, SamplesFault};
 pub use player::{Player, frame_is_played, played_frames_are_one};
 pub use playing::{PlayFault, play_frames};
+pub use restored::{AnyRestoration, any_restored};
 pub use samples::{Samples, SliceEnd, count_of_planes, frame_in, rect_in};
 pub use shown::{
     Shown, ShownTile, keyframe_is_shown, profile_is_shown_alike, show_holding,

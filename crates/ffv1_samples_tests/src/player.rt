@@ -1,5 +1,6 @@
 //! Frames decoded one after the other.
-use ffv1_player::{ContentFault, Player, SamplesFault};
+use ffv1_hold::{Plan, Recordings};
+use ffv1_player::{ContentFault, Player, SamplesFault, any_restored};
 use std::test::Fail;
 
 /// The record of gray, range-coded.
@@ -21,6 +22,19 @@ pub(crate) const NEXT: [u8; 12] = [
 pub(crate) const CUT: [u8; 11] = [
     0xFC, 0x16, 0x05, 0x00, 0x00, 0x03, 0x00, 0x2A, 0x08, 0x8A, 0x80,
 ];
+
+#[test]
+fn keyframe_of_any_recording_is_restored(rt: HostRuntime) -> Result<(), Fail> {
+    let copies: [&[u8]; 1] = [&KEYFRAME];
+    let plan = Plan::TakeAll(Box::new(rt.alloc(), Plan::New)?, &copies);
+    let restored = any_restored(rt.alloc(), Recordings::Any, &plan, &GRAY, 2, 1);
+    let restored = restored.ok().ok_or("not restored")?;
+    let payload = restored.payload.ok().ok_or("no payload")?;
+    let plane = restored.shown.samples.planes.first().ok_or("no plane")?;
+    assert_eq!(rt; payload.as_slice(), KEYFRAME.as_slice());
+    assert_eq!(rt; plane.as_slice(), [9, 9].as_slice());
+    Ok(())
+}
 
 #[test]
 fn frame_goes_on_from_the_one_before(rt: HostRuntime) -> Result<(), Fail> {
