@@ -13,7 +13,7 @@ use Rattle.ffv1_holding.specs.declared.recordings.Recordings.TheVariants.{Profil
 use Rattle.ffv1_range.proofs.SetupLaws.{record_is_one, profile_has_parities, parities_are_wider}
 use Rattle.ffv1_range.proofs.ProfileLaws.{profile_record, record_of_profile, rules_of_profile}
 use Rattle.ffv1_holding.specs.Recordings.{scope_of}
-use Rattle.ffv1_holding.specs.Reels.{Reel, IsRecordReel, IsOwnReel, IsReel, IsRecordingFor, reel_of, reel_tiles, in_frames, are_ruled}
+use Rattle.ffv1_holding.specs.Reels.{Reel, IsRecordReel, IsOwnReel, IsReel, IsRecordingFor, reel_of, reel_tiles, in_frames}
 
 -- a record has the size for which it is read
 recording_size : (config : List ℕ) (width height : ℕ) (r : RecordingValue) → IsScopedRecord config Parities width height r
@@ -113,11 +113,6 @@ same_in_frames a b is also config width height profile =
     let asked : asks_keyframes is.1.1.0 is.0.rules.is_profile ≡ asks_keyframes also.1.1.0 is.0.rules.is_profile =
     ap (λ (r : Reel). r.rules.is_profile) (sym is.1.1.1) ∙ profile ∙ ap (λ (r : Reel). r.rules.is_profile) moved in
     is.1.1.1 ∙ same_frames is.0 is.1.1.0 also.1.1.0 asked ∙ sym moved
-
--- frames that the rules allow are those of the rules
-pub ruled_frames : (frames : Frames) (r : Reel) → are_ruled frames ≡ true → in_frames frames r ≡ r
-ruled_frames Ruled r ruled = refl
-ruled_frames Any r ruled = absurd (true≢false (sym ruled))
 
 -- the rules are those of the setup's grid
 pub reel_limits : (r : Reel) → IsReel r → r.rules.limits ≡ header_limits r.setup

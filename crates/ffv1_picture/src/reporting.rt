@@ -1,5 +1,5 @@
 //! The damage report of a holding (own; error_status is that of RFC 9043, section 4.9.2).
-ghost use Rattle.std.specs.Prelude.{◌≡◌, ◌++◌, ◌<◌, ◌≤◌, length, IfOk, OnOk, string_bytes};
+ghost use Rattle.std.specs.Prelude.{◌≡◌, ◌==◌, ◌++◌, ◌<◌, ◌≤◌, length, IfOk, OnOk, string_bytes};
 ghost use Rattle.std.specs.List.{flat_map, range_with_len};
 ghost use Rattle.sha2.specs.Sha256.{sha256};
 ghost use Rattle.ffv1_holding.specs.Reels.{reel_tiles};
@@ -8,7 +8,7 @@ ghost use Rattle.ffv1_holding.specs.TileState.{status_of, tile_state, restored_p
 ghost use Rattle.ffv1_picture.specs.ReportText.{hex_byte, reel_line, slices_held, least_status, settled_numbers, settled_words, disputed_words, tile_words, tile_line, origin_line, origin_lines, tile_lines, is_missing, is_settled, is_disputed, tiles_that, count_words, length_words, whole_words, frame_line, report_text};
 
 use ffv1_hold::{Holding, TileState};
-use ffv1_range::Recorded;
+use ffv1_holding::Framed;
 use ffv1_slice::status_of;
 use sha2::{Digest, Sha256};
 use std::alloc::{AllocError, Global};
@@ -19,7 +19,7 @@ use std::alloc::{AllocError, Global};
 ///
 /// It fails where memory is refused.
 #[tactic(auto, unfolding(crate::specs::ReportText::report_text))]
-pub fn report<S: Recorded>(alloc: Global, holding: &Holding<S>) -> Result<String, AllocError>
+pub fn report<S: Framed>(alloc: Global, holding: &Holding<S>) -> Result<String, AllocError>
     ensures { IfOk result (λ text. string_bytes text ≡ report_text holding.now) }
 {
     let mut text = String::new(alloc);
@@ -32,7 +32,7 @@ pub fn report<S: Recorded>(alloc: Global, holding: &Holding<S>) -> Result<String
 }
 
 /// Adds the line of the recording.
-fn push_reel<S: Recorded>(text: &mut String, holding: &Holding<S>) -> Result<(), AllocError>
+fn push_reel<S: Framed>(text: &mut String, holding: &Holding<S>) -> Result<(), AllocError>
     ensures { OnOk result (string_bytes text.new ≡ string_bytes text.old ++ reel_line holding.now) }
 {
     let reel = holding.reel();
@@ -42,7 +42,7 @@ fn push_reel<S: Recorded>(text: &mut String, holding: &Holding<S>) -> Result<(),
 }
 
 /// Adds the lines of the tiles.
-fn push_tiles<S: Recorded>(text: &mut String, holding: &Holding<S>) -> Result<(), AllocError>
+fn push_tiles<S: Framed>(text: &mut String, holding: &Holding<S>) -> Result<(), AllocError>
     ensures { OnOk result (string_bytes text.new
         ≡ string_bytes text.old ++ flat_map (tile_lines holding.now) (range_with_len 0 (reel_tiles holding.now.reel))) }
 {
@@ -53,7 +53,7 @@ fn push_tiles<S: Recorded>(text: &mut String, holding: &Holding<S>) -> Result<()
 }
 
 /// Adds the line of a tile, and those of the copies that gave its slice.
-fn push_tile_lines<S: Recorded>(
+fn push_tile_lines<S: Framed>(
     text: &mut String,
     holding: &Holding<S>,
     tile: usize,
@@ -66,7 +66,7 @@ fn push_tile_lines<S: Recorded>(
 }
 
 /// Adds the line of a tile.
-fn push_tile<S: Recorded>(
+fn push_tile<S: Framed>(
     text: &mut String,
     holding: &Holding<S>,
     tile: usize,
@@ -80,7 +80,7 @@ fn push_tile<S: Recorded>(
 }
 
 /// Adds the lines of the copies that gave a tile's slice, where it is settled.
-fn push_origins<S: Recorded>(
+fn push_origins<S: Framed>(
     text: &mut String,
     holding: &Holding<S>,
     tile: usize,
@@ -112,7 +112,7 @@ fn push_origin(text: &mut String, tile: usize, digest: &[u8; 32]) -> Result<(), 
 }
 
 /// Adds how a tile stands.
-fn push_state<S: Recorded>(
+fn push_state<S: Framed>(
     text: &mut String,
     holding: &Holding<S>,
     tile: usize,
@@ -167,7 +167,7 @@ fn push_disputed(
 }
 
 /// The least error status of the slices that are held of a tile.
-fn least_status<S: Recorded>(holding: &Holding<S>, tile: usize) -> u8
+fn least_status<S: Framed>(holding: &Holding<S>, tile: usize) -> u8
     requires { tile < reel_tiles holding.now.reel }
     ensures { result ≡ least_status (slices_held holding.now tile) }
 {
@@ -200,7 +200,7 @@ struct Counts {
 }
 
 /// Counts the tiles of a holding.
-fn counts_of<S: Recorded>(holding: &Holding<S>) -> Counts
+fn counts_of<S: Framed>(holding: &Holding<S>) -> Counts
     ensures settled { result.settled ≡ tiles_that is_settled holding.now }
     ensures disputed { result.disputed ≡ tiles_that is_disputed holding.now }
     ensures missing { result.missing ≡ tiles_that is_missing holding.now }
@@ -232,7 +232,7 @@ fn push_counts(text: &mut String, counts: &Counts) -> Result<(), AllocError>
 }
 
 /// Adds the line of the whole frame, where so many tiles are settled.
-fn push_frame<S: Recorded>(
+fn push_frame<S: Framed>(
     text: &mut String,
     holding: &Holding<S>,
     settled: usize,
@@ -240,15 +240,22 @@ fn push_frame<S: Recorded>(
     requires { settled ≡ tiles_that is_settled holding.now }
     ensures { OnOk result (string_bytes text.new ≡ string_bytes text.old ++ frame_line holding.now) }
 {
-    if settled == holding.reel().tiles() {
+    if are_all(holding, settled) {
         push_whole(text, holding)
     } else {
         text.push_str("frame incomplete\n")
     }
 }
 
+/// Whether so many tiles are all.
+fn are_all<S: Framed>(holding: &Holding<S>, tiles: usize) -> bool
+    ensures { result ≡ (tiles == reel_tiles holding.now.reel) }
+{
+    tiles == holding.reel().tiles()
+}
+
 /// Adds the length and the digest of the settled slices, joined in tile order.
-fn push_whole<S: Recorded>(text: &mut String, holding: &Holding<S>) -> Result<(), AllocError>
+fn push_whole<S: Framed>(text: &mut String, holding: &Holding<S>) -> Result<(), AllocError>
     ensures { OnOk result (string_bytes text.new ≡ string_bytes text.old ++ whole_words (restored_payload holding.now)) }
 {
     let (bytes, digest) = measure(holding);
@@ -265,7 +272,7 @@ fn push_length(text: &mut String, bytes: usize) -> Result<(), AllocError>
 }
 
 /// The length and the digest of the settled slices, joined in tile order.
-fn measure<S: Recorded>(holding: &Holding<S>) -> (usize, [u8; 32])
+fn measure<S: Framed>(holding: &Holding<S>) -> (usize, [u8; 32])
     ensures bytes { result.0 ≡ length (restored_payload holding.now) }
     ensures digest { result.1 ≡ sha256 (restored_payload holding.now) }
 {

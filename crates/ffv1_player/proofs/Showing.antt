@@ -37,12 +37,17 @@ use Rattle.ffv1_player.proofs.Sizes.{are_frame_planes}
 
 -- what the record of a reel says has the reel's setup
 pub reel_recording : (reel : Reel) → IsReel reel → (r : RecordingValue) → SaysRecording reel r → IsRecordingOfReel reel r
-reel_recording reel is r says = record {
-  says = says;
-  setup =
-      ap (λ (z : RecordingValue). z.setup) (record_is_one reel.config Parities reel.setup.width reel.setup.height r is.0 says is.1)
-      ∙ ap (λ (z : Reel). z.setup) (sym is.2);
-}
+reel_recording reel is r says =
+    let own = is.0 in
+    let of = is.1.0 in
+    let frames = is.1.1.1 in
+    let moved : SaysRecording own r = subst (λ (z : Reel). SaysRecording z r) frames says in
+    record {
+      says = says;
+      setup =
+          ap (λ (z : RecordingValue). z.setup) (record_is_one own.config Parities own.setup.width own.setup.height r of.0 moved of.1)
+          ∙ ap (λ (z : Reel). z.setup) (sym of.2) ∙ ap (λ (z : Reel). z.setup) (sym frames);
+    }
 
 pub record_at : (reel : Reel) (config : List ℕ) (width height : ℕ) (r : RecordingValue) → config ≡ reel.config → width ≡ reel.setup.width
     → height ≡ reel.setup.height → IsScopedRecord config Parities width height r → SaysRecording reel r

@@ -14,8 +14,8 @@ ghost use Rattle.ffv1_player.specs.Inner.Drawing.{AreFramePlanes, AreSlicePlanes
 ghost use Rattle.ffv1_player.specs.Inner.Showing.{HeadSaysNoKeyframe, IsRecordingOfReel, Adds, ShowsSlice, ShowsOneTile};
 
 use crate::samples::{Samples, SliceEnd, blank_planes, draw_picture};
-use ffv1_holding::{Holding, TileState};
-use ffv1_range::{Recorded, Recording, Scope, read_scoped, read_slice_head};
+use ffv1_holding::{Framed, Holding, TileState};
+use ffv1_range::{Recording, Scope, read_scoped, read_slice_head};
 use ffv1_samples::{SliceFault, SlicePicture, decode_slice};
 use ffv1_slice::content_of;
 use std::alloc::{AllocError, Global};
@@ -53,7 +53,7 @@ pub enum ShownTile {
 /// those of a keyframe, and `is_key_known` is false.
 ///
 /// It fails where memory is refused. A frame takes 2 bytes a sample, and besides what `decode_slice` takes for one slice at a time.
-pub fn show_holding<S: Recorded>(alloc: Global, holding: &Holding<S>) -> Result<Shown, AllocError>
+pub fn show_holding<S: Framed>(alloc: Global, holding: &Holding<S>) -> Result<Shown, AllocError>
     ensures shown { IfOk result (ShowsHolding holding.now) }
 
     // The samples are those of the pictures that the settled slices have, and of no others.
@@ -82,7 +82,7 @@ pub fn keyframe_is_shown()
 {}
 
 /// What can be shown of a holding, by what its record says.
-fn show_tiles<S: Recorded>(
+fn show_tiles<S: Framed>(
     alloc: Global,
     recording: &Recording,
     holding: &Holding<S>,
@@ -106,7 +106,7 @@ fn show_tiles<S: Recorded>(
 }
 
 /// What the record of a holding says, which was read before: the only refusal is Memory.
-fn recording_of<S: Recorded>(alloc: Global, holding: &Holding<S>) -> Result<Recording, AllocError>
+fn recording_of<S: Framed>(alloc: Global, holding: &Holding<S>) -> Result<Recording, AllocError>
     ensures { IfOk result (IsRecordingOfReel holding.now.reel) }
 {
     let reel = holding.reel();
@@ -118,7 +118,7 @@ fn recording_of<S: Recorded>(alloc: Global, holding: &Holding<S>) -> Result<Reco
 }
 
 /// Whether the frame may be a keyframe: unless the settled slice of tile 0 says that it is none.
-fn may_be_keyframe<S: Recorded>(recording: &Recording, holding: &Holding<S>) -> bool
+fn may_be_keyframe<S: Framed>(recording: &Recording, holding: &Holding<S>) -> bool
     requires { IsRecordingOfReel holding.now.reel recording.now }
     ensures { MayBeKeyframe recording.now holding.now result }
 {
@@ -132,7 +132,7 @@ fn may_be_keyframe<S: Recorded>(recording: &Recording, holding: &Holding<S>) -> 
 }
 
 /// Whether it is known if the frame is a keyframe: by the settled slice of tile 0, or as the record says that each frame is one.
-fn is_key_known<S: Recorded>(recording: &Recording, holding: &Holding<S>) -> bool
+fn is_key_known<S: Framed>(recording: &Recording, holding: &Holding<S>) -> bool
     requires { IsRecordingOfReel holding.now.reel recording.now }
     ensures { result ≡ is_key_known recording.now (tile_state holding.now 0) }
 {
@@ -178,7 +178,7 @@ fn blank_samples(
 }
 
 /// Draws the picture of a tile's settled slice, if it has one, and returns how the tile came out.
-fn show_tile<S: Recorded>(
+fn show_tile<S: Framed>(
     alloc: Global,
     recording: &Recording,
     holding: &Holding<S>,

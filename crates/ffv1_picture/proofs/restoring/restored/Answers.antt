@@ -18,7 +18,7 @@ returns-in_err-holding-clause-fault c =
 of_plan : (c : In_ok-holding) → IsReelOf Profile c.args.config.now c.args.width c.args.height c.in_ok-holding.holding.reel
 of_plan c =
     let e = c.in_ok-holding.ensures in
-    setup_reel_of c.args.config.now c.args.width c.args.height c.in_ok-holding.holding.reel e.well_formed.reel e.config e.setup
+    setup_reel_of c.args.config.now c.args.width c.args.height c.in_ok-holding.holding.reel e.of_record e.config e.setup
 
 -- the plan was carried out
 carried : (c : In_ok-holding) → IsCarriedOut c.args.config.now c.args.width c.args.height c.args.plan.now
