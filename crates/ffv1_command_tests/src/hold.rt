@@ -6,7 +6,8 @@ use ffv1_hold::{
     FromRead, FromWrite, HoldFileFault, Holding, Join, Plan, Recordings, Source, carry_out,
     read_hold, run, write_hold,
 };
-use ffv1_range::{Recorded, SetupFault};
+use ffv1_holding::Framed;
+use ffv1_range::SetupFault;
 use ffv1_test_frames::{BLACK, DARK, ONE_TILE};
 use std::alloc::{AllocError, Global};
 use std::io::ErrorKind;
@@ -42,7 +43,7 @@ pub(crate) const SECOND: [u8; 146] = [
 ];
 
 /// The file of a holding, if it is written.
-pub(crate) fn written<S: Recorded>(alloc: Global, holding: &Holding<S>) -> Option<Vec<u8>> {
+pub(crate) fn written<S: Framed>(alloc: Global, holding: &Holding<S>) -> Option<Vec<u8>> {
     let mut sink = FromWrite::new(Vec::new(alloc));
     match write_hold(holding, &mut sink) {
         Ok(()) => Some(sink.into_inner()),
@@ -56,7 +57,7 @@ pub(crate) fn read_back(alloc: Global, file: &[u8]) -> Result<Holding, HoldFileF
 }
 
 /// Whether a holding is written as this file.
-pub(crate) fn is_file_of<S: Recorded>(alloc: Global, holding: &Holding<S>, file: &[u8]) -> bool {
+pub(crate) fn is_file_of<S: Framed>(alloc: Global, holding: &Holding<S>, file: &[u8]) -> bool {
     match written(alloc, holding) {
         Some(bytes) => bytes.as_slice() == file,
         None => false,
@@ -64,7 +65,7 @@ pub(crate) fn is_file_of<S: Recorded>(alloc: Global, holding: &Holding<S>, file:
 }
 
 /// Whether a holding was made, and is written as this file.
-fn is_held_as<S: Recorded, Fault: Copy>(
+fn is_held_as<S: Framed, Fault: Copy>(
     alloc: Global,
     made: Result<Holding<S>, Fault>,
     file: &[u8],
