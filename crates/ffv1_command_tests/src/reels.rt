@@ -4,7 +4,7 @@ use ffv1_hold::{
     FromRead, FromWrite, HoldFileFault, join_streams, join_streams_of, read_hold, read_holding,
     write_hold,
 };
-use ffv1_holding::{Holding, Join, Recordings, Reel};
+use ffv1_holding::{HoldFault, Holding, Join, Recordings, Reel};
 use ffv1_range::{Recording, Scope, SetupFault, read_scoped, read_tile};
 use ffv1_test_frames::{BLACK, TWO_TILES};
 use std::alloc::Global;
@@ -152,7 +152,7 @@ fn is_profile(alloc: Global, record: &[u8]) -> Option<bool> {
         return None;
     };
     match Reel::of_record(alloc, Recordings::Any, config, 2, 1) {
-        Ok(reel) => Some(reel.is_of_profile() && reel.into_profile().is_ok()),
+        Ok(reel) => Some(reel.into_profile().is_ok()),
         Err(_) => None,
     }
 }
@@ -174,30 +174,75 @@ fn reels_and_holdings_become_those_of_the_profile(rt: HostRuntime) {
     assert!(rt; is_held_as_profile(alloc, &CODED_TILES) == Some(false));
 }
 
-/// The slice of tile 0 with one sample 0, of a frame that is no keyframe.
+/// A slice of tile 0 of the recording of the profile, the first of its payload, with keyframe bit 0.
 const BETWEEN: [u8; 11] = [0x7E, 0x76, 0x80, 0, 0, 3, 0, 0x45, 0xDC, 0xCC, 0x1E];
 
-/// How many slices of a copy are taken by the rules of a record of the profile, how many as of any frames, and whether the latter are all
-/// by those rules.
-fn slices_taken(alloc: Global, copy: &[u8]) -> Option<(usize, usize, bool)> {
-    let (Ok(mut own), Ok(other)) = (two_tiles(alloc), two_tiles(alloc)) else {
-        return None;
-    };
-    let mut any = other.into_any_frames();
-    let (Ok(ruled), Ok(taken)) = (own.take(copy), any.take(copy)) else {
-        return None;
-    };
-    let are_own = !any.reel().is_of_profile() && any.into_own_frames().is_ok();
-    Some((ruled.slices, taken.slices, are_own))
-}
-
-/// A holding of a record of the profile, without slices.
-fn two_tiles(alloc: Global) -> Result<Holding<Recording>, SetupFault> {
+/// A holding of the recording of the profile, without slices.
+fn of_two_tiles(alloc: Global) -> Result<Holding<Recording>, SetupFault> {
     Holding::of_record(alloc, Recordings::Any, &TWO_TILES, 2, 1)
 }
 
+/// How many slices are taken of a copy in any frames, whether they are called those of the profile, and whether they are held by the
+/// record's own rules.
+fn taken_in_any_frames(alloc: Global, copy: &[u8]) -> Option<(usize, bool, bool)> {
+    let Ok(holding) = of_two_tiles(alloc) else {
+        return None;
+    };
+    let mut holding = holding.into_any_frames();
+    let is_of_profile = holding.reel().is_of_profile();
+    match holding.take(copy) {
+        Ok(taken) => Some((
+            taken.slices,
+            is_of_profile,
+            holding.into_own_frames().is_ok(),
+        )),
+        Err(_) => None,
+    }
+}
+
 #[test]
-fn slices_between_keyframes_are_held_as_of_any_frames(rt: HostRuntime) {
-    assert!(rt; slices_taken(rt.alloc(), &BLACK) == Some((1, 1, true)));
-    assert!(rt; slices_taken(rt.alloc(), &BETWEEN) == Some((0, 1, false)));
+fn slices_of_frames_that_are_no_keyframes_are_held(rt: HostRuntime) {
+    assert!(rt; taken_in_any_frames(rt.alloc(), &BETWEEN) == Some((1, false, false)));
+    assert!(rt; taken_in_any_frames(rt.alloc(), &BLACK) == Some((1, false, true)));
+}
+
+/// What joining a holding of any frames into one of the record's own returns, and then the other way round.
+fn join_of_other_frames(
+    alloc: Global,
+) -> Option<(Result<usize, HoldFault>, Result<usize, HoldFault>)> {
+    let (Ok(mut own), Ok(other)) = (of_two_tiles(alloc), of_two_tiles(alloc)) else {
+        return None;
+    };
+    let mut other = other.into_any_frames();
+    Some((own.join_with(&other), other.join_with(&own)))
+}
+
+#[test]
+fn holdings_of_other_frames_are_not_joined(rt: HostRuntime) {
+    let refused = Err(HoldFault::OtherReel);
+    assert!(rt; join_of_other_frames(rt.alloc()) == Some((refused, refused)));
+}
+
+/// Whether a reel is of the profile in the record's own frames, in any, and in its own again.
+fn profile_by_frames(alloc: Global) -> Option<(bool, bool, bool)> {
+    let Ok(config) = Vec::from_slice(alloc, &TWO_TILES) else {
+        return None;
+    };
+    let Ok(reel) = Reel::of_record(alloc, Recordings::Any, config, 2, 1) else {
+        return None;
+    };
+    let own = reel.is_of_profile();
+    let reel = reel.into_any_frames();
+    let any = reel.is_of_profile() || reel.read_slice(&BETWEEN, true) != Ok(0);
+    let reel = reel.into_own_frames();
+    Some((
+        own,
+        any,
+        reel.is_of_profile() && reel.read_slice(&BETWEEN, true).is_err(),
+    ))
+}
+
+#[test]
+fn reels_are_of_any_frames_and_of_their_own_again(rt: HostRuntime) {
+    assert!(rt; profile_by_frames(rt.alloc()) == Some((true, false, true)));
 }
