@@ -18,7 +18,7 @@ use Rattle.ffv1_plane.proofs.Pictures.{one_reading_is}
 use Rattle.ffv1_holding.specs.Reels.{Reel, reel_tiles}
 use Rattle.ffv1_holding.specs.Contents.{Contents, IsHolding}
 use Rattle.ffv1_holding.specs.TileState.{StateOfTile, missing, settled, disputed, tile_state}
-use Rattle.ffv1_holding.proofs.Reels.{profile_reel}
+use Rattle.ffv1_holding.proofs.Reels.{profile_reel, profile_record_reel}
 use Rattle.ffv1_samples.specs.Slices.{SlicePictureValue, IsSlicePicture}
 use Rattle.ffv1_samples.specs.Profile.{IsSliceOfTile}
 use Rattle.ffv1_samples.proofs.OnePicture.{one_header}
@@ -115,8 +115,8 @@ module _ (h : Contents) (is : IsHolding h) (profile : h.reel.rules.is_profile �
 
   rules_are : h.reel.rules ≡ rules_of r
   rules_are =
-      ap (λ (reel : Reel). reel.rules) is.reel.2
-      ∙ ap rules_of (record_is_one h.reel.config Parities setup.width setup.height is.reel.0 r is.reel.1 says)
+      let own = profile_record_reel h.reel is.reel profile in
+      ap (λ (reel : Reel). reel.rules) own.2 ∙ ap rules_of (record_is_one h.reel.config Parities setup.width setup.height own.0 r own.1 says)
 
   keys : (rules_of r).is_profile ≡ true
   keys = ap (λ (rules : TileRules). rules.is_profile) (sym rules_are) ∙ profile

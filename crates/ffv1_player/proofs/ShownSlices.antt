@@ -21,8 +21,11 @@ module _ (h : Contents) (original : List ℕ) (slices : List (List ℕ)) (reel :
 
   some : 0 < length slices
   some =
-      let version = record_in_version_3 h.reel.config Parities h.reel.setup.width h.reel.setup.height reel.0 reel.1 in
-      omega (arith, count, some_tile h.reel reel.0 version (sym (ap (λ (z : Reel). z.setup) reel.2)))
+      let own = reel.0 in
+      let of = reel.1.0 in
+      let version = record_in_version_3 own.config Parities own.setup.width own.setup.height of.0 of.1 in
+      let setup = ap (λ (z : Reel). z.setup) reel.1.1.1 ∙ ap (λ (z : Reel). z.setup) of.2 in
+      omega (arith, count, some_tile h.reel of.0 version (sym setup))
 
   stands : (tile : ℕ) → tile < length slices → tile_state h tile ≡ settled (get_or slices tile [])
   stands tile less = settled_alone h slices exact tile [] less
