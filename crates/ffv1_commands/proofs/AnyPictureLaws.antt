@@ -135,7 +135,7 @@ pictures_are_alike file one other pb pa mb ma whole all are a b =
     let same : b.held ≡ a.held = one_text b.held a.held file b.file.well_formed a.file.well_formed b.file.fits.record' a.file.fits.record'
     (b.file.version, b.file.fits.stated, b.file.text) (a.file.version, a.file.fits.stated, a.file.text) in
     let shown = subst (λ (h : Contents). ShowsHolding h b.shown) same b.picture in
-    let alike = profile_is_shown_alike a.held a.shown b.shown a.file.well_formed a.file.taken a.picture shown in
+    let alike = profile_is_shown_alike a.held a.shown b.shown a.file.well_formed a.file.taken.0 a.picture shown in
     let raw : one ≡ flat_map (λ plane. plane) (planes_of a.shown.frame) = a.samples ∙ raw_planes a.shown.frame.planes.items in
     let bytes = bytes_of_planes b.shown.samples.depth b.shown.samples.planes.items
     ∙ ap (λ depth. flat_map (plane_bytes depth) (planes_of_samples b.shown.samples)) alike.0
