@@ -82,7 +82,7 @@ def faults() -> typing.Iterator[str]:
 
 
 # The theorems of docs/PROMISES.md for which it lists what to read, each with its mark and the calls whose contracts state it: a function by its
-# crate and its name, with its type where it is one of a type's own.
+# crate and its name, with its type where it is one of a type's own, and where only some of its clauses do with their names.
 THEOREMS = {
     "C": ["ffv1_holding.copies_restore_the_original"],
     "T": ["ffv1_splice.true_splices_are_the_original"],
@@ -91,12 +91,14 @@ THEOREMS = {
     "G": ["ffv1_mend.good_is_the_original"],
     "M": ["ffv1_commands.any_order_makes_one_file", "ffv1_commands.mend_claims_what_is_vouched", "ffv1_commands.mend_gives_the_original"],
     "R": ["ffv1_plane.one_reading", "ffv1_plane.one_fault"],
-    "A": ["ffv1_player.Player::decode", "ffv1_samples.tile_is_slice", "ffv1_player.frame_is_played"],
+    "A": ["ffv1_player.Player::decode: shown, sought"],
+    "P": ["ffv1_player.Player::new: says, said, none", "ffv1_player.Player::decode: shown, sought"],
+    "F": ["ffv1_player.Player::decode: ok, found, err, nothing_left", "ffv1_samples.tile_is_slice", "ffv1_player.frame_is_played"],
     "D": ["ffv1_bits.burst_seen", "ffv1_slice.near_found"],
 }
 NAMES = {
     "C": "copies", "T": "true splices", "H": "holdings", "S": "splicing", "G": "good stretches", "M": "files", "R": "one reading",
-    "A": "one reading of any recording", "D": "small damage",
+    "A": "one frame of any recording", "P": "with its record", "F": "with its faults", "D": "small damage",
 }
 MADE = re.compile(r"(?<=<!-- made -->\n).*?(?=<!-- /made -->)", re.S)
 
@@ -110,8 +112,17 @@ def head_of(text: str, kind: str, name: str) -> str:
     return found.group() if found else ""
 
 
+def of_clauses(head: str, names: typing.List[str]) -> str:
+    """What of a function's head these of its clauses say, with all that it requires."""
+    parts = re.split(r"^(?= *(?:requires|ensures)\b)", head, flags=re.M)
+    named = {found.group(1): part for part in parts for found in [re.match(r" *ensures (\w+) \{", part)] if found}
+    return "".join([*(part for part in parts if not part.lstrip().startswith("ensures")), *(named[name] for name in names)])
+
+
 def statement(call: str) -> typing.Tuple[str, str]:
-    """The text of the file of code in which a public function stands, without comments, and the function's head."""
+    """The text of the file of code in which a public function stands, without comments, and the function's head; where clauses are named, what
+    these say."""
+    call, _, clauses = call.partition(": ")
     crate, _, path = call.partition(".")
     kind, _, name = path.rpartition("::")
     sources = sorted((specs_text.TOP / "crates" / crate / "src").glob("*.rt"))
@@ -119,7 +130,8 @@ def statement(call: str) -> typing.Tuple[str, str]:
     found = [(text, head) for text, head in ((text, head_of(text, kind, name)) for text in texts) if head]
     if len(found) != 1:
         raise KeyError(call)
-    return found[0]
+    text, head = found[0]
+    return text, of_clauses(head, clauses.split(", ")) if clauses else head
 
 
 def rests_on(calls: typing.Iterable[str]) -> typing.Set[Name]:

@@ -117,6 +117,14 @@ class ReadingList(unittest.TestCase):
         self.assertIn("impl Player {", text)
         self.assertRaises(KeyError, inner_text.statement, "ffv1_player.Samples::decode")
 
+    def test_statement_of_clauses(self) -> None:
+        head = "    pub fn f()\n        requires a { A }\n        ensures b { B }\n\n        ensures c { C\n            × C }\n        ensures d { D }\n    {"
+        self.assertEqual(inner_text.of_clauses(head, ["c"]), "    pub fn f()\n        requires a { A }\n        ensures c { C\n            × C }\n")
+        self.assertRaises(KeyError, inner_text.of_clauses, head, ["a"])
+        head = inner_text.statement("ffv1_player.Player::decode: shown, sought")[1]
+        self.assertIn("IsFrame", head)
+        self.assertNotIn("IsPlayedFrame", head)
+
     def test_rests_on(self) -> None:
         found = inner_text.rests_on(["ffv1_bits.burst_seen"])
         self.assertIn(("ffv1_bits/specs/Parity.antt", "BurstIsSeen"), found)
@@ -135,8 +143,12 @@ class ReadingList(unittest.TestCase):
         self.assertNotIn("ffv1_hold/specs/FileFaults.antt", files)
 
     def test_rows_on_any_recording(self) -> None:
-        files = {path for path, _ in inner_text.rests_on(inner_text.THEOREMS["A"])}
+        files = {path for path, _ in inner_text.rests_on(inner_text.THEOREMS["F"])}
         self.assertTrue({"ffv1_samples/specs/Slices.antt", "ffv1_player/specs/Frames.antt"} <= files, files)
+        # a frame and its record can be told without faults
+        names = inner_text.rests_on(inner_text.THEOREMS["P"])
+        self.assertTrue({("ffv1_player/specs/SmallFrames.antt", "IsFrame"), ("ffv1_player/specs/SmallRecords.antt", "IsRecord")} <= names)
+        self.assertFalse([name for path, name in names if "Fault" in path + name or "Stuck" in path + name])
 
     def test_reading_list(self) -> None:
         page = inner_text.reading_list()

@@ -19,3 +19,9 @@ pub mod Turns
 pub mod PlaySteps
 pub mod LineSteps
 pub mod PlanRestorations
+pub mod SmallLines
+pub mod SmallColors
+pub mod SmallSlices
+pub mod SmallTiles
+pub mod SmallFrames
+pub mod SmallRecords

@@ -15,6 +15,9 @@ pub mod Profile
 pub mod ProfilePictures
 pub mod Restored
 pub mod Laws
+pub mod SmallRecords
+pub mod SmallSlices
+pub mod SmallFrames
 pub mod Inner
 -- what the clauses cite of the crates below
 pub use Rattle.ffv1_devices.specs.Logs

@@ -111,8 +111,10 @@ impl Player {
     ghost use Rattle.ffv1_range.specs.SetupFaults.{FirstRecordingFault};
     ghost use Rattle.ffv1_range.specs.SetupForms.{Grants, record_read};
     ghost use Rattle.ffv1_range.specs.declared.scope.Scope.TheVariants.{Version3};
-    ghost use Rattle.ffv1_player.specs.Frames.{LeftValue, IsSameFrame};
+    ghost use Rattle.ffv1_player.specs.Frames.{planes_of_samples, LeftValue, IsSameFrame};
     ghost use Rattle.ffv1_player.specs.Players.{player_value};
+    ghost use Rattle.ffv1_player.specs.SmallRecords.{IsRecord};
+    ghost use Rattle.ffv1_player.specs.SmallFrames.{IsFrame};
     ghost use Rattle.ffv1_player.specs.declared.samples.Samples.{Samples};
 
     /// A player of the frames of a recording, of which none was decoded.
@@ -125,6 +127,11 @@ impl Player {
         // For a record of version 3 the result is its player, or `Memory`.
         ensures only { (r : RecordingValue) → IsRecordingOf config.now width height r
             → MatchResult result (λ player. player ≡ player_value r None) (λ fault. fault ≡ SetupFault.Memory) }
+
+        // The same with no word of faults: a record is read exactly if it says something of such frames, or memory runs out.
+        ensures says { IfOk result (λ player. IsRecord config.now width height player.recording) }
+        ensures said { (r : RecordingValue) → IsRecord config.now width height r
+            → MatchResult result (λ player. player.recording ≡ r) (λ fault. fault ≡ SetupFault.Memory) }
 
         // A refusal is the first that reading meets, or Memory ..
         ensures first { IfErr result (λ fault. (fault ≡ SetupFault.Memory) ⊎ FirstRecordingFault config.now width height fault) }
@@ -159,6 +166,13 @@ impl Player {
         // Wherever the payload has a frame, that is returned, or Memory.
         ensures found { (frame : Samples) (left : List LeftValue) → IsPlayedFrame self.old.recording self.old.last payload.now frame left
             → MatchResult result (λ read. IsSameFrame read frame) (λ fault. fault ≡ SamplesFault.Memory) }
+
+        // The same with no word of faults: the payload is the frame that is returned, and where it is a frame, that is returned, or Memory.
+        ensures shown { IfOk result (λ frame. (left : List LeftValue) × IsFrame self.old.recording self.old.last payload.now frame left
+            × (self.new.last ≡ Some left)) }
+        ensures sought { (frame : Samples) (left : List LeftValue) → IsFrame self.old.recording self.old.last payload.now frame left
+            → MatchResult result (λ read. (planes_of_samples read ≡ planes_of_samples frame) × (read.key ≡ frame.key))
+            (λ fault. fault ≡ SamplesFault.Memory) }
 
         ensures err { IfErr result (IsFirstSamplesFault self.old.recording self.old.last payload.now) }
         ensures nothing_left { OnErr result (self.new.last ≡ None) }
