@@ -19,6 +19,7 @@ pub mod Turns
 pub mod PlaySteps
 pub mod LineSteps
 pub mod PlanRestorations
+pub mod SmallStates
 pub mod SmallLines
 pub mod SmallColors
 pub mod SmallSlices

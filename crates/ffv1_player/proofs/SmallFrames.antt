@@ -15,12 +15,13 @@ use Rattle.ffv1_picture.specs.WholePicture.{or_else}
 use Rattle.ffv1_samples.specs.States.{SliceStatesValue, FitSliceBefore, count_of_planes}
 use Rattle.ffv1_samples.specs.Slices.{SlicePictureValue, IsSlicePicture}
 use Rattle.ffv1_samples.proofs.OnePicture.{one_header}
-use Rattle.ffv1_player.specs.Patches.{last_sample, patched_plane}
-use Rattle.ffv1_player.specs.Frames.{patch_in, frame_in, frame_plane, frame_planes, planes_of_samples, slice_end_of, LeftValue, FrameGoesOn, is_one, is_key, BeginsWith, states_left_at, IsPlayedFrame}
+use Rattle.ffv1_samples.specs.Pictures.{slice_plane_at}
+use Rattle.ffv1_player.specs.Patches.{SlicePatch, patch_of, last_sample, patched_plane}
+use Rattle.ffv1_player.specs.Frames.{patch_in, frame_in, frame_plane, frame_planes, planes_of_samples, slice_end_of, LeftValue, left_by, FrameGoesOn, is_one, is_key, BeginsWith, states_left_at, IsPlayedFrame}
 use Rattle.ffv1_player.specs.Fitting.{FitLast}
 use Rattle.ffv1_player.specs.declared.samples.Samples.{Samples}
 use Rattle.ffv1_player.specs.declared.samples.SliceEnd.{SliceEnd}
-use Rattle.ffv1_player.specs.SmallSlices.{SliceValue, IsSlice}
+use Rattle.ffv1_player.specs.SmallSlices.{slice_area, area_in, SliceValue, IsSlice}
 use Rattle.ffv1_player.specs.SmallFrames.{slice_headers, HaveEachTile, BeginsWithStates, IsSliceAt, sample_over, plane_of_slices, IsFrame}
 use Rattle.ffv1_player.proofs.Beginnings.{fit_before}
 use Rattle.ffv1_player.proofs.TileLayouts.{all_listed}
@@ -36,21 +37,35 @@ last_over (Some other) covered sample blank = refl
 last_over None true sample blank = refl
 last_over None false sample blank = refl
 
-over_same : (r : RecordingValue) (p x y : ℕ) (pictures : List SlicePictureValue) (blank : ℕ)
-    → fold (sample_over r p x y) blank (map value_of pictures) ≡ unwrap_or (last_sample x y (map (patch_in r p) pictures)) blank
+-- a slice's samples of a plane, in their place
+abbrev patch_at : RecordingValue → ℕ → SliceValue → SlicePatch
+patch_at r p slice = patch_of (area_in r p (slice_area r.setup slice.left.header)) (slice_plane_at slice.planes p)
+
+over_same : (r : RecordingValue) (p x y : ℕ) (slices : List SliceValue) (blank : ℕ)
+    → fold (sample_over r p x y) blank slices ≡ unwrap_or (last_sample x y (map (patch_at r p) slices)) blank
 unfolding last_sample
 over_same r p x y [] blank = refl
-over_same r p x y (d ∷ pictures) blank =
-    over_same r p x y pictures (sample_over r p x y blank (value_of d)) ∙ last_over (last_sample x y (map (patch_in r p) pictures)) _ _ blank
+over_same r p x y (slice ∷ slices) blank =
+    over_same r p x y slices (sample_over r p x y blank slice) ∙ last_over (last_sample x y (map (patch_at r p) slices)) _ _ blank
 
-plane_same : (r : RecordingValue) (pictures : List SlicePictureValue) (p : ℕ) → plane_of_slices r (map value_of pictures) p ≡ frame_plane r pictures p
+plane_is : (r : RecordingValue) (slices : List SliceValue) (p : ℕ)
+    → plane_of_slices r slices p ≡ patched_plane (2 ^ (r.depth - 1)) (frame_in r p).w (frame_in r p).h (map (patch_at r p) slices)
 unfolding patched_plane
-plane_same r pictures p = λ i.
-    flat_map (λ y. map (λ x. over_same r p x y pictures (2 ^ (r.depth - 1)) i) (range_with_len 0 (frame_in r p).w)) (range_with_len 0 (frame_in r p).h)
+plane_is r slices p = λ i.
+    flat_map (λ y. map (λ x. over_same r p x y slices (2 ^ (r.depth - 1)) i) (range_with_len 0 (frame_in r p).w)) (range_with_len 0 (frame_in r p).h)
 
-pub planes_same : (r : RecordingValue) (pictures : List SlicePictureValue)
+plane_same : (r : RecordingValue) (slices : List SliceValue) (pictures : List SlicePictureValue)
+    → ((p : ℕ) → map (patch_at r p) slices ≡ map (patch_in r p) pictures) → (p : ℕ) → plane_of_slices r slices p ≡ frame_plane r pictures p
+plane_same r slices pictures same p = plane_is r slices p ∙ ap (patched_plane (2 ^ (r.depth - 1)) (frame_in r p).w (frame_in r p).h) (same p)
+
+planes_are : (r : RecordingValue) (slices : List SliceValue) (pictures : List SlicePictureValue)
+    → ((p : ℕ) → map (patch_at r p) slices ≡ map (patch_in r p) pictures)
+    → map (plane_of_slices r slices) (range_with_len 0 (count_of_planes r)) ≡ frame_planes r pictures
+planes_are r slices pictures same = λ i. map (λ p. plane_same r slices pictures same p i) (range_with_len 0 (count_of_planes r))
+
+planes_same : (r : RecordingValue) (pictures : List SlicePictureValue)
     → map (plane_of_slices r (map value_of pictures)) (range_with_len 0 (count_of_planes r)) ≡ frame_planes r pictures
-planes_same r pictures = λ i. map (λ p. plane_same r pictures p i) (range_with_len 0 (count_of_planes r))
+planes_same r pictures = planes_are r (map value_of pictures) pictures (λ p. map-map (patch_at r p) value_of pictures)
 
 -- ---- headers
 
@@ -82,8 +97,8 @@ goes_on_to : (r : RecordingValue) (headers : List SliceHeader) (last : Option (L
 goes_on_to r headers last before true h no_key = absurd cc
 goes_on_to r headers last before false h no_key = (h.0, h.1.0)
 
-module _ (r : RecordingValue) (last : Option (List LeftValue)) (fit : FitLast r last) (payload : List ℕ) (frame : Samples) (left : List LeftValue)
-    (h : IsPlayedFrame r last payload frame left) where
+module _ (r : RecordingValue) (version : IsInVersion3 r) (last : Option (List LeftValue)) (fit : FitLast r last) (payload : List ℕ) (frame : Samples)
+    (left : List LeftValue) (h : IsPlayedFrame r last payload frame left) where
   abbrev values : List SliceValue
   values = map value_of h.pictures
 
@@ -121,7 +136,7 @@ module _ (r : RecordingValue) (last : Option (List LeftValue)) (fit : FitLast r 
         subst (λ header. BeginsWithStates r frame.key h.before place header (states_left_at h.before place)) (is_header_at place less)
         (begins_to r h.headers last h.before frame.key begun place (omega (arith, less, h.laid_out.count)));
     is =
-        slice_to r (slice_content r (listed_slice h.slices place)) (place == 0) (states_left_at h.before place) (get_or h.pictures place no_picture)
+        slice_to r version (slice_content r (listed_slice h.slices place)) (place == 0) (states_left_at h.before place) (get_or h.pictures place no_picture)
         (subst (λ (header : SliceHeader). FitSliceBefore r header.tables (states_left_at h.before place)) (is_header_at place less)
         (fit_before r h.headers last h.before place (omega (arith, less, h.laid_out.count)) fit h.begins))
         (h.have.1 place no_picture less);
@@ -222,17 +237,18 @@ module _ (r : RecordingValue) (version : IsInVersion3 r) (last : Option (List Le
 
   abbrev IsPictureAt : ℕ → SlicePictureValue → Type 0
   IsPictureAt place d =
-      IsSlicePicture r (slice_content r (listed_slice h.pieces place)) (place == 0) (states_left_at before place) d × (value_of d ≡ slice place)
+      IsSlicePicture r (slice_content r (listed_slice h.pieces place)) (place == 0) (states_left_at before place) d
+      × (d.header ≡ (slice place).left.header) × (d.planes ≡ (slice place).planes)
 
   has_picture : (place : ℕ) → place < length h.pieces → (d : SlicePictureValue) × IsPictureAt place d
   has_picture place less =
       let at = h.each place no_value less in
       let given = subst (λ (header : SliceHeader). FitSliceBefore r header.tables (states_left_at before place)) (header_is place less)
       (fit_before r headers last before place (omega (arith, less, headers_long)) fit begins) in
-      let found = slice_from r (slice_content r (listed_slice h.pieces place)) (place == 0) (states_left_at before place) (slice place) given
+      let found = slice_from r version (slice_content r (listed_slice h.pieces place)) (place == 0) (states_left_at before place) (slice place) given
       (subst (λ states. IsSlice r (slice_content r (listed_slice h.pieces place)) (place == 0) states (slice place))
       (states_by r frame.key h.before place (slice place).left.header at.states at.begins) at.is) in
-      (found.0, (found.1, found.2))
+      (found.0, (found.1, found.2, found.3))
 
   some_slice : 1 ≤ length h.pieces
   some_slice =
@@ -240,14 +256,24 @@ module _ (r : RecordingValue) (version : IsInVersion3 r) (last : Option (List Le
 
   module _ (pictures : List SlicePictureValue) (count : length pictures ≡ length h.pieces)
       (each : (place : ℕ) (d : SlicePictureValue) → place < length h.pieces → IsPictureAt place (get_or pictures place d)) where
-    values_are : map value_of pictures ≡ h.slices
-    values_are =
-        ext_get_or no_value (map value_of pictures) h.slices (length-map pictures value_of ∙ count ∙ sym h.count) (λ place less.
-        let inside : place < length h.pieces = omega (arith, less, length-map pictures value_of, count) in
-        get_or-map value_of pictures place no_picture no_value (omega (arith, inside, count)) ∙ (each place no_picture inside).1)
+    patch_same : (p place : ℕ) → place < length h.pieces → patch_at r p (slice place) ≡ patch_in r p (get_or pictures place no_picture)
+    patch_same p place less =
+        let at = each place no_picture less in
+        ap (λ header. patch_of (area_in r p (slice_area r.setup header)) (slice_plane_at (slice place).planes p)) (sym at.1)
+        ∙ ap (λ planes. patch_of (area_in r p (slice_area r.setup (get_or pictures place no_picture).header)) (slice_plane_at planes p)) (sym at.2)
+
+    patches_same : (p : ℕ) → map (patch_at r p) h.slices ≡ map (patch_in r p) pictures
+    patches_same p =
+        let own = length-map h.slices (patch_at r p) in
+        ext_get_or (patch_at r p no_value) (map (patch_at r p) h.slices) (map (patch_in r p) pictures)
+        (own ∙ h.count ∙ sym count ∙ sym (length-map pictures (patch_in r p))) (λ place less.
+        let there : place < length h.pieces = omega (arith, less, own, h.count) in
+        get_or-map (patch_at r p) h.slices place no_value (patch_at r p no_value) (omega (arith, there, h.count))
+        ∙ patch_same p place there
+        ∙ sym (get_or-map (patch_in r p) pictures place no_picture (patch_at r p no_value) (omega (arith, there, count))))
 
     picture_header : (place : ℕ) → place < length h.pieces → (get_or pictures place no_picture).header ≡ header_at headers place
-    picture_header place less = ap (λ (value : SliceValue). value.left.header) (each place no_picture less).1 ∙ sym (header_is place less)
+    picture_header place less = (each place no_picture less).1 ∙ sym (header_is place less)
 
     has_header : (place : ℕ) → place < length h.pieces → HasSliceHeader r (listed_slice h.pieces place) (place == 0) (header_at headers place)
     has_header place less =
@@ -297,7 +323,7 @@ module _ (r : RecordingValue) (version : IsInVersion3 r) (last : Option (List Le
       slices = ends_vec frame.planes (map slice_end_of pictures) few_ends;
     }
 
-    played : IsPlayedFrame r last payload other left
+    played : IsPlayedFrame r last payload other (map left_by pictures)
     unfolding other ends_vec
     played = record {
       slices = h.pieces;
@@ -316,15 +342,10 @@ module _ (r : RecordingValue) (version : IsInVersion3 r) (last : Option (List Le
         has_alpha = refl;
         depth = refl;
         is_key = sym key_is_key;
-        planes =
-            h.planes
-            ∙ ap (λ slices. map (plane_of_slices r slices) (range_with_len 0 (count_of_planes r))) (sym values_are)
-            ∙ planes_same r pictures;
+        planes = h.planes ∙ planes_are r h.slices pictures patches_same;
         slices = refl;
       };
-      is_left =
-          h.is_left ∙ ap (map (λ (value : SliceValue). value.left)) (sym values_are)
-          ∙ map-map (λ (value : SliceValue). value.left) value_of pictures;
+      is_left = refl;
     }
 
     planes_kept : planes_of_samples other ≡ planes_of_samples frame
@@ -335,11 +356,12 @@ module _ (r : RecordingValue) (version : IsInVersion3 r) (last : Option (List Le
     unfolding other
     key_kept = refl
 
-  pub frame_from : (other : Samples) × IsPlayedFrame r last payload other left × (planes_of_samples other ≡ planes_of_samples frame)
-      × (other.key ≡ frame.key)
+  pub frame_from : (other : Samples) × (more : List LeftValue) × IsPlayedFrame r last payload other more
+      × (planes_of_samples other ≡ planes_of_samples frame) × (other.key ≡ frame.key)
   frame_from =
       let listed = all_listed IsPictureAt (length h.pieces) has_picture in (
         other listed.0 listed.1 listed.2,
+        map left_by listed.0,
         played listed.0 listed.1 listed.2,
         planes_kept listed.0 listed.1 listed.2,
         key_kept listed.0 listed.1 listed.2,

@@ -1,5 +1,5 @@
 -- The sizes and the lines of a slice's planes, and what of them is coded, as the small definitions have them.
-use Rattle.std.proofs.Common.{◌≡◌, ◌≢◌, ℕ, zero, suc, ◌+◌, ◌*◌, Bool, true, false, List, [], ◌∷◌, ◌++◌, length, map, get_or, refl, sym, ap, ◌∙◌, subst, nat_abs, ℤ, arith, flat_map}
+use Rattle.std.proofs.Common.{◌≡◌, ◌≢◌, ℕ, zero, suc, ◌+◌, ◌*◌, ◌<◌, Bool, true, false, List, [], ◌∷◌, ◌++◌, length, map, get_or, refl, sym, ap, ◌∙◌, subst, nat_abs, ℤ, arith, flat_map}
 use Rattle.std.specs.Prelude.{not, ◌==◌, ◌&&◌, ◌||◌, if◌then◌else◌, slice_index}
 use Rattle.std.specs.List.{range_with_len}
 use Rattle.std.proofs.lemmas.Bool.{ne_eqb, eq-eqb}
@@ -12,7 +12,8 @@ use Rattle.ffv1_range.specs.Tiles.{grid_of, chroma_rect}
 use Rattle.ffv1_range.specs.declared.grid.TileRect.{TileRect}
 use Rattle.ffv1_range.specs.declared.head.SliceHeader.{SliceHeader}
 use Rattle.ffv1_plane.specs.Samples.{SamplesAbout, neighbours_at, context_of, prediction_of, difference_of}
-use Rattle.ffv1_plane.specs.Spelling.{Residuals, residuals_of, values_after, columns_before, RowSpells}
+use Rattle.ffv1_rice.specs.States.{ContextState}
+use Rattle.ffv1_plane.specs.Spelling.{Residuals, residuals_of, context_number, state_after, values_after, columns_before, RowSpells}
 use Rattle.ffv1_plane.specs.Lines.{Line, line_at, lines_of_plane, plane_after_plane, lines_of_row, row_after_row, CodedPlanes, first_index, values_after_line, values_after_lines, LinesSpell}
 use Rattle.ffv1_plane.specs.RangeRows.{signed_prediction_of, state_row, sample_bits}
 use Rattle.ffv1_plane.specs.RangeLines.{line_bits, lines_bits}
@@ -21,7 +22,9 @@ use Rattle.ffv1_plane.specs.RiceSlices.{slice_planes}
 use Rattle.ffv1_plane.specs.declared.planes.PlaneSize.{PlaneSize}
 use Rattle.ffv1_samples.specs.Sizes.{slice_rect, rect_size, planes_sizes, slice_sizes}
 use Rattle.ffv1_samples.specs.Pictures.{slice_plane_at}
-use Rattle.ffv1_player.specs.SmallSlices.{area_size, plane_sizes, lines_in_order, group_of, coded_line, line_symbols, values_with_line, LinesAreSpelled}
+use Rattle.ffv1_plane.proofs.RangeSlices.{group_small}
+use Rattle.ffv1_player.specs.SmallSlices.{area_size, plane_sizes, lines_in_order, group_of, coded_line, line_symbols, states_at_column, SamplesAreSpelled, states_with_line, LinesAreSpelled}
+use Rattle.ffv1_player.proofs.SmallStates.{at_column, samples_to, samples_from, AreOfPlanes, of_rows, of_planes}
 
 -- ---- sizes
 
@@ -158,47 +161,88 @@ module _ (r : RecordingValue) (header : SliceHeader) (planes : List (List ℕ)) 
   line_same : r.coder ≡ 0 → (line : Line) → residuals_of (slice_plane shape planes line.plane).plane line.row ≡ coded_line r header planes line
   line_same coder line = sym (line_there line) ∙ sym (ap (line_by line) (eq-eqb r.coder 0 coder))
 
-  module _ (coder : r.coder ≡ 0) where
+  -- the values that were coded with each context of each group, where a line is coded after others
+  abbrev values_with : (ℕ → ℕ → List ℤ) → Line → (ℕ → ℕ → List ℤ)
+  values_with values line group = if group == group_of r line then values_after (values group) (coded_line r header planes line) else values group
+
+  -- the states of so many contexts of each group are what values have left
+  abbrev pub Agree : (ℕ → ℕ) → (ℕ → ℕ → ContextState) → (ℕ → ℕ → List ℤ) → Type 0
+  Agree many states values = (group k : ℕ) → group < 3 → k < many group → states group k ≡ state_after (coded_depth_of r) (values group k)
+
+  module _ (coder : r.coder ≡ 0) (many : ℕ → ℕ) (planes_count : ℕ)
+      (inside : (line : Line) → line.plane < planes_count → (x : ℕ) → context_number (coded_line r header planes line) x < many (group_of r line)) where
     abbrev c : CodedPlanes
     c = slice_planes shape planes
 
-    values_same : (values : ℕ → ℕ → List ℤ) (line : Line) → values_after_line c values line ≡ values_with_line r header planes values line
+    values_same : (values : ℕ → ℕ → List ℤ) (line : Line) → values_after_line c values line ≡ values_with values line
     unfolding values_after_line
     values_same values line =
         let with_line : Residuals → (ℕ → ℕ → List ℤ) =
         λ coded group. if group == group_of r line then values_after (values group) coded else values group in
         ap with_line (line_same coder line)
 
-    pub spelled_to : (lines : List Line) (values : ℕ → ℕ → List ℤ) (index : ℕ) (bits : List Bool) (last : ℕ) → LinesSpell c values index lines bits last
-        → LinesAreSpelled r header planes values index lines bits (values_after_lines c values lines)
-    unfolding LinesSpell LinesAreSpelled values_after_lines
-    spelled_to [] values index bits last h = (h.0, refl)
-    spelled_to (line ∷ lines) values index bits last h = (
-      h.0,
-      h.1,
-      h.2,
-      h.3,
-      subst (λ (coded : Residuals). RowSpells (values (group_of r line)) coded (first_index c index line) h.0 h.2) (line_same coder line) h.4,
-      subst (λ v. LinesAreSpelled r header planes v h.2 lines h.1 (values_after_lines c (values_after_line c values line) lines)) (values_same values line)
-          (spelled_to lines (values_after_line c values line) h.2 h.1 last h.5),
-    )
+    agree_with : (states : ℕ → ℕ → ContextState) (values : ℕ → ℕ → List ℤ) (line : Line) → Agree many states values
+        → Agree many (states_with_line r header planes states line) (values_after_line c values line)
+    agree_with states values line agree = subst (Agree many (states_with_line r header planes states line)) (sym (values_same values line)) with_line
+      where
+        with_line : Agree many (states_with_line r header planes states line) (values_with values line)
+        with_line group k small less = by_group (group == group_of r line)
+          where
+            by_group : (b : Bool)
+                → (if b then states_at_column (coded_line r header planes line) (states group) (coded_line r header planes line).width else states group) k
+                ≡ state_after (coded_depth_of r) ((if b then values_after (values group) (coded_line r header planes line) else values group) k)
+            by_group true =
+                at_column (coded_line r header planes line) (values group) (states group) (many group) (λ j below. agree group j small below)
+                (coded_line r header planes line).width k less
+            by_group false = agree group k small less
 
-    pub spelled_from : (lines : List Line) (values : ℕ → ℕ → List ℤ) (index : ℕ) (bits : List Bool) (after : ℕ → ℕ → List ℤ)
-        → LinesAreSpelled r header planes values index lines bits after
-        → (last : ℕ) × LinesSpell c values index lines bits last × (after ≡ values_after_lines c values lines)
+    module _ (line : Line) (less : line.plane < planes_count) (states : ℕ → ℕ → ContextState) (values : ℕ → ℕ → List ℤ) (agree : Agree many states values)
+        (first : ℕ) (bits : List Bool) (next : ℕ) where
+      agree_here : (k : ℕ) → k < many (group_of r line) → states (group_of r line) k ≡ state_after (coded_depth_of r) (values (group_of r line) k)
+      agree_here k below = agree (group_of r line) k (group_small r.setup.has_chroma line.plane) below
+
+      row_to : RowSpells (values (group_of r line)) (residuals_of (slice_plane shape planes line.plane).plane line.row) first bits next
+          → SamplesAreSpelled (coded_line r header planes line) (states (group_of r line)) first (coded_line r header planes line).width bits next
+      row_to h =
+          samples_to (coded_line r header planes line) (values (group_of r line)) (states (group_of r line)) (many (group_of r line)) agree_here
+          (inside line less) first (coded_line r header planes line).width bits next
+          (subst (λ (coded : Residuals). RowSpells (values (group_of r line)) coded first bits next) (line_same coder line) h)
+
+      row_from : SamplesAreSpelled (coded_line r header planes line) (states (group_of r line)) first (coded_line r header planes line).width bits next
+          → RowSpells (values (group_of r line)) (residuals_of (slice_plane shape planes line.plane).plane line.row) first bits next
+      row_from h =
+          subst (λ (coded : Residuals). RowSpells (values (group_of r line)) coded first bits next) (sym (line_same coder line))
+          (samples_from (coded_line r header planes line) (values (group_of r line)) (states (group_of r line)) (many (group_of r line)) agree_here
+          (inside line less) first (coded_line r header planes line).width bits next h)
+
+    pub spelled_to : (lines : List Line) → AreOfPlanes planes_count lines → (states : ℕ → ℕ → ContextState) (values : ℕ → ℕ → List ℤ)
+        → Agree many states values → (index : ℕ) (bits : List Bool) (last : ℕ) → LinesSpell c values index lines bits last
+        → (all : ℕ → ℕ → ContextState) × LinesAreSpelled r header planes states index lines bits all × Agree many all (values_after_lines c values lines)
     unfolding LinesSpell LinesAreSpelled values_after_lines
-    spelled_from [] values index bits after h = (index, (h.0, refl), h.1)
-    spelled_from (line ∷ lines) values index bits after h =
-        let rest = spelled_from lines (values_with_line r header planes values line) h.2 h.1 after h.5 in
-        let same = sym (values_same values line) in (
+    spelled_to [] of states values agree index bits last h = (states, (h.0, refl), agree)
+    spelled_to (line ∷ lines) of states values agree index bits last h =
+        let rest = spelled_to lines of.1 (states_with_line r header planes states line) (values_after_line c values line)
+        (agree_with states values line agree) h.2 h.1 last h.5 in (
           rest.0,
-          (
-            h.0,
-            h.1,
-            h.2,
-            h.3,
-            subst (λ (coded : Residuals). RowSpells (values (group_of r line)) coded (first_index c index line) h.0 h.2) (sym (line_same coder line)) h.4,
-            subst (λ v. LinesSpell c v h.2 lines h.1 rest.0) same rest.1,
-          ),
-          rest.2 ∙ ap (λ v. values_after_lines c v lines) same,
+          (h.0, h.1, h.2, h.3, row_to line of.0 states values agree (first_index c index line) h.0 h.2 h.4, rest.1),
+          rest.2,
         )
+
+    pub spelled_from : (lines : List Line) → AreOfPlanes planes_count lines → (states : ℕ → ℕ → ContextState) (values : ℕ → ℕ → List ℤ)
+        → Agree many states values → (index : ℕ) (bits : List Bool) (all : ℕ → ℕ → ContextState)
+        → LinesAreSpelled r header planes states index lines bits all
+        → (last : ℕ) × LinesSpell c values index lines bits last × Agree many all (values_after_lines c values lines)
+    unfolding LinesSpell LinesAreSpelled values_after_lines
+    spelled_from [] of states values agree index bits all h = (index, (h.0, refl), subst (λ f. Agree many f values) (sym h.1) agree)
+    spelled_from (line ∷ lines) of states values agree index bits all h =
+        let rest = spelled_from lines of.1 (states_with_line r header planes states line) (values_after_line c values line)
+        (agree_with states values line agree) h.2 h.1 all h.5 in (
+          rest.0,
+          (h.0, h.1, h.2, h.3, row_from line of.0 states values agree (first_index c index line) h.0 h.2 h.4, rest.1),
+          rest.2,
+        )
+
+-- each line of a slice is of one of its planes
+pub of_slice : (is_rgb : Bool) (sizes : List PlaneSize) → AreOfPlanes (length sizes) (lines_of is_rgb sizes)
+of_slice true sizes = of_rows (length sizes) (length sizes) (height_at sizes 0) (omega arith)
+of_slice false sizes = of_planes (length sizes) (height_at sizes) (length sizes) (omega arith)

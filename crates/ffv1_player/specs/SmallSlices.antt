@@ -1,6 +1,6 @@
 -- A slice of any recording and its samples: what its content stands for, and no word of faults or of their order (RFC 9043, sections 3.2 to 3.8
 -- and 4.4 to 4.7).
-use Rattle.std.specs.Prelude.{◌≡◌, ◌≢◌, ℕ, ◌+◌, ◌-◌, ◌*◌, ◌/◌, ◌^◌, ◌<◌, ◌==◌, ◌&&◌, ◌||◌, not, Bool, false, List, [], ◌∷◌, ◌++◌, map, length, drop, get_or, slice_index, Option, is_some, Ok, ℤ, pos, MatchBool, if◌then◌else◌}
+use Rattle.std.specs.Prelude.{◌≡◌, ◌≢◌, ℕ, zero, suc, ◌+◌, ◌-◌, ◌*◌, ◌/◌, ◌^◌, ◌<◌, ◌==◌, ◌&&◌, ◌||◌, not, Bool, true, false, List, [], ◌∷◌, ◌++◌, map, length, drop, get_or, slice_index, Option, is_some, Ok, ℤ, pos, MatchBool, if◌then◌else◌}
 use Rattle.std.specs.Int.{div_ceil}
 use Rattle.std.specs.List.{flat_map, range_with_len}
 use Rattle.ffv1_bits.specs.Bits.{bits_of}
@@ -13,16 +13,17 @@ use Rattle.ffv1_range.specs.Header.{IsHeaderOf, BeginAt}
 use Rattle.ffv1_range.specs.SliceHeader.{slice_mode, slice_bytes, field_count, FitsRecording, slice_header_with}
 use Rattle.ffv1_range.specs.declared.grid.TileRect.{TileRect}
 use Rattle.ffv1_range.specs.declared.head.SliceHeader.{SliceHeader}
-use Rattle.ffv1_rice.specs.States.{ContextState}
+use Rattle.ffv1_rice.specs.States.{ContextState, start_state, after_value}
+use Rattle.ffv1_rice.specs.Codes.{SpellsValue}
+use Rattle.ffv1_rice.specs.Runs.{SpellsRun}
 use Rattle.ffv1_colors.specs.Colors.{Samples, are_swapped, swapped, coded_of_colors}
 use Rattle.ffv1_plane.specs.Samples.{SamplesAbout, neighbours_at, context_of, prediction_of, difference_of}
-use Rattle.ffv1_plane.specs.Spelling.{Residuals, context_number, values_after, RowSpells}
+use Rattle.ffv1_plane.specs.Spelling.{Residuals, is_coded, starts_run, left_in_line, run_length, value_at, context_number}
 use Rattle.ffv1_plane.specs.Lines.{Line, line_at}
 use Rattle.ffv1_plane.specs.RangeRows.{signed_prediction_of, state_row}
 use Rattle.ffv1_plane.specs.RangeSlices.{size_at, height_at, coded_depth_of, slice_group, ArePlanesOfSizes, HasGroups}
-use Rattle.ffv1_plane.specs.RiceSlices.{AreGroupsAfter}
 use Rattle.ffv1_plane.specs.declared.planes.PlaneSize.{PlaneSize}
-use Rattle.ffv1_samples.specs.States.{GroupsOf, states_of_group, SliceStatesValue, range_states, rice_states, count_of_planes, HaveGroupContexts, HaveValues, rows_before, codes_before}
+use Rattle.ffv1_samples.specs.States.{GroupsOf, states_of_group, SliceStatesValue, range_states, rice_states, count_of_planes, HaveGroupContexts, rows_before, codes_before}
 use Rattle.ffv1_samples.specs.Pictures.{slice_plane_at}
 use Rattle.ffv1_player.specs.Frames.{is_subsampled, LeftValue}
 
@@ -112,34 +113,65 @@ pub record AreRangeCodedPlanes (r : RecordingValue) (header : SliceHeader) (star
 
 -- ---- planes of Golomb-Rice codes
 
--- the values that were coded in each group with each context, where a line is coded after others
-abbrev pub values_with_line : RecordingValue → SliceHeader → List (List ℕ) → (ℕ → ℕ → List ℤ) → Line → (ℕ → ℕ → List ℤ)
-values_with_line r header planes values line group =
-    if group == group_of r line then values_after (values group) (coded_line r header planes line) else values group
+-- The states of a line's contexts at a column, where the line begins with some states: each value that is coded changes that of its context.
+unfoldable pub states_at_column : Residuals → (ℕ → ContextState) → ℕ → ℕ → ContextState
+states_at_column line states zero context = states context
+states_at_column line states (suc x) context =
+    let state = states_at_column line states x context in
+    if is_coded line x && (context_number line x == context) then after_value line.depth state (value_at line x) else state
 
--- The bits of lines, where the values before them were coded before, and those after them are then. The run index starts anew at the first row
--- of each plane, and in RGB at the slice's first line alone.
-unfoldable pub LinesAreSpelled : RecordingValue → SliceHeader → List (List ℕ) → (ℕ → ℕ → List ℤ) → ℕ → List Line → List Bool → (ℕ → ℕ → List ℤ) → Type 0
+-- The bits of the sample of a column: where a run starts there, the run's; then, where the sample is coded, its code. The run index is one
+-- number before them and another after them.
+pub record SampleIsSpelled (line : Residuals) (states : ℕ → ContextState) (x index : ℕ) (bits : List Bool) (next : ℕ) : Type 0 where
+  pub run : List Bool
+  pub code : List Bool
+  pub joined : bits ≡ run ++ code
+  pub run_starts : starts_run line x ≡ true → SpellsRun (run_length line x) (left_in_line line x) index run next
+  pub no_run_starts : starts_run line x ≡ false → (run ≡ []) × (next ≡ index)
+  pub coded : is_coded line x ≡ true → SpellsValue line.depth (states (context_number line x)) (value_at line x) code
+  pub not_coded : is_coded line x ≡ false → code ≡ []
+
+-- the bits of the first count samples of a line that begins with these states and at run index `first`
+unfoldable pub SamplesAreSpelled : Residuals → (ℕ → ContextState) → ℕ → ℕ → List Bool → ℕ → Type 0
+SamplesAreSpelled line states first zero bits next = (bits ≡ []) × (next ≡ first)
+SamplesAreSpelled line states first (suc count) bits next =
+    (front : List Bool) × (back : List Bool) × (index : ℕ) × (bits ≡ front ++ back)
+    × SamplesAreSpelled line states first count front index × SampleIsSpelled line (states_at_column line states count) count index back next
+
+-- what a line leaves of the states of each group
+abbrev pub states_with_line : RecordingValue → SliceHeader → List (List ℕ) → (ℕ → ℕ → ContextState) → Line → (ℕ → ℕ → ContextState)
+states_with_line r header planes states line group =
+    let coded = coded_line r header planes line in
+    if group == group_of r line then states_at_column coded (states group) coded.width else states group
+
+-- The bits of lines, from the states before them to those after them. The run index starts anew at the first row of each plane, and in RGB at
+-- the slice's first line alone.
+unfoldable pub LinesAreSpelled : RecordingValue → SliceHeader → List (List ℕ) → (ℕ → ℕ → ContextState) → ℕ → List Line → List Bool
+    → (ℕ → ℕ → ContextState) → Type 0
 LinesAreSpelled r header planes before index [] bits after = (bits ≡ []) × (after ≡ before)
 LinesAreSpelled r header planes before index (line ∷ lines) bits after =
-    (front : List Bool) × (back : List Bool) × (between : ℕ) × (bits ≡ front ++ back)
-    × RowSpells (before (group_of r line)) (coded_line r header planes line)
-    (if (line.row == 0) && (not r.is_rgb || (line.plane == 0)) then 0 else index) front between
-    × LinesAreSpelled r header planes (values_with_line r header planes before line) between lines back after
+    (front : List Bool) × (back : List Bool) × (next : ℕ) × (bits ≡ front ++ back)
+    × SamplesAreSpelled (coded_line r header planes line) (before (group_of r line))
+    (if (line.row == 0) && (not r.is_rgb || (line.plane == 0)) then 0 else index) (coded_line r header planes line).width front next
+    × LinesAreSpelled r header planes (states_with_line r header planes before line) next lines back after
 
--- With coder_type 0 the codes begin at a whole byte (section 3.8.1.1.1). Some values have left the states before; whichever they are, the bits
--- begin with the planes after these, and the states after are what all have left.
+-- of some states of each group, that of a context
+abbrev pub state_in : (ℕ → List ContextState) → ℕ → ℕ → ContextState
+state_in states group context = get_or (states group) context start_state
+
+-- With coder_type 0 the codes begin at a whole byte (section 3.8.1.1.1), with the states before them, and leave those after them.
 pub record AreSpelledPlanes (r : RecordingValue) (content : List ℕ) (header : SliceHeader) (start : Coder) (before : Option SliceStatesValue)
     (planes : List (List ℕ)) (after : GroupsOf ContextState) : Type 0 where
   pub coder : r.coder ≡ 0
   pub place : ℕ
   pub begin : BeginAt content start place
+  pub words : List Bool
   pub rest : List Bool
-  pub some : HaveValues r (codes_before r header.tables before)
-  pub spelled : (values : ℕ → ℕ → List ℤ) → AreGroupsAfter (coded_depth_of r) values (codes_before r header.tables before)
-      → (words : List Bool) × (all : ℕ → ℕ → List ℤ) × (bits_of (drop place content) ≡ words ++ rest)
-      × LinesAreSpelled r header planes values 0 (lines_in_order r (plane_sizes r header)) words all
-      × AreGroupsAfter (coded_depth_of r) all (states_of_group after)
+  pub bits : bits_of (drop place content) ≡ words ++ rest
+  pub last : ℕ → ℕ → ContextState
+  pub spelled : LinesAreSpelled r header planes (state_in (codes_before r header.tables before)) 0 (lines_in_order r (plane_sizes r header)) words last
+  pub left : (group context : ℕ) → group < 3 → context < length (codes_before r header.tables before group) → context < length (states_of_group after group)
+      → state_in (states_of_group after) group context ≡ last group context
 
 -- ---- slices
 

@@ -51,7 +51,7 @@ returns-in_err-frame-clause-sought c =
     let p = err_from_is_err_and c.from_residual.result c.from_residual.ensures.1 in
     let there = frame_from r c.keeps_version_3.ensures last c.self.invariant payload frame left
     (subst (λ (v : PlayerValue). IsFrame v.recording v.last payload frame left) (sym c.self.view_is) is) in
-    rw (p.1, p.2) (refused_has_no_frame r c.keeps_version_3.ensures last c.self.invariant payload there.0 left there.1 fault
+    rw (p.1, p.2) (refused_has_no_frame r c.keeps_version_3.ensures last c.self.invariant payload there.0 there.1 there.2 fault
     (subst (λ l. IsFirstSamplesFault r (last_value l) payload fault) c.take-last.ensures.value c.in_err-frame.ensures.err))
 
 pub returns-clause-shown : goal.returns-clause-shown
@@ -63,7 +63,8 @@ returns-clause-shown c =
     let left = left_values c.in_ok-frame.left.items in
     let played = subst (λ l. IsPlayedFrame r (last_value l) payload frame left) c.take-last.ensures.value c.in_ok-frame.ensures.ok in (
       left,
-      subst (λ (v : PlayerValue). IsFrame v.recording v.last payload frame left) c.self.view_is (frame_to r last c.self.invariant payload frame left played),
+      subst (λ (v : PlayerValue). IsFrame v.recording v.last payload frame left) c.self.view_is
+          (frame_to r c.keeps_version_3.ensures last c.self.invariant payload frame left played),
       refl,
     )
 
@@ -75,8 +76,8 @@ returns-clause-sought c =
     let payload = c.args.payload.now in
     let there = frame_from r c.keeps_version_3.ensures last c.self.invariant payload frame left
     (subst (λ (v : PlayerValue). IsFrame v.recording v.last payload frame left) (sym c.self.view_is) is) in
-    let same = one_frame r c.keeps_version_3.ensures last c.self.invariant payload there.0 left there.1 c.in_ok-frame.frame
+    let same = one_frame r c.keeps_version_3.ensures last c.self.invariant payload there.0 there.1 there.2 c.in_ok-frame.frame
     (left_values c.in_ok-frame.left.items)
     (subst (λ l. IsPlayedFrame r (last_value l) payload c.in_ok-frame.frame (left_values c.in_ok-frame.left.items)) c.take-last.ensures.value
     c.in_ok-frame.ensures.ok) in
-    (same.planes ∙ there.2, same.is_key ∙ there.3)
+    (same.planes ∙ there.3, same.is_key ∙ there.4)
