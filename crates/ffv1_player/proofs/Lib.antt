@@ -25,4 +25,5 @@ pub mod SmallColors
 pub mod SmallSlices
 pub mod SmallTiles
 pub mod SmallFrames
+pub mod SmallNotions
 pub mod SmallRecords

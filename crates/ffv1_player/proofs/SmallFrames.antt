@@ -176,6 +176,7 @@ module _ (r : RecordingValue) (version : IsInVersion3 r) (last : Option (List Le
     key = subst (λ headers. (header_at headers 0).key ≡ Some frame.key) headers_are first_key;
     width = h.is_frame.width;
     height = h.is_frame.height;
+    depth = h.is_frame.depth;
     planes = h.is_frame.planes ∙ sym (planes_same r h.pictures);
     is_left = h.is_left ∙ sym (map-map (λ (value : SliceValue). value.left) value_of h.pictures);
   }

@@ -18,6 +18,7 @@ pub mod Laws
 pub mod SmallRecords
 pub mod SmallSlices
 pub mod SmallFrames
+pub mod SmallNotions
 pub mod Inner
 -- what the clauses cite of the crates below
 pub use Rattle.ffv1_devices.specs.Logs

@@ -1,6 +1,6 @@
 -- A frame of any recording and its samples, from its payload: what is decoded, and no word of faults or of their order (RFC 9043, sections
 -- 3.8.1.3, 3.8.2.4 and 4.4 to 4.9). `Player::decode` returns exactly these frames.
-use Rattle.std.specs.Prelude.{◌≡◌, ℕ, ◌+◌, ◌-◌, ◌*◌, ◌^◌, ◌<◌, ◌≤◌, ◌==◌, Bool, true, false, List, map, length, Option, Some, None, slice_get, slice_index_or, fold, if◌then◌else◌}
+use Rattle.std.specs.Prelude.{◌≡◌, ℕ, ◌+◌, ◌-◌, ◌*◌, ◌^◌, ◌<◌, ◌≤◌, ◌==◌, Bool, true, false, List, [], ◌∷◌, map, length, Option, Some, None, slice_get, slice_index_or, fold, if◌then◌else◌}
 use Rattle.std.specs.List.{flat_map, range_with_len}
 use Rattle.ffv1_range.specs.Setup.{RecordingValue}
 use Rattle.ffv1_range.specs.declared.head.SliceHeader.{SliceHeader}
@@ -74,5 +74,13 @@ pub record IsFrame (r : RecordingValue) (last : Option (List LeftValue)) (payloa
   pub key : (header_at (slice_headers slices) 0).key ≡ Some frame.key
   pub width : frame.width ≡ r.setup.width
   pub height : frame.height ≡ r.setup.height
+  pub depth : frame.depth ≡ r.depth
   pub planes : planes_of_samples frame ≡ map (plane_of_slices r slices) (range_with_len 0 (count_of_planes r))
   pub is_left : left ≡ map (λ slice. slice.left) slices
+
+-- Each payload is its frame, after what the one before it has left.
+abbrev pub AreFramesInTurn : RecordingValue → Option (List LeftValue) → List (List ℕ) → List Samples → Type 0
+AreFramesInTurn r last [] [] = Unit {0}
+AreFramesInTurn r last (payload ∷ payloads) (frame ∷ frames) =
+    (left : List LeftValue) × IsFrame r last payload frame left × AreFramesInTurn r (Some left) payloads frames
+AreFramesInTurn r last _ _ = ⊥

@@ -14,7 +14,7 @@ mod shown;
 mod write;
 
 pub use fault::{ContentFault, SamplesFault};
-pub use player::{Player, frame_is_played, played_frames_are_one};
+pub use player::{Player, frame_is_played, notions_are_of_players, played_frames_are_one};
 pub use playing::{PlayFault, play_frames};
 pub use restored::{AnyRestoration, any_restored};
 pub use samples::{Samples, SliceEnd, count_of_planes, frame_in, rect_in};

@@ -7,6 +7,7 @@ ghost use Rattle.ffv1_player.specs.Players.{left_values, last_value};
 ghost use Rattle.ffv1_player.specs.Fitting.{FitLeft, FitLast};
 ghost use Rattle.ffv1_player.specs.Profile.{FrameIsPlayed};
 ghost use Rattle.ffv1_player.specs.Laws.{PlayedFramesAreOne};
+ghost use Rattle.ffv1_player.specs.SmallNotions.{PlayedAreFrames, DecodedIsFrame};
 ghost use Rattle.ffv1_player.specs.Inner.Playing.{IsPreviousStop};
 
 use crate::before::{LeftSlice, first_stop};
@@ -195,4 +196,11 @@ pub fn frame_is_played()
 /// Of a recording of version 3, after what a frame before has left, a payload has at most one frame, at most one fault beside `Memory`, and never both.
 pub fn played_frames_are_one()
     ensures { PlayedFramesAreOne }
+{}
+
+/// Of any recording frames that are played one after the other are frames of their payloads by the definitions that have no word of faults. So are
+/// those that `Decoder::decode_frame` of `ffv1_picture` gives.
+pub fn notions_are_of_players()
+    ensures played { PlayedAreFrames }
+    ensures profile { DecodedIsFrame }
 {}
