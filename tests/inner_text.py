@@ -92,13 +92,13 @@ THEOREMS = {
     "M": ["ffv1_commands.any_order_makes_one_file", "ffv1_commands.mend_claims_what_is_vouched", "ffv1_commands.mend_gives_the_original"],
     "R": ["ffv1_plane.one_reading", "ffv1_plane.one_fault"],
     "A": ["ffv1_player.Player::decode: shown, sought"],
-    "P": ["ffv1_player.Player::new: says, said, none", "ffv1_player.Player::decode: shown, sought"],
+    "P": ["ffv1_commands.run_samples: shown"],
     "F": ["ffv1_player.Player::decode: ok, found, err, nothing_left", "ffv1_samples.tile_is_slice", "ffv1_player.frame_is_played"],
     "D": ["ffv1_bits.burst_seen", "ffv1_slice.near_found"],
 }
 NAMES = {
     "C": "copies", "T": "true splices", "H": "holdings", "S": "splicing", "G": "good stretches", "M": "files", "R": "one reading",
-    "A": "one frame of any recording", "P": "with its record", "F": "with its faults", "D": "small damage",
+    "A": "one frame of any recording", "P": "samples", "F": "with faults", "D": "small damage",
 }
 MADE = re.compile(r"(?<=<!-- made -->\n).*?(?=<!-- /made -->)", re.S)
 

@@ -147,7 +147,7 @@ class ReadingList(unittest.TestCase):
         self.assertTrue({"ffv1_samples/specs/Slices.antt", "ffv1_player/specs/Frames.antt"} <= files, files)
         # a frame and its record can be told without faults
         names = inner_text.rests_on(inner_text.THEOREMS["P"])
-        self.assertTrue({("ffv1_player/specs/SmallFrames.antt", "IsFrame"), ("ffv1_player/specs/SmallRecords.antt", "IsRecord")} <= names)
+        self.assertTrue({("ffv1_player/specs/SmallFrames.antt", "IsFrame"), ("ffv1_player/specs/SmallRecords.antt", "IsRecord")} <= names, names)
         self.assertFalse([name for path, name in names if "Fault" in path + name or "Stuck" in path + name])
 
     def test_reading_list(self) -> None:

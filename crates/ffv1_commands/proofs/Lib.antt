@@ -40,3 +40,4 @@ pub mod MendCommandSteps
 pub mod MendCommandLaws
 pub mod UnreadLaws
 pub mod SamplesSteps
+pub mod SmallSamples

@@ -31,6 +31,7 @@ pub mod AnyPictureLaws
 pub mod SmallCommands
 pub mod SmallSplices
 pub mod SmallMends
+pub mod SmallSamples
 pub mod SpliceLaws
 pub mod MendLaws
 pub mod UnreadLaws
@@ -71,6 +72,8 @@ pub use Rattle.ffv1_player.specs.Written
 pub use Rattle.ffv1_player.specs.Payloads
 pub use Rattle.ffv1_player.specs.FrameLines
 pub use Rattle.ffv1_player.specs.Played
+pub use Rattle.ffv1_player.specs.SmallRecords
+pub use Rattle.ffv1_player.specs.SmallFrames
 pub use Rattle.ffv1_splice.specs.Splice
 pub use Rattle.ffv1_splice.specs.Whole
 pub use Rattle.ffv1_splice.specs.Text

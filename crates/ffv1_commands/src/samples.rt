@@ -7,6 +7,7 @@ ghost use Rattle.ffv1_commands.specs.InTurn.{log_of};
 ghost use Rattle.ffv1_commands.specs.Paths.{IsTakePath};
 ghost use Rattle.ffv1_commands.specs.SamplesText.{PlaysFiles, SamplesStops, FirstIsFrame, ReportsSamples, BeginsPlaying};
 ghost use Rattle.ffv1_commands.specs.RecordInputs.{TakesRecording, RecordingStops};
+ghost use Rattle.ffv1_commands.specs.SmallSamples.{WritesFrames};
 
 use crate::devices::read_file;
 use crate::fault::CliFault;
@@ -40,6 +41,8 @@ pub fn run_samples<R: Read, F: Read + Drop, O: Write, W: Write>(
 ) -> Result<bool, CliFault>
     ensures ok { IfOk result (PlaysFiles (R.remaining configuration.old) width height (map F.remaining frames.items)
         (O.contents out.old) (O.contents out.new) (W.contents output.old) (W.contents output.new)) }
+    ensures shown { IfOk result (λ _. WritesFrames (R.remaining configuration.old) width height (map F.remaining frames.items)
+        (O.contents out.old) (O.contents out.new)) }
     ensures err { IfErr result (SamplesStops (R.remaining configuration.old) width height (map F.remaining frames.items)
         (O.contents out.old) (O.contents out.new) (W.contents output.old) (W.contents output.new)) }
     ensures untouched { IfErr result (λ fault. IfOfRecord fault ((out.new ≡ out.old) × (output.new ≡ output.old))) }

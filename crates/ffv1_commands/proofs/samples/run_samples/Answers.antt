@@ -7,6 +7,7 @@ use Rattle.ffv1_commands.specs.Fault.{NamesPath}
 use Rattle.ffv1_commands.specs.Paths.{IsTakePath}
 use Rattle.ffv1_commands.proofs.MendCommandSteps.{left_kept}
 use Rattle.ffv1_commands.proofs.SamplesSteps.{samples_of_files, sources_are, begins_of_inputs, begun_so}
+use Rattle.ffv1_commands.proofs.SmallSamples.{written}
 use Rattle.ffv1_commands.proofs.Wrapped.{if_of_record}
 use Rattle.ffv1_commands.proofs.samples.run_samples.Goals as goal
 
@@ -25,6 +26,12 @@ returns-clause-ok g c =
     let bytes = samples_of_files _ g.F.Read.remaining _ _ c.args.frames.items c.as_mut_slice.ensures.value c.in_ok-sources.ensures _ _ _ _ _ _ _ _ _
     c.samples_of.result c.samples_of.ensures.reported in
     search (rules, bytes.ok)
+
+pub returns-clause-shown : goal.returns-clause-shown
+returns-clause-shown g c =
+    let bytes = samples_of_files _ g.F.Read.remaining _ _ c.args.frames.items c.as_mut_slice.ensures.value c.in_ok-sources.ensures _ _ _ _ _ _ _ _ _
+    c.samples_of.result c.samples_of.ensures.reported in
+    search (rules, written _ _ _ _ _ _ _ _ _ bytes.ok)
 
 pub returns-clause-err : goal.returns-clause-err
 returns-clause-err g c =
