@@ -6,5 +6,7 @@ pub mod Lists
 pub mod Runs
 pub mod Makes
 pub mod Unread
+pub mod Unwritten
 pub mod Reported
-mod Outputs
+pub mod Counted
+pub mod Played

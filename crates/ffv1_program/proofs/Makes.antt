@@ -8,6 +8,8 @@ use Rattle.ffv1_commands.specs.declared.fault.CliFault.{CliFault}
 use Rattle.ffv1_commands.specs.declared.fault.CliFault.TheVariants as faults
 use Rattle.ffv1_commands.specs.declared.path.CommandPath.TheVariants as paths
 use Rattle.ffv1_program.specs.Splicing.{IsUnmade}
+use Rattle.ffv1_program.specs.Unwritten.{IfUnwritten, OfOutputs}
+use Rattle.ffv1_program.proofs.Unwritten.{out_also}
 
 -- The fault is that of what was done, which leaves the file as it was; or all was done, but the file was not made.
 abbrev pub IsAfter : (done result : Result Bool CliFault) (Kept Failed : Type 0) → Type 0
@@ -25,6 +27,15 @@ made_err done (Ok value) Kept Failed Refused Stops Done after did stops = tt
 made_err done (Err fault) Kept Failed Refused Stops Done (inl (is, kept)) did stops = inr (inl (subst (λ done. IfErr done Stops) is stops))
 made_err done (Err fault) Kept Failed Refused Stops Done (inr (is, failed, (value, same))) did stops =
     inr (inr (is, failed, (value, subst (λ done. IfOk done Done) same did)))
+
+-- what a fault rests on that says that the file was not written: that of what was done, or that the file was not made
+pub made_unwritten : (Went Failed Out Printed Kept : Type 0) (done result : Result Bool CliFault) → IsAfter done result Kept Failed
+    → (Went → Out) → (Failed → Out) → IfErr done (IfUnwritten (OfOutputs Went Printed)) → IfErr result (IfUnwritten (OfOutputs Out Printed))
+made_unwritten Went Failed Out Printed Kept done (Ok value) after written unmade lost = tt
+made_unwritten Went Failed Out Printed Kept done (Err fault) (inl (is, kept)) written unmade lost =
+    out_also Went Out Printed fault written (subst (λ done. IfErr done (IfUnwritten (OfOutputs Went Printed))) is lost)
+made_unwritten Went Failed Out Printed Kept done (Err fault) (inr (is, failed, all)) written unmade lost =
+    subst (IfUnwritten (OfOutputs Out Printed)) (sym is) (unmade failed)
 
 -- what a fault left as it was, and the file that was not made
 pub made_kept : {O : Type 0} (Failed : Type 0) (done result : Result Bool CliFault) (old then new : O) (P : Type 0) (Unless : CliFault → Type 0 → Type 0)

@@ -1,5 +1,6 @@
 -- What is known of the files of a program by their paths.
 use Rattle.std.specs.Prelude.{ℕ, List, Option}
+use Rattle.ffv1_devices.specs.Logs.{WriteLog}
 
 -- The bytes of the file of a path, if they are known; that a source is that of the file, not opened yet, and so one with a buffer; that one is
 -- of the file that was opened, and nothing of it is read yet; and that an opening of the file failed.
@@ -10,10 +11,10 @@ pub record FilesAt (Device Buffered : Type 0) : Type 1 where
   pub is_opened_at : List ℕ → Device → Type 0
   pub cannot_open_at : List ℕ → Type 0
 
--- What is known of files that are made: the bytes of one, if they are known; that it is the file of a path, not made yet; that it is made; and
--- that making it failed.
+-- What is known of files that are made: the log of one as a sink; that it is the file of a path, not made yet; that it is made; and that making
+-- it failed.
 pub record FilesMade (Made : Type 0) : Type 1 where
-  pub contents : Made → Option (List ℕ)
+  pub log : Made → WriteLog
   pub is_unmade_at : Made → List ℕ → Type 0
   pub is_made : Made → Type 0
   pub cannot_make : Made → Type 0

@@ -6,6 +6,7 @@ pub mod Running
 pub mod Reporting
 pub mod Program
 pub mod Unread
+pub mod Unwritten
 pub mod Inner
 -- those by which the commands and their faults are described
 pub use Rattle.ffv1_commands.specs.Paths

@@ -1,6 +1,6 @@
 -- What the program does with the words that it is given: it runs the command that they name, ends with the status of what that returned, and
 -- prints the line of a fault on standard error.
-use Rattle.std.specs.Prelude.{ℕ, ◌≡◌, ◌⊎◌, ◌++◌, List, [], Bool, Option, Result, Ok, Err, codes}
+use Rattle.std.specs.Prelude.{ℕ, ◌≡◌, ◌⊎◌, ◌++◌, List, [], Bool, Result, Ok, Err, codes}
 use Rattle.ffv1_devices.specs.Logs.{ReadLog, WriteLog, Writes, StopsWriting}
 use Rattle.ffv1_holding.specs.declared.recordings.Recordings.{Recordings}
 use Rattle.ffv1_commands.specs.Fault.{exit_status_of}
@@ -36,7 +36,7 @@ pub record EndsWords {Device Buffered Made : Type 0} (files : FilesAt Device Buf
   pub result : Result Bool CliFault
   pub unmade : makes.is_unmade_at made_old (out_word words)
   pub runs : RunsCommand (files_of recordings files log buffered_log)
-      (made_by makes.contents makes.is_made makes.cannot_make made_old made_new) printed words result
+      (made_by makes.log makes.is_made makes.cannot_make made_old made_new) printed words result
   pub reported : ReportsEnd words result errors_old errors_new
   pub ended : status ≡ end_status result
 

@@ -2,7 +2,7 @@
 use Rattle.std.specs.Prelude.{ℕ, ◌≡◌, ◌⊎◌, List, [], ◌∷◌, map, Bool, true, Option, IfSome, Result, IfOk, IfErr, IsErrOf}
 use Rattle.std.specs.Borrow.{Bor}
 use Rattle.std.specs.Io.KnownBytes.{Appends}
-use Rattle.ffv1_devices.specs.Logs.{ReadLog}
+use Rattle.ffv1_devices.specs.Logs.{ReadLog, WriteLog, GivesUp}
 use Rattle.ffv1_holding.specs.declared.recordings.Recordings.{Recordings}
 use Rattle.ffv1_holding.specs.declared.recordings.Recordings.TheVariants.{Profile, Any}
 use Rattle.ffv1_help.specs.Texts.{help_text, version_text}
@@ -39,6 +39,7 @@ use Rattle.ffv1_program.specs.Merging.{IsEither, IfNotBegun, StopsMerging}
 use Rattle.ffv1_program.specs.Splicing.{IsInput, StopsSplicing, StopsMendingFiles, StopsPlayingFiles}
 use Rattle.ffv1_commands.specs.Holdings.{IsUnheld}
 use Rattle.ffv1_program.specs.Unread.{IfUnread, SomeSource, IsUnscanned, IsUndecoded, IsUntaken, IsUnjoined, IsUnmerged, IsSpliceUnread, IsUnmended, IsUnplayed}
+use Rattle.ffv1_program.specs.Unwritten.{IfUnwritten, OfOutputs}
 
 -- the word of the file that is made, which is empty where none is
 abbrev pub out_word : Words → List ℕ
@@ -105,38 +106,55 @@ files_of recordings files log buffered_log =
       BufferedWent = SomeSource files.is_buffered_at buffered_log;
     }
 
--- What a command writes to: its bytes before and after, if they are known; that it is as it was; that it is made, even of no bytes; and that
--- making it failed.
+-- What a command writes to: its bytes before and after, if they are known; that it is as it was; that it is made, even of no bytes; that
+-- making it failed; and that it was given up.
 pub record Written : Type 1 where
   pub before : Option (List ℕ)
   pub after : Option (List ℕ)
   pub IsKept : Type 0
   pub IsMade : Type 0
   pub CannotBeMade : Type 0
+  pub IsGivenUp : Type 0
 
--- what writer this is, before and after
-abbrev pub made_by : {Writer : Type 0} → (contents : Writer → Option (List ℕ)) → (is_made cannot_make : Writer → Type 0) → (old new : Writer) → Written
-made_by contents is_made cannot_make old new =
-    record { before = contents old; after = contents new; IsKept = new ≡ old; IsMade = is_made new; CannotBeMade = cannot_make new }
+-- what sink this is, before and after: its log says what it holds, and whether it was given up
+abbrev pub made_by : {Output : Type 0} → (log : Output → WriteLog) → (is_made cannot_make : Output → Type 0) → (old new : Output) → Written
+made_by log is_made cannot_make old new =
+    record {
+      before = (log old).contents;
+      after = (log new).contents;
+      IsKept = new ≡ old;
+      IsMade = is_made new;
+      CannotBeMade = cannot_make new;
+      IsGivenUp = GivesUp (log old).tries (log new).tries;
+    }
 
 -- what is printed, which is always there
-abbrev pub printed_by : {Writer : Type 0} → (contents : Writer → Option (List ℕ)) → (old new : Writer) → Written
-printed_by contents old new = made_by contents (λ _. Unit {0}) (λ _. ⊥) old new
+abbrev pub printed_by : {Output : Type 0} → (log : Output → WriteLog) → (old new : Output) → Written
+printed_by log old new = made_by log (λ _. Unit {0}) (λ _. ⊥) old new
 
 -- What a command promises: what it did and returns; why it stopped; what a fault left as it was; what a fault rests on that says that a file
--- was not read; what it returns where it refuses its words; and which of the file that is made and of what is printed it has no part in.
+-- was not read, and one that says that a file was not written; what it returns where it refuses its words; and which of the file that is made
+-- and of what is printed it has no part in.
 pub record Promise : Type 1 where
   pub Does : Bool → Type 0
   pub Stops : CliFault → Type 0
   pub Keeps : CliFault → Type 0
   pub Unread : CliFault → Type 0
+  pub Unwritten : CliFault → Type 0
   pub Refuses : Result Bool CliFault → Type 0
   pub Leaves : (Made Printed : Type 0) → Type 0
 
 -- a command that makes no file, and one that makes one: neither refuses its words
 abbrev pub prints : (printed : Written) → (Does : Bool → Type 0) → (Stops Keeps Unread : CliFault → Type 0) → Promise
-prints printed Does Stops Keeps Unread =
-    record { Does = Does; Stops = Stops; Keeps = Keeps; Unread = Unread; Refuses = λ _. Unit {0}; Leaves = λ Made Printed. Made }
+prints printed Does Stops Keeps Unread = record {
+  Does = Does;
+  Stops = Stops;
+  Keeps = Keeps;
+  Unread = Unread;
+  Unwritten = IfUnwritten (OfOutputs ⊥ printed.IsGivenUp);
+  Refuses = λ _. Unit {0};
+  Leaves = λ Made Printed. Made;
+}
 
 abbrev pub makes : (made printed : Written) → (Does : Bool → Type 0) → (Stops Unread : CliFault → Type 0) → Promise
 makes made printed Does Stops Unread = record {
@@ -144,6 +162,7 @@ makes made printed Does Stops Unread = record {
   Stops = Stops;
   Keeps = λ fault. UnlessWriting fault (made.IsKept × printed.IsKept);
   Unread = Unread;
+  Unwritten = IfUnwritten (OfOutputs (made.CannotBeMade ⊎ made.IsGivenUp) printed.IsGivenUp);
   Refuses = λ _. Unit {0};
   Leaves = λ _ _. Unit {0};
 }
@@ -195,6 +214,7 @@ promise_of files made printed (Merge out left right) =
           made.before made.after;
       Keeps = λ fault. IfNotBegun fault made.IsKept × IsWrittenIfTouched paths.Out made.IsKept made.before made.after fault;
       Unread = IfUnread (IsUnmerged files.IsUnopened files.OpenedWent left.now right.now);
+      Unwritten = IfUnwritten (OfOutputs (IsEither out.now left.now right.now ⊎ made.IsGivenUp) ⊥);
       Refuses = λ result. IsEither out.now left.now right.now → IsErrOf result (faults.Write paths.Out) × made.IsKept;
       Leaves = λ Made Printed. Printed;
     }
@@ -223,6 +243,7 @@ promise_of files made printed (Mend list out copies) =
       Keeps = λ fault. IfOfList paths.List fault (made.IsKept × printed.IsKept)
           × IsWrittenIfTouched paths.Out made.IsKept made.before made.after fault;
       Unread = IfUnread (IsUnmended files.SourceWent list.now (words_of copies.items));
+      Unwritten = IfUnwritten (OfOutputs (IsInput out.now list.now copies.items ⊎ made.CannotBeMade ⊎ made.IsGivenUp) printed.IsGivenUp);
       Refuses = λ result. IsInput out.now list.now copies.items → IsErrOf result (faults.Write paths.Out) × made.IsKept × printed.IsKept;
       Leaves = λ _ _. Unit {0};
     }
@@ -240,6 +261,7 @@ promise_of files made printed (Samples recording out frames) =
           × ((fault ≡ faults.Write paths.Out) ⊎ (made.IsKept × printed.IsKept) ⊎ FirstIsFrame (files.bytes_at recording.record.now)
           recording.width recording.height (bytes_of_all files.bytes_at frames.items));
       Unread = IfUnread (IsUnplayed files.SourceWent recording.record.now (words_of frames.items));
+      Unwritten = IfUnwritten (OfOutputs (IsInput out.now recording.record.now frames.items ⊎ made.CannotBeMade ⊎ made.IsGivenUp) printed.IsGivenUp);
       Refuses = λ result. IsInput out.now recording.record.now frames.items → IsErrOf result (faults.Write paths.Out) × made.IsKept × printed.IsKept;
       Leaves = λ _ _. Unit {0};
     }
@@ -252,6 +274,7 @@ pub record IsAsPromised (promise : Promise) (IsPath : CommandPath → Type 0) (r
   pub stops : IfErr result promise.Stops
   pub keeps : IfErr result promise.Keeps
   pub unread : IfErr result promise.Unread
+  pub unwritten : IfErr result promise.Unwritten
   pub refuses : promise.Refuses result
   pub names : IfErr result (NamesPath IsPath)
 

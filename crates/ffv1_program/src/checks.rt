@@ -6,14 +6,13 @@ ghost use Rattle.ffv1_program.specs.Inner.Calls.{nothing_written};
 
 use crate::files::FileSystem;
 use ffv1_commands::{CliFault, check_of};
-use ffv1_devices::ThroughWrite;
+use ffv1_devices::Sink;
 use std::alloc::Global;
-use std::io::Write;
 
 /// Checks the file of this path, which is opened twice.
 ///
 /// It stops where `check_of` does. After a fault that is not `Write` nothing was printed.
-pub(crate) fn check_named<'a, F: FileSystem<'a>, W: Write>(
+pub(crate) fn check_named<'a, F: FileSystem<'a>, W: Sink>(
     alloc: Global,
     files: &F,
     file: &'a str,
@@ -21,15 +20,10 @@ pub(crate) fn check_named<'a, F: FileSystem<'a>, W: Write>(
 ) -> Result<bool, CliFault>
     ensures { (recordings : Recordings) → KeepsPromise
         (files_of recordings (F.files files.now) F.Device.log F.Buffered.log)
-        nothing_written (printed_by W.contents output.old output.new)
+        nothing_written (printed_by W.log output.old output.new)
         (Check file.entry) result }
 {
     let mut first = files.device(file);
     let mut second = files.device(file);
-    check_of(
-        alloc,
-        &mut first,
-        &mut second,
-        &mut ThroughWrite::new(output),
-    )
+    check_of(alloc, &mut first, &mut second, output)
 }

@@ -10,12 +10,11 @@ use crate::holdings::{join_files, merge_files, report_file, restore_file, take_f
 use crate::pictures::{decode_files, picture_file, samples_files};
 use crate::stretches::mend_files;
 use ffv1_commands::{CliFault, CommandPath};
-use ffv1_devices::WriteFailed;
-use ffv1_help::{run_help, run_version};
+use ffv1_devices::{Sink, WriteFailed};
+use ffv1_help::{print_help, print_version};
 use ffv1_holding::Recordings;
 use ffv1_words::Words;
 use std::alloc::Global;
-use std::io::Write;
 
 /// The word of the file that a command makes, which is empty where it makes none.
 pub fn out_word<'a>(words: &Words<'a>) -> &'a str
@@ -67,8 +66,9 @@ fn all_printed(printed: Result<(), WriteFailed>) -> Result<bool, CliFault>
 /// - `scan`: a range is not whole with all its links passing;
 /// - `check`: the file is not whole.
 ///
-/// Else it returns `true`. It stops where the command does. A command that makes no file leaves `made` untouched.
-pub fn run<'a, F: FileSystem<'a>, O: MakeFile, W: Write>(
+/// Else it returns `true`. It stops where the command does: with `Write` only if what it writes to was given up, or the file could not be made,
+/// or is one of the inputs. A command that makes no file leaves `made` untouched.
+pub fn run<'a, F: FileSystem<'a>, O: MakeFile, W: Sink>(
     alloc: Global,
     recordings: Recordings,
     files: &F,
@@ -79,7 +79,7 @@ pub fn run<'a, F: FileSystem<'a>, O: MakeFile, W: Write>(
     requires { O.is_unmade_at made.old (out_word words.now) }
     ensures { RunsCommand
         (files_of recordings (F.files files.now) F.Device.log F.Buffered.log)
-        (made_by O.contents O.is_made O.cannot_make made.old made.new) (printed_by W.contents output.old output.new) words.now result }
+        (made_by O.log O.is_made O.cannot_make made.old made.new) (printed_by W.log output.old output.new) words.now result }
 {
     match words {
         Words::Chain { frame } => all_done(chain_file(alloc, files, frame, output)),
@@ -117,7 +117,7 @@ pub fn run<'a, F: FileSystem<'a>, O: MakeFile, W: Write>(
             out,
             frames,
         } => samples_files(alloc, files, recording, frames, out, made, output),
-        Words::Help => all_printed(run_help(output)),
-        Words::Version => all_printed(run_version(output)),
+        Words::Help => all_printed(print_help(output)),
+        Words::Version => all_printed(print_version(output)),
     }
 }

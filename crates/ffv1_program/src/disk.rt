@@ -1,9 +1,10 @@
 //! The files of a runtime (own), of which no contract can say the bytes.
 
-use crate::files::{FileSystem, MakeFile, NewFiles};
+use crate::files::{FileSystem, NewFiles};
+use crate::made::MadeFile;
 use ffv1_commands::CliFault;
 use ffv1_devices::FromRead;
-use ffv1_files::{InputFile, Opener, OutputFile, PathToOpen};
+use ffv1_files::{InputFile, Opener, PathToOpen};
 use std::alloc::Global;
 use std::io;
 use std::io::BufReader;
@@ -65,24 +66,9 @@ impl<'a, R: Files> FileSystem<'a> for Disk<'a, R> {
 }
 
 impl<'a, R: Files> NewFiles<'a> for Disk<'a, R> {
-    type Made = OutputFile<'a, R>;
+    type Made = MadeFile<'a, R>;
 
-    fn unmade(&self, path: &'a str) -> OutputFile<'a, R> {
-        OutputFile::new(self.rt, path)
-    }
-}
-
-impl<'a, R: Files> MakeFile for OutputFile<'a, R> {
-    ghost use Rattle.ffv1_files.specs.Files.{IsUnmadeAt, IsFileMade};
-    ghost use Rattle.ffv1_program.specs.Openings.{FailsToMake};
-
-    ghost is_unmade_at = { λ file path. IsUnmadeAt file path };
-
-    ghost is_made = { λ file. IsFileMade file };
-
-    ghost cannot_make = { λ file. FailsToMake ⟦<PathToOpen<'a, R> as Opener>⟧.opens file };
-
-    fn make(&mut self) -> io::Result<()> {
-        OutputFile::make(self)
+    fn unmade(&self, path: &'a str) -> MadeFile<'a, R> {
+        MadeFile::new(self.rt, path)
     }
 }

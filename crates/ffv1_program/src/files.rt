@@ -4,10 +4,9 @@ ghost use Rattle.ffv1_program.specs.FilesAt.{FilesAt};
 ghost use Rattle.ffv1_program.specs.Splicing.{IsUnmade};
 
 use ffv1_commands::{CliFault, CommandPath};
-use ffv1_devices::Source;
+use ffv1_devices::{Sink, Source};
 use std::alloc::Global;
 use std::io;
-use std::io::Write;
 
 /// The files that are read, by their paths. Each is opened at its first read, or before that.
 pub trait FileSystem<'a> {
@@ -39,8 +38,8 @@ pub trait FileSystem<'a> {
         ensures refused { IfErr result (λ fault. fault ≡ CliFault.Memory) };
 }
 
-/// A file that is made at its first write.
-pub trait MakeFile: Write {
+/// A file that is made at its first write, as a sink, which counts how its tries went.
+pub trait MakeFile: Sink {
     // this is the file of that path, which is not made yet
     ghost is_unmade_at: { Self → List ℕ → Type 0 };
 
@@ -49,9 +48,9 @@ pub trait MakeFile: Write {
     // making it failed, and left it so
     ghost cannot_make: { Self → Type 0 };
 
-    /// Makes the file, if it is not made yet: so a file of no bytes is made, to which nothing is written.
+    /// Makes the file, if it is not made yet: so a file of no bytes is made, to which nothing is written. That is no try of writing.
     fn make(&mut self) -> io::Result<()>
-        ensures bytes { Self.contents self.new ≡ Self.contents self.old }
+        ensures log { Self.log self.new ≡ Self.log self.old }
         ensures made { IfOk result (λ _. is_made self.new) }
         ensures failed { IfErr result (λ _. cannot_make self.new) };
 }
@@ -72,7 +71,7 @@ pub(crate) fn make_after<O: MakeFile>(
     done: Result<bool, CliFault>,
     made: &mut O,
 ) -> Result<bool, CliFault>
-    ensures bytes { O.contents made.new ≡ O.contents made.old }
+    ensures log { O.log made.new ≡ O.log made.old }
     ensures ok { IfOk result (λ all. (done ≡ Ok all) × O.is_made made.new) }
     ensures err { IfErr result (λ fault. ((done ≡ Err fault) × (made.new ≡ made.old)) ⊎ IsUnmade (O.cannot_make made.new) (λ all. done ≡ Ok all) fault) }
 {

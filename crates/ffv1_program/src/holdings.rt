@@ -9,17 +9,16 @@ ghost use Rattle.ffv1_program.specs.Inner.Calls.{all_done, nothing_written};
 use crate::files::{FileSystem, MakeFile};
 use crate::inputs::{buffered_of, sources_of};
 use ffv1_commands::{CliFault, CommandPath, join_of, merge_of, report_of, restore_of, take_of};
-use ffv1_devices::ThroughWrite;
+use ffv1_devices::Sink;
 use ffv1_holding::Recordings;
 use ffv1_words::RecordingWords;
 use std::alloc::Global;
-use std::io::Write;
 
 /// Takes the copies of these paths into the file that is made. Returns what `take_of` does.
 ///
 /// It stops where `take_of` does, and with `Memory` if memory for the copies can't be allocated. After a fault that is not `Write` nothing
 /// was written or printed.
-pub(crate) fn take_files<'a, F: FileSystem<'a>, O: MakeFile, W: Write>(
+pub(crate) fn take_files<'a, F: FileSystem<'a>, O: MakeFile, W: Sink>(
     alloc: Global,
     recordings: Recordings,
     files: &F,
@@ -30,7 +29,7 @@ pub(crate) fn take_files<'a, F: FileSystem<'a>, O: MakeFile, W: Write>(
 ) -> Result<bool, CliFault>
     ensures { (out : Bor (List ℕ)) → KeepsPromise
         (files_of recordings (F.files files.now) F.Device.log F.Buffered.log)
-        (made_by O.contents O.is_made O.cannot_make made.old made.new) (printed_by W.contents output.old output.new)
+        (made_by O.log O.is_made O.cannot_make made.old made.new) (printed_by W.log output.old output.new)
         (Take recording.now out copies.now) result }
 {
     let mut copies = sources_of(alloc, files, copies.as_slice())?;
@@ -41,8 +40,8 @@ pub(crate) fn take_files<'a, F: FileSystem<'a>, O: MakeFile, W: Write>(
         recording.width,
         recording.height,
         copies.as_mut_slice(),
-        &mut ThroughWrite::new(made),
-        &mut ThroughWrite::new(output),
+        made,
+        output,
     )
 }
 
@@ -50,7 +49,7 @@ pub(crate) fn take_files<'a, F: FileSystem<'a>, O: MakeFile, W: Write>(
 ///
 /// It stops where `join_of` does, and with `Memory` if memory for the files can't be allocated. After a fault that is not `Write` nothing
 /// was written or printed.
-pub(crate) fn join_files<'a, F: FileSystem<'a>, O: MakeFile, W: Write>(
+pub(crate) fn join_files<'a, F: FileSystem<'a>, O: MakeFile, W: Sink>(
     alloc: Global,
     recordings: Recordings,
     files: &F,
@@ -61,7 +60,7 @@ pub(crate) fn join_files<'a, F: FileSystem<'a>, O: MakeFile, W: Write>(
 ) -> Result<(), CliFault>
     ensures { (out : Bor (List ℕ)) → KeepsPromise
         (files_of recordings (F.files files.now) F.Device.log F.Buffered.log)
-        (made_by O.contents O.is_made O.cannot_make made.old made.new) (printed_by W.contents output.old output.new)
+        (made_by O.log O.is_made O.cannot_make made.old made.new) (printed_by W.log output.old output.new)
         (Join out first.entry others.now) (all_done result) }
 {
     let mut others = buffered_of(alloc, files, others.as_slice())?;
@@ -71,8 +70,8 @@ pub(crate) fn join_files<'a, F: FileSystem<'a>, O: MakeFile, W: Write>(
         recordings,
         &mut first,
         others.as_mut_slice(),
-        &mut ThroughWrite::new(made),
-        &mut ThroughWrite::new(output),
+        made,
+        output,
     )
 }
 
@@ -93,7 +92,7 @@ pub(crate) fn merge_files<'a, F: FileSystem<'a>, O: MakeFile>(
 ) -> Result<(), CliFault>
     ensures { KeepsPromise
         (files_of recordings (F.files files.now) F.Device.log F.Buffered.log)
-        (made_by O.contents O.is_made O.cannot_make made.old made.new) nothing_written
+        (made_by O.log O.is_made O.cannot_make made.old made.new) nothing_written
         (Merge out.entry left.entry right.entry) (all_done result) }
 {
     if out == left || out == right {
@@ -105,14 +104,13 @@ pub(crate) fn merge_files<'a, F: FileSystem<'a>, O: MakeFile>(
     let Ok(mut right) = files.opened(right) else {
         return Err(CliFault::Read(CommandPath::Hold(1)));
     };
-    let mut made = ThroughWrite::new(made);
-    merge_of(alloc, recordings, &mut left, &mut right, &mut made)
+    merge_of(alloc, recordings, &mut left, &mut right, made)
 }
 
 /// Prints the report of the holding file of this path.
 ///
 /// It stops where `report_of` does, and with `Memory` if a buffer can't be allocated. After a fault that is not `Write` nothing was printed.
-pub(crate) fn report_file<'a, F: FileSystem<'a>, W: Write>(
+pub(crate) fn report_file<'a, F: FileSystem<'a>, W: Sink>(
     alloc: Global,
     recordings: Recordings,
     files: &F,
@@ -121,17 +119,17 @@ pub(crate) fn report_file<'a, F: FileSystem<'a>, W: Write>(
 ) -> Result<(), CliFault>
     ensures { KeepsPromise
         (files_of recordings (F.files files.now) F.Device.log F.Buffered.log)
-        nothing_written (printed_by W.contents output.old output.new)
+        nothing_written (printed_by W.log output.old output.new)
         (Report file.entry) (all_done result) }
 {
     let mut file = files.buffered(alloc, file)?;
-    report_of(alloc, recordings, &mut file, &mut ThroughWrite::new(output))
+    report_of(alloc, recordings, &mut file, output)
 }
 
 /// Restores the frame of the holding file of this path into the file that is made.
 ///
 /// It stops where `restore_of` does, and with `Memory` if a buffer can't be allocated. After a fault that is not `Write` nothing was written or printed.
-pub(crate) fn restore_file<'a, F: FileSystem<'a>, O: MakeFile, W: Write>(
+pub(crate) fn restore_file<'a, F: FileSystem<'a>, O: MakeFile, W: Sink>(
     alloc: Global,
     recordings: Recordings,
     files: &F,
@@ -141,15 +139,9 @@ pub(crate) fn restore_file<'a, F: FileSystem<'a>, O: MakeFile, W: Write>(
 ) -> Result<(), CliFault>
     ensures { (out : Bor (List ℕ)) → KeepsPromise
         (files_of recordings (F.files files.now) F.Device.log F.Buffered.log)
-        (made_by O.contents O.is_made O.cannot_make made.old made.new) (printed_by W.contents output.old output.new)
+        (made_by O.log O.is_made O.cannot_make made.old made.new) (printed_by W.log output.old output.new)
         (Restore file.entry out) (all_done result) }
 {
     let mut file = files.buffered(alloc, file)?;
-    restore_of(
-        alloc,
-        recordings,
-        &mut file,
-        &mut ThroughWrite::new(made),
-        &mut ThroughWrite::new(output),
-    )
+    restore_of(alloc, recordings, &mut file, made, output)
 }

@@ -9,6 +9,7 @@ mod files;
 mod frames;
 mod holdings;
 mod inputs;
+mod made;
 mod pictures;
 mod program;
 mod reporting;

@@ -8,16 +8,15 @@ ghost use Rattle.ffv1_program.specs.Inner.Calls.{all_done};
 use crate::files::{FileSystem, MakeFile, make_after};
 use crate::inputs::{is_among, sources_of};
 use ffv1_commands::{CliFault, CommandPath, any_picture_of, decode_of, picture_of, samples_of};
-use ffv1_devices::ThroughWrite;
+use ffv1_devices::Sink;
 use ffv1_holding::Recordings;
 use ffv1_words::RecordingWords;
 use std::alloc::Global;
-use std::io::Write;
 
 /// Writes what can be shown of the holding file of this path to the file that is made.
 ///
 /// It stops where `picture_of` does, and with `Memory` if a buffer can't be allocated. After a fault that is not `Write` nothing was written or printed.
-pub(crate) fn picture_file<'a, F: FileSystem<'a>, O: MakeFile, W: Write>(
+pub(crate) fn picture_file<'a, F: FileSystem<'a>, O: MakeFile, W: Sink>(
     alloc: Global,
     recordings: Recordings,
     files: &F,
@@ -27,21 +26,20 @@ pub(crate) fn picture_file<'a, F: FileSystem<'a>, O: MakeFile, W: Write>(
 ) -> Result<bool, CliFault>
     ensures { (out : Bor (List ℕ)) → KeepsPromise
         (files_of recordings (F.files files.now) F.Device.log F.Buffered.log)
-        (made_by O.contents O.is_made O.cannot_make made.old made.new) (printed_by W.contents output.old output.new)
+        (made_by O.log O.is_made O.cannot_make made.old made.new) (printed_by W.log output.old output.new)
         (Picture file.entry out) result }
 {
     let mut file = files.buffered(alloc, file)?;
-    let (mut made, mut output) = (ThroughWrite::new(made), ThroughWrite::new(output));
     match recordings {
-        Recordings::Profile => picture_of(alloc, &mut file, &mut made, &mut output),
-        Recordings::Any => any_picture_of(alloc, &mut file, &mut made, &mut output),
+        Recordings::Profile => picture_of(alloc, &mut file, made, output),
+        Recordings::Any => any_picture_of(alloc, &mut file, made, output),
     }
 }
 
 /// Decodes the frame of these paths into the file that is made.
 ///
 /// It stops where `decode_of` does. After a fault that is not `Write` nothing was written or printed.
-pub(crate) fn decode_files<'a, F: FileSystem<'a>, O: MakeFile, W: Write>(
+pub(crate) fn decode_files<'a, F: FileSystem<'a>, O: MakeFile, W: Sink>(
     alloc: Global,
     files: &F,
     recording: &RecordingWords<'a>,
@@ -51,7 +49,7 @@ pub(crate) fn decode_files<'a, F: FileSystem<'a>, O: MakeFile, W: Write>(
 ) -> Result<(), CliFault>
     ensures { (recordings : Recordings) (out : Bor (List ℕ)) → KeepsPromise
         (files_of recordings (F.files files.now) F.Device.log F.Buffered.log)
-        (made_by O.contents O.is_made O.cannot_make made.old made.new) (printed_by W.contents output.old output.new)
+        (made_by O.log O.is_made O.cannot_make made.old made.new) (printed_by W.log output.old output.new)
         (Decode recording.now frame.entry out) (all_done result) }
 {
     decode_of(
@@ -60,8 +58,8 @@ pub(crate) fn decode_files<'a, F: FileSystem<'a>, O: MakeFile, W: Write>(
         recording.width,
         recording.height,
         &mut files.device(frame),
-        &mut ThroughWrite::new(made),
-        &mut ThroughWrite::new(output),
+        made,
+        output,
     )
 }
 
@@ -71,7 +69,7 @@ pub(crate) fn decode_files<'a, F: FileSystem<'a>, O: MakeFile, W: Write>(
 /// It stops where `samples_of` does; with `Write` where `out` is the word of an input, or the file can't be made; with `Words` where there
 /// is no frame; and with `Memory` if memory for the frames can't be allocated. After a fault of the record, or where `out` is an input, and
 /// before the first frame is decoded, nothing was written or printed.
-pub(crate) fn samples_files<'a, F: FileSystem<'a>, O: MakeFile, W: Write>(
+pub(crate) fn samples_files<'a, F: FileSystem<'a>, O: MakeFile, W: Sink>(
     alloc: Global,
     files: &F,
     recording: &RecordingWords<'a>,
@@ -82,7 +80,7 @@ pub(crate) fn samples_files<'a, F: FileSystem<'a>, O: MakeFile, W: Write>(
 ) -> Result<bool, CliFault>
     ensures { (recordings : Recordings) → KeepsPromise
         (files_of recordings (F.files files.now) F.Device.log F.Buffered.log)
-        (made_by O.contents O.is_made O.cannot_make made.old made.new) (printed_by W.contents output.old output.new)
+        (made_by O.log O.is_made O.cannot_make made.old made.new) (printed_by W.log output.old output.new)
         (Samples recording.now out.entry frames.now) result }
 {
     if out == recording.record || is_among(out, frames.as_slice()) {
@@ -98,8 +96,8 @@ pub(crate) fn samples_files<'a, F: FileSystem<'a>, O: MakeFile, W: Write>(
         recording.width,
         recording.height,
         frames.as_mut_slice(),
-        &mut ThroughWrite::new(made),
-        &mut ThroughWrite::new(output),
+        made,
+        output,
     );
     make_after(clean, made)
 }

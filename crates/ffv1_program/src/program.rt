@@ -14,7 +14,6 @@ use ffv1_devices::{Sink, write_pair};
 use ffv1_holding::Recordings;
 use ffv1_words::{Words, read_words, recordings_of_words};
 use std::alloc::{AllocError, Global};
-use std::io::Write;
 
 /// Prints a line. If that fails nothing more can be reported.
 fn print_line<E: Sink>(line: &str, errors: &mut E)
@@ -63,7 +62,7 @@ fn report_end<E: Sink>(
 }
 
 /// Runs the command of these words, reports its fault, and returns the exit status.
-fn end_words<'a, F: FileSystem<'a> + NewFiles<'a>, W: Write, E: Sink>(
+fn end_words<'a, F: FileSystem<'a> + NewFiles<'a>, W: Sink, E: Sink>(
     alloc: Global,
     recordings: Recordings,
     files: &F,
@@ -72,8 +71,8 @@ fn end_words<'a, F: FileSystem<'a> + NewFiles<'a>, W: Write, E: Sink>(
     errors: &mut E,
 ) -> u8
     ensures { EndsWords (F.files files.now) F.Device.log F.Buffered.log
-        (record { contents = F.Made.contents; is_unmade_at = F.Made.is_unmade_at; is_made = F.Made.is_made; cannot_make = F.Made.cannot_make })
-        recordings words.now (printed_by W.contents output.old output.new) (E.log errors.old) (E.log errors.new) result }
+        (record { log = F.Made.log; is_unmade_at = F.Made.is_unmade_at; is_made = F.Made.is_made; cannot_make = F.Made.cannot_make })
+        recordings words.now (printed_by W.log output.old output.new) (E.log errors.old) (E.log errors.new) result }
 {
     let mut made = files.unmade(out_word(words));
     let done = run(alloc, recordings, files, words, &mut made, output);
@@ -91,7 +90,7 @@ fn end_words<'a, F: FileSystem<'a> + NewFiles<'a>, W: Write, E: Sink>(
 ///
 /// A line has the program's name, what is at fault, and the word of the path that it is about. Where there is no memory for it, it is
 /// `ffv1restore: memory`.
-pub fn run_program<'a, F: FileSystem<'a> + NewFiles<'a>, W: Write, E: Sink>(
+pub fn run_program<'a, F: FileSystem<'a> + NewFiles<'a>, W: Sink, E: Sink>(
     alloc: Global,
     files: &F,
     given: &'a mut Vec<String>,
@@ -99,8 +98,8 @@ pub fn run_program<'a, F: FileSystem<'a> + NewFiles<'a>, W: Write, E: Sink>(
     errors: &mut E,
 ) -> u8
     ensures { RunsProgram (F.files files.now) F.Device.log F.Buffered.log
-        (record { contents = F.Made.contents; is_unmade_at = F.Made.is_unmade_at; is_made = F.Made.is_made; cannot_make = F.Made.cannot_make })
-        (map (λ word. string_bytes word) given.old.items) (printed_by W.contents output.old output.new) (E.log errors.old) (E.log errors.new) result }
+        (record { log = F.Made.log; is_unmade_at = F.Made.is_unmade_at; is_made = F.Made.is_made; cannot_make = F.Made.cannot_make })
+        (map (λ word. string_bytes word) given.old.items) (printed_by W.log output.old output.new) (E.log errors.old) (E.log errors.new) result }
 {
     let recordings = recordings_of_words(given);
     match read_words(alloc, given.as_slice()) {

@@ -10,10 +10,9 @@ ghost use Rattle.ffv1_program.specs.Inner.Calls.{IsLogAt};
 use crate::files::{FileSystem, MakeFile, make_after};
 use crate::inputs::is_among;
 use ffv1_commands::{CliFault, CommandPath, mend_of};
-use ffv1_devices::ThroughWrite;
+use ffv1_devices::Sink;
 use ffv1_stretches::CopyReader;
 use std::alloc::{AllocError, Global};
-use std::io::Write;
 
 /// Readers of the copies of paths, in their order, none of which is opened yet. It fails if an allocation fails.
 fn readers_of<'a, F: FileSystem<'a>>(
@@ -40,7 +39,7 @@ fn readers_of<'a, F: FileSystem<'a>>(
 /// It stops where `mend_of` does; with `Write` where `out` is the word of an input, or the file can't be made; and with `Memory` if
 /// memory for the copies can't be allocated. After a fault of the list, or where `out` is an input, nothing was written or printed; and
 /// after no fault is the file touched before its first byte.
-pub(crate) fn mend_files<'a, F: FileSystem<'a>, O: MakeFile, W: Write>(
+pub(crate) fn mend_files<'a, F: FileSystem<'a>, O: MakeFile, W: Sink>(
     alloc: Global,
     files: &F,
     list: &'a str,
@@ -51,7 +50,7 @@ pub(crate) fn mend_files<'a, F: FileSystem<'a>, O: MakeFile, W: Write>(
 ) -> Result<bool, CliFault>
     ensures { (recordings : Recordings) → KeepsPromise
         (files_of recordings (F.files files.now) F.Device.log F.Buffered.log)
-        (made_by O.contents O.is_made O.cannot_make made.old made.new) (printed_by W.contents output.old output.new)
+        (made_by O.log O.is_made O.cannot_make made.old made.new) (printed_by W.log output.old output.new)
         (Mend list.entry out.entry copies.now) result }
 {
     if out == list || is_among(out, copies.as_slice()) {
@@ -62,8 +61,8 @@ pub(crate) fn mend_files<'a, F: FileSystem<'a>, O: MakeFile, W: Write>(
         alloc,
         &mut files.device(list),
         copies.as_mut_slice(),
-        &mut ThroughWrite::new(made),
-        &mut ThroughWrite::new(output),
+        made,
+        output,
     );
     make_after(good, made)
 }

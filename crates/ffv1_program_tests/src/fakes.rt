@@ -1,14 +1,14 @@
 //! Files that note in which order they are opened and made. The path of each is a digit: that of 0 is not there, and can't be made.
-ghost use Rattle.std.specs.Prelude.{◌≡◌, ◌⊎◌, IfOk, IfErr, true, codes, if◌then◌else◌};
+ghost use Rattle.std.specs.Prelude.{◌≡◌, ◌⊎◌, IfOk, IfErr, true, false, codes, if◌then◌else◌};
 ghost use Rattle.std.specs.Str.{bytes_eq};
 
 use ffv1_commands::CliFault;
-use ffv1_devices::FromRead;
+use ffv1_devices::{FromRead, Sink};
 use ffv1_program::{FileSystem, MakeFile, NewFiles};
 use std::alloc::Global;
 use std::cell::Cell;
 use std::io;
-use std::io::{BufReader, ErrorKind, Read, Write};
+use std::io::{BufReader, ErrorKind, Read};
 
 /// The paths of the files that were opened and made, in their order: the digits of a number.
 #[derive(Drop)]
@@ -159,6 +159,7 @@ pub(crate) struct FakeOutput<'a> {
     order: &'a Order,
     path: &'a str,
     is_made: bool,
+    failed: u64,
 }
 
 impl<'a> FakeOutput<'a> {
@@ -170,18 +171,45 @@ impl<'a> FakeOutput<'a> {
             order,
             path,
             is_made: false,
+            failed: 0,
         }
+    }
+
+    /// Makes the file, if it is not made yet.
+    fn open(&mut self) -> io::Result<()>
+        ensures counted { self.new.failed ≡ self.old.failed }
+        ensures made { IfOk result (λ _. self.new.is_made ≡ true) }
+        ensures failed { IfErr result (λ _. self.new.is_made ≡ false) }
+    {
+        if !self.is_made {
+            self.order.add(self.path)?;
+            self.is_made = true;
+        }
+        Ok(())
     }
 }
 
-impl Write for FakeOutput<'_> {
+impl Sink for FakeOutput<'_> {
+    ghost use Rattle.std.specs.Prelude.{None};
+
+    ghost log = { λ file. record { contents = None; tries = record { failures = file.failed; broken = file.failed; in_row = 0 }; reference = 0 } };
+
     fn write(&mut self, buf: &[u8]) -> io::Result<usize> {
-        self.make()?;
-        Ok(buf.len())
+        match self.open() {
+            Ok(()) => Ok(buf.len()),
+            Err(_) => {
+                self.failed = self.failed.saturating_add(1);
+                Err(io::Error::from(ErrorKind::NotFound))
+            }
+        }
     }
 
-    fn flush(&mut self) -> io::Result<()> {
-        Ok(())
+    fn failures(&self) -> u64 {
+        self.failed
+    }
+
+    fn broken(&self) -> u64 {
+        self.failed
     }
 }
 
@@ -195,10 +223,6 @@ impl MakeFile for FakeOutput<'_> {
     ghost cannot_make = { λ file. file.is_made ≡ false };
 
     fn make(&mut self) -> io::Result<()> {
-        if !self.is_made {
-            self.order.add(self.path)?;
-            self.is_made = true;
-        }
-        Ok(())
+        self.open()
     }
 }

@@ -4,6 +4,7 @@ ghost use Rattle.ffv1_words.specs.WordPaths.{IsPathOf};
 
 use crate::fakes::{FakeOutput, Fakes, Order};
 use ffv1_commands::{CliFault, run_take};
+use ffv1_devices::FromWrite;
 use ffv1_holding::Recordings;
 use ffv1_program::{out_word, run};
 use ffv1_test_frames::{FRAME, TWO_TILES};
@@ -165,7 +166,7 @@ fn reported<'a>(
         others,
     };
     let mut made = FakeOutput::new(order, out_word(&words));
-    let mut printed = Vec::new(alloc);
+    let mut printed = FromWrite::new(Vec::new(alloc));
     match run(alloc, recordings, &files, &words, &mut made, &mut printed) {
         Ok(true) => Ok(String::from_str(alloc, "true")?),
         Ok(false) => Ok(String::from_str(alloc, "false")?),

@@ -68,7 +68,7 @@ fn ended(alloc: Global, words: &[&str]) -> Result<(u8, u32, Vec<u8>, Vec<u8>), F
         alloc,
         &files,
         &mut given,
-        &mut printed,
+        &mut ThroughWrite::new(&mut printed),
         &mut ThroughWrite::new(&mut reported),
     );
     Ok((status, order.number(), printed, reported))

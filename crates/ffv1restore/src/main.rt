@@ -42,7 +42,8 @@ fn hold_streams(rt: &HostRuntime) -> [Option<File>; 3] {
 
 fn main(rt: HostRuntime) -> ExitCode {
     let _held = hold_streams(&rt);
-    let (disk, mut output, mut stderr) = (Disk::new(&rt), io::writer(&rt), rt.stderr());
+    let (disk, mut stdout, mut stderr) = (Disk::new(&rt), io::writer(&rt), rt.stderr());
+    let mut output = ThroughWrite::new(&mut stdout);
     let mut errors = ThroughWrite::new(&mut stderr);
     ExitCode::from(match given_words(&rt) {
         Ok(mut given) => run_program(rt.alloc(), &disk, &mut given, &mut output, &mut errors),

@@ -11,7 +11,7 @@ all_done (Err fault) = Err fault
 
 -- what stands for the file that is made, or for what is printed, where the command has no part in it
 abbrev pub nothing_written : Written
-nothing_written = record { before = None; after = None; IsKept = Unit {0}; IsMade = Unit {0}; CannotBeMade = Unit {0} }
+nothing_written = record { before = None; after = None; IsKept = Unit {0}; IsMade = Unit {0}; CannotBeMade = Unit {0}; IsGivenUp = ⊥ }
 
 -- a source of the file of this word has this log
 abbrev pub IsLogAt : {Device : Type 0} → (is_at : List ℕ → Device → Type 0) → (log : Device → ReadLog) → List ℕ → ReadLog → Type 0

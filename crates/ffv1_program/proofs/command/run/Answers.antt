@@ -44,13 +44,13 @@ returns-in-Samples g c = record { promise = rw c.in-Samples.is (c.samples_files.
 pub returns-in-Help : goal.returns-in-Help
 returns-in-Help g c =
     record {
-      promise = rw c.in-Help.is (text_as_promised _ _ _ _ _ _ c.all_printed.ensures c.run_help.ensures.ok c.run_help.ensures.err);
+      promise = rw c.in-Help.is (text_as_promised _ g.W.Sink.log _ _ _ _ c.all_printed.ensures c.print_help.ensures);
       untouched = rw c.in-Help.is refl;
     }
 
 pub returns-in-Version : goal.returns-in-Version
 returns-in-Version g c =
     record {
-      promise = rw c.in-Version.is (text_as_promised _ _ _ _ _ _ c.all_printed-in-Version.ensures c.run_version.ensures.ok c.run_version.ensures.err);
+      promise = rw c.in-Version.is (text_as_promised _ g.W.Sink.log _ _ _ _ c.all_printed-in-Version.ensures c.print_version.ensures);
       untouched = rw c.in-Version.is refl;
     }

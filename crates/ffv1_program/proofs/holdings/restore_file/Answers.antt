@@ -1,21 +1,22 @@
-use Rattle.std.proofs.Common.{rules}
+use Rattle.std.proofs.Common.{rules, inr}
 use Rattle.ffv1_commands.proofs.RestoreSteps.{restore_of_bytes}
-use Rattle.ffv1_commands.proofs.Wrapped.{both_through}
 use Rattle.ffv1_program.proofs.Runs.{all_ok, all_err}
 use Rattle.ffv1_program.proofs.Unread.{unread_as, restore_unread}
+use Rattle.ffv1_program.proofs.Unwritten.{err_out_also, restore_unwritten}
 use Rattle.ffv1_program.proofs.holdings.restore_file.Goals as goal
 
 pub returns : goal.returns
 returns g c out =
     let r = c.restore_of.result in
-    let bytes = restore_of_bytes c.args.recordings _ _ _ _ _ _ r c.restore_of.ensures.reported in
-    let kept = both_through r _ _ _ _ _ _ c.new.ensures.writer c.new-2.ensures.writer c.restore_of.ensures.untouched in
+    let bytes = restore_of_bytes c.args.recordings (g.F.Buffered.Source.log c.in_ok-file.file)
+    (g.F.Buffered.Source.log c.restore_of.new.file) _ _ _ _ r c.restore_of.ensures.reported in
     record {
       does = all_ok r _ (search (rules, rw c.in_ok-file.ensures.bytes at bytes.ok));
       stops = all_err r _ (search (rules, rw c.in_ok-file.ensures.bytes at bytes.err));
-      keeps = all_err r _ (search (rules, kept));
+      keeps = all_err r _ (search (rules, c.restore_of.ensures.untouched));
       names = all_err r _ bytes.names;
       refuses = tt;
       unread = all_err r _ (unread_as _ _ r (λ path unread. (c.in_ok-file.file, c.restore_of.new.file, c.in_ok-file.ensures.at, unread))
           (restore_unread c.args.recordings _ _ _ _ _ _ r c.restore_of.ensures.reported));
+      unwritten = all_err r _ (err_out_also _ _ _ r inr (restore_unwritten _ _ _ _ _ _ c.args.recordings r c.restore_of.ensures.reported));
     }
