@@ -54,7 +54,7 @@ rules: $(PROGRAM)
 SMALL := gray-48x32-4-slices gray-64x64-1x1-tiles-one-run-flat gray-64x7-3x2-tiles-six-runs-alternating \
 	gray-7x2-3x2-tiles-two-runs-rising yuv410p-64x64-2x2-tiles-one-run-alternating yuv420p-64x64-1x1-tiles-two-runs-flat \
 	yuv420p-7x64-3x2-tiles-one-run-alternating yuv420p-7x7-1x1-tiles-six-runs-rising yuv422p-64x7-1x1-tiles-one-run-alternating \
-	yuv422p-32x24-4-slices bgra-32x24-6-slices
+	yuv422p-32x24-4-slices yuv420p-32x24-4-slices bgra-32x24-6-slices
 rot:
 	tests/fuzz $(PROGRAM) 0 --bursts 200 --every $(SMALL) --files matroska-flac matroska-pcm
 	tests/checks $(PROGRAM)

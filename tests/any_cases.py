@@ -15,7 +15,8 @@ TESTS = pathlib.Path(__file__).resolve().parent
 TABLE = TESTS / "cases/any"
 
 # Recordings out of the profile, and a frame of each: RGB of 10 bits; RGB with alpha and Golomb-Rice codes; 4:2:2 of 10 bits; gray of 16 bits
-# with a table of transitions; gray with alpha; tiles that overlap in chroma, with initial states; and a frame that is no keyframe.
+# with a table of transitions; gray with alpha; tiles that overlap in chroma, with initial states; a frame that is no keyframe; and such a frame
+# by FFmpeg's own settings, whose record is in the profile. Of its two copies the second lacks tile 0, and so its holding file is of version 2.
 RECORDED = [
     ("gbrp10-32x24-4-slices", "frame-0"),
     ("bgra-32x24-6-slices", "frame-0"),
@@ -24,8 +25,11 @@ RECORDED = [
     ("ya8-32x24-4-slices", "frame-0"),
     ("yuv420p-36x28-4-slices", "frame-0"),
     ("yuv422p-32x24-4-slices", "frame-1"),
+    ("yuv420p-32x24-4-slices", "frame-13"),
 ]
 PROFILE = "gray-48x32-4-slices"
+# The last of these recordings: a keyframe, and the frame after it.
+DEFAULT, KEYFRAME, BETWEEN = "yuv420p-32x24-4-slices", "frame-12", "frame-13"
 WITHOUT_PARITIES = "yuv444p12-32x24-4-slices"
 # Small recordings: the record, the size, and the contents of slices. The second frame of the first is no keyframe.
 GRAY = bytes.fromhex("5600302849cd9b366cd9b366c6acf7f3eb")
@@ -105,8 +109,8 @@ def damaged_copies(name, frame):
         yield f"from real/{name}/{frame} with {place} {payload[place] ^ 0xFF:02x}", makings.inverted(payload, place)
 
 
-def add_recorded(cases, name, frame):
-    """Each command on two copies of a recorded frame, or on their holdings, with --any and without."""
+def add_recorded(cases, name, frame, kind=""):
+    """Each command on two copies of a recorded frame, or on their holdings, with --any. The names begin with the kind, if one is given."""
     size = tuple(int(side) for side in name.split("-")[1].split("x"))
     record = (TESTS / "real" / name / "record").read_bytes()
     recording, sides = recording_of(record, size), " ".join(map(str, size))
@@ -114,30 +118,31 @@ def add_recorded(cases, name, frame):
     held = [any_holdings.taken(recording, payload) for payload in payloads]
     union = readings.united(*held)
     texts = [any_holdings.holding_text(record, recording, each) for each in (*held, union)]
-    parts = ["copy-a-with-origins", "copy-b-with-origins", "both-with-origins"]
-    a, b, both = (cases.kept(f"holdings/{name}/{part}", text) for part, text in zip(parts, texts))
+    parts, samples = ["copy-a-with-origins", "copy-b-with-origins", "both-with-origins"], f"real/{name}/{frame.replace('frame', 'samples')}"
+    a, b, both = (cases.kept(f"holdings/{name}/{kind}{part}", text) for part, text in zip(parts, texts))
     inputs = {"record": f"from real/{name}/record", "a": copies[0], "b": copies[1]}
-    cases.add(f"take-of-{name}", f"take --any record {sides} OUT a b", inputs, both, stdout=lines_of("copy", recording, held, payloads))
-    cases.add(f"take-of-{name}-reversed", f"take --any record {sides} OUT b a b", inputs, both,
+    title = kind + name
+    cases.add(f"take-of-{title}", f"take --any record {sides} OUT a b", inputs, both, stdout=lines_of("copy", recording, held, payloads))
+    cases.add(f"take-of-{title}-reversed", f"take --any record {sides} OUT b a b", inputs, both,
               stdout=lines_of("copy", recording, [held[1], *held], [payloads[1], *payloads]))
-    cases.add(f"take-of-{name}-one-copy", f"take --any record {sides} OUT a", {key: inputs[key] for key in ("record", "a")}, a,
+    cases.add(f"take-of-{title}-one-copy", f"take --any record {sides} OUT a", {key: inputs[key] for key in ("record", "a")}, a,
               stdout=lines_of("copy", recording, held[:1], payloads[:1]))
     files = {"a": a, "b": b}
-    cases.add(f"join-of-{name}", "join --any OUT a b", files, both, stdout=lines_of("file", recording, held, payloads))
-    cases.add(f"join-of-{name}-reversed", "join --any OUT b a b", files, both,
+    cases.add(f"join-of-{title}", "join --any OUT a b", files, both, stdout=lines_of("file", recording, held, payloads))
+    cases.add(f"join-of-{title}-reversed", "join --any OUT b a b", files, both,
               stdout=lines_of("file", recording, [held[1], held[0], held[1]], [b""] * 3))
-    cases.add(f"merge-of-{name}", "merge --any OUT a b", files, both)
-    cases.add(f"merge-of-{name}-reversed", "merge --any OUT b a", files, both)
+    cases.add(f"merge-of-{title}", "merge --any OUT a b", files, both)
+    cases.add(f"merge-of-{title}-reversed", "merge --any OUT b a", files, both)
     for part, hold, text, each in zip(("-one-copy", "-other-copy", ""), (a, b, both), texts, (*held, union)):
-        cases.add(f"report-of-{name}{part}", "report --any hold", {"hold": hold}, stdout=report_of(recording, each))
+        cases.add(f"report-of-{title}{part}", "report --any hold", {"hold": hold}, stdout=report_of(recording, each))
         payload, fault = any_holdings.restored(text)
         older = {"OUT": "older"} if fault else {}
-        cases.add(f"restore-of-{name}{part}", "restore --any hold OUT", {"hold": hold, **older}, payload and f"from real/{name}/{frame}",
+        cases.add(f"restore-of-{title}{part}", "restore --any hold OUT", {"hold": hold, **older}, payload and f"from real/{name}/{frame}",
                   stdout=restored_line(payload), fault=fault)
-        made, printed, status = picture_said(cases, recording, each, f"real/{name}/samples-{frame[-1]}")
-        cases.add(f"picture-of-{name}{part}", "picture --any hold OUT", {"hold": hold}, made, status, printed)
+        made, printed, status = picture_said(cases, recording, each, samples)
+        cases.add(f"picture-of-{title}{part}", "picture --any hold OUT", {"hold": hold}, made, status, printed)
         # where each tile is shown, these are the samples that FFmpeg decodes
-        assert printed or made == f"from real/{name}/samples-{frame[-1]}"
+        assert printed or made == f"from {samples}"
     assert any_holdings.restored(texts[2])[0] == (TESTS / "real" / name / frame).read_bytes()
 
 
@@ -180,10 +185,12 @@ def add_profile(cases):
 
 
 def add_mixed(cases):
-    """A holding of the profile is not joined with one of another recording."""
+    """A holding is not joined with one of another recording or size, whichever magic these have."""
     files = {"of-profile": f"from holdings/{PROFILE}/both-with-origins", "of-other": f"from holdings/{RECORDED[0][0]}/both-with-origins",
-             "of-third": f"from holdings/{RECORDED[1][0]}/both-with-origins", "OUT": "older"}
-    for left, right in (("of-profile", "of-other"), ("of-other", "of-profile"), ("of-other", "of-third")):
+             "of-third": f"from holdings/{RECORDED[1][0]}/both-with-origins", "OUT": "older",
+             "of-default": f"from holdings/{DEFAULT}/both-with-origins", "of-higher-default": f"from holdings/{DEFAULT}/both-with-origins with 15 19"}
+    for left, right in (("of-profile", "of-other"), ("of-other", "of-profile"), ("of-other", "of-third"), ("of-profile", "of-default"),
+                        ("of-default", "of-profile"), ("of-default", "of-other"), ("of-default", "of-higher-default")):
         given = {path: files[path] for path in (left, right, "OUT")}
         cases.add(f"join-{left}-and-{right}", f"join --any OUT {left} {right}", given, fault="hold fault 1")
         cases.add(f"merge-{left}-and-{right}", f"merge --any OUT {left} {right}", given, fault="holding file fault 12")
@@ -192,16 +199,26 @@ def add_mixed(cases):
 # ---- faults of holding files
 
 
+def begun_head(content):
+    """What `merge` makes of a holding file whose first entry is refused: its head, in version 2 or of its own magic; None if that is refused."""
+    try:
+        _, _, end = any_holdings.read_head(content, True)
+    except readings.Fault:
+        return None
+    return content[:7] + (b"\x01" if content.startswith(any_holdings.MAGIC) else b"\x02") + content[8:end]
+
+
 def add_fault(cases, name, hold, content, commands=("report",)):
-    """A holding file that is refused, by the second reading of its bytes."""
+    """A holding file that is refused, by the second reading of its bytes; where `merge` is one of the commands, at the latest for its first entry."""
     try:
         any_holdings.read_holding(content, True)
     except readings.Fault as fault:
+        begun = begun_head(content)
         words = {"report": "report --any hold", "join": "join --any OUT hold", "merge": "merge --any OUT hold hold",
                  "restore": "restore --any hold OUT", "picture": "picture --any hold OUT"}
         for command in commands:
-            older = {} if command == "report" else {"OUT": "older"}
-            cases.add(f"{command}-of-{name}", words[command], {"hold": hold, **older}, fault=f"holding file fault {fault.args[0]}")
+            older, made = {} if command == "report" else {"OUT": "older"}, said(begun) if command == "merge" and begun else None
+            cases.add(f"{command}-of-{name}", words[command], {"hold": hold, **older}, made, fault=f"holding file fault {fault.args[0]}")
     else:
         raise ValueError(f"no fault: {name}")
 
@@ -214,7 +231,8 @@ def add_changed(cases, name, base, changes, commands=("report",), left=""):
 
 
 def add_magics(cases):
-    """The magic is judged byte by byte; that a record is in the profile once it was read, and before the first tag."""
+    """The magic is judged byte by byte; that of another recording with a record in the profile once the first entry's slice was read, or the end
+    tag."""
     readers = ("join", "merge", "report", "restore", "picture")
     other, profile = f"{RECORDED[4][0]}/both-with-origins", f"{PROFILE}/both-with-origins"
     end_of_record = 20 + len((TESTS / "real" / PROFILE / "record").read_bytes())
@@ -231,6 +249,98 @@ def add_magics(cases):
     add_changed(cases, "another-recording-as-of-the-profile", other, f"0 {profile_magics[1].hex()}", readers)
     add_changed(cases, "another-recording-as-of-version-1", other, f"0 {profile_magics[0].hex()}")
     add_changed(cases, "no-width", other, "8 00000000")
+
+
+def add_first_entries(cases):
+    """With a record in the profile a file of the other magic begins with a slice of tile 0 of a frame between keyframes."""
+    record, key, between = ((TESTS / "real" / DEFAULT / part).read_bytes() for part in ("record", KEYFRAME, BETWEEN))
+    keys, others = ([piece for _, piece in reversed(readings.links(payload)[0])] for payload in (key, between))
+    of_key, of_other, digests = readings.entry_text(0, keys[0], []), readings.entry_text(0, others[0], []), [bytes([number]) * 32 for number in (2, 1)]
+    second = readings.file_text(record, (32, 24), [of_other])
+
+    def file_of(*texts):
+        return any_holdings.MAGIC + b"\x01" + readings.file_text(record, (32, 24), texts)[8:]
+
+    for name, content in (
+        ("a-first-entry-of-a-keyframe", file_of(of_key)),
+        ("a-first-entry-of-tile-1", file_of(readings.entry_text(1, others[1], []), readings.entry_text(2, others[2], []))),
+        ("a-first-entry-of-a-keyframe-and-falling-digests", file_of(readings.entry_text(0, keys[0], digests))),
+        ("a-first-entry-between-keyframes-and-falling-digests", file_of(readings.entry_text(0, others[0], digests))),
+        ("a-first-entry-between-keyframes-in-version-2", second),
+        ("no-entry", file_of()),
+    ):
+        add_fault(cases, name, cases.kept(f"holdings/{DEFAULT}/{name}", content), content, ("join", "merge", "report", "restore", "picture"))
+    for name, content in (
+        ("no-entry-and-a-byte-after-the-end", file_of() + b"\x00"),
+        ("no-entry-and-no-end", file_of()[:-1]),
+        ("no-entry-and-another-tag", file_of()[:-1] + b"\x02"),
+        ("a-keyframe-before-another-frame", file_of(of_key, of_other)),
+        ("a-first-entry-of-a-keyframe-and-no-digests", file_of(of_key)[:-5]),
+        ("a-first-entry-of-a-keyframe-that-is-cut", file_of(of_key)[:-9]),
+        ("a-first-entry-of-a-keyframe-that-is-damaged", file_of(readings.entry_text(0, makings.inverted(keys[0], 9), []))),
+        ("a-first-entry-between-keyframes-that-is-damaged", file_of(readings.entry_text(0, makings.inverted(others[0], 9), []))),
+        ("a-first-entry-between-keyframes-twice", file_of(of_other, of_other)),
+        ("a-first-entry-of-tile-1-as-of-tile-0", file_of(readings.entry_text(0, others[1], []))),
+    ):
+        add_fault(cases, name, said(content), content)
+    cases.add("left-out-report-of-a-frame-between-keyframes-in-version-2", "report hold", {"hold": said(second)}, fault="holding file fault 6")
+
+
+def add_between(cases):
+    """A frame between keyframes of a recording by FFmpeg's own settings, beside a keyframe of it."""
+    record, key, between = ((TESTS / "real" / DEFAULT / part).read_bytes() for part in ("record", KEYFRAME, BETWEEN))
+    recording, names = recording_of(record, (32, 24)), {"key": KEYFRAME, "between": BETWEEN}
+    held = {name: any_holdings.taken(recording, payload) for name, payload in (("key", key), ("between", between))}
+    held["both"] = readings.united(*held.values())
+    texts = {name: any_holdings.holding_text(record, recording, each) for name, each in held.items()}
+    assert [text[:7] for text in texts.values()] == [readings.MAGIC, any_holdings.MAGIC, any_holdings.MAGIC]
+    files = {name: cases.kept(f"holdings/{DEFAULT}/whole-{name}-with-origins", text) for name, text in texts.items()}
+    copies = {"record": f"from real/{DEFAULT}/record", **{name: f"from real/{DEFAULT}/{frame}" for name, frame in names.items()}}
+    for order in ("key", "between"), ("between", "key"):
+        those, payloads, words = [held[name] for name in order], [{"key": key, "between": between}[name] for name in order], " ".join(order)
+        pair, title = {name: files[name] for name in order}, "-and-".join(order)
+        cases.add(f"take-of-{title}", f"take --any record 32 24 OUT {words}", copies, files["both"], stdout=lines_of("copy", recording, those, payloads))
+        cases.add(f"join-of-{title}", f"join --any OUT {words}", pair, files["both"], stdout=lines_of("file", recording, those, payloads))
+        cases.add(f"merge-of-{title}", f"merge --any OUT {words}", pair, files["both"])
+    for name, hold in files.items():
+        cases.add(f"report-of-whole-{name}", "report --any hold", {"hold": hold}, stdout=report_of(recording, held[name]))
+        made, printed, status = picture_said(cases, recording, held[name], f"real/{DEFAULT}/{KEYFRAME.replace('frame', 'samples')}")
+        cases.add(f"picture-of-whole-{name}", "picture --any hold OUT", {"hold": hold}, made, status, printed)
+        payload, fault = any_holdings.restored(texts[name])
+        cases.add(f"restore-of-whole-{name}", "restore --any hold OUT", {"hold": hold, **({"OUT": "older"} if fault else {})},
+                  payload and f"from real/{DEFAULT}/{names[name]}", stdout=restored_line(payload), fault=fault)
+    add_copies_between(cases, record, recording, between)
+    add_without_between(cases, record, between, copies, files)
+
+
+def add_copies_between(cases, record, recording, frame):
+    """Two copies of a frame between keyframes that both have tile 0; and one of these, with one of version 1 that lacks it."""
+    places = [start for start, _ in sorted(readings.links(frame)[0])]
+    held = [any_holdings.taken(recording, makings.inverted(frame, places[tile] + 40)) for tile in (1, 2, 0)]
+    texts = [any_holdings.holding_text(record, recording, each) for each in held]
+    assert [text[:7] for text in texts] == [any_holdings.MAGIC, any_holdings.MAGIC, readings.MAGIC]
+    old = {each: set() for each in held[2]}
+    for name, pair, those in (("two-copies-between", texts[:2], held[:2]),
+                              ("a-copy-between-and-version-1", [texts[0], readings.holding_text(record, (32, 24), old, 1)], [held[0], old])):
+        union = any_holdings.holding_text(record, recording, readings.united(*those))
+        assert any_holdings.restored(union)[0] == frame
+        a, b, both = (cases.kept(f"holdings/{DEFAULT}/{name}-{part}", text) for part, text in zip(("a", "b", "both"), (*pair, union)))
+        for words, order in ("a b", those), ("b a", those[::-1]):
+            title = name + "-reversed" * (words == "b a")
+            cases.add(f"join-of-{title}", f"join --any OUT {words}", {"a": a, "b": b}, both, stdout=lines_of("file", recording, order, [b""] * 2))
+            cases.add(f"merge-of-{title}", f"merge --any OUT {words}", {"a": a, "b": b}, both)
+
+
+def add_without_between(cases, record, between, copies, files):
+    """Without --any the slice of tile 0 of a frame between keyframes is not held, and a holding file that has it is refused."""
+    made, printed = any_holdings.took(record, (32, 24), [between], False)
+    inputs = {name: copies[name] for name in ("record", "between")}
+    cases.add("left-out-take-of-a-frame-between-keyframes", "take record 32 24 OUT between", inputs, said(made), stdout=printed)
+    cases.add("left-out-restore-of-a-frame-between-keyframes", "restore hold OUT", {"hold": said(made), "OUT": "older"}, fault="missing tile 0")
+    for command, words in (("join", "join OUT key between"), ("merge", "merge OUT key between"), ("report", "report between"),
+                           ("restore", "restore between OUT"), ("picture", "picture between OUT")):
+        given = {name: files[name] for name in ("key", "between") if name in words.split()}
+        cases.add(f"left-out-{command}-of-a-holding-between-keyframes", words, {**given, "OUT": "older"}, fault="holding file fault 1")
 
 
 def add_entries(cases):
@@ -409,7 +519,8 @@ def made():
     cases = Cases()
     for name, frame in RECORDED:
         add_recorded(cases, name, frame)
-    for add in (add_without, add_profile, add_mixed, add_magics, add_entries, add_pictures, add_orders, add_records, add_words):
+    add_recorded(cases, DEFAULT, KEYFRAME, "keyframe-")
+    for add in (add_without, add_profile, add_mixed, add_between, add_magics, add_first_entries, add_entries, add_pictures, add_orders, add_records, add_words):
         add(cases)
     return {"cases/any": "\n".join(sorted(cases.text)).encode(), **cases.files}
 

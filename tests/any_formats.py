@@ -70,10 +70,11 @@ def planar(pixels, raw):
 
 
 def recorded(folder, choice, source, size, slices, frames, passes=1):
-    """A recording that FFmpeg makes of a source, with the samples that it decodes."""
+    """A recording that FFmpeg makes of a source, with the samples that it decodes. What a choice leaves out is as FFmpeg has it."""
     path, log = pathlib.Path(folder) / "small.mkv", pathlib.Path(folder) / "log"
     filters = f"{source},format={choice.pixels},crop={size[0]}:{size[1]}:0:0:exact=1,setsar=1"
-    encoder = f"-c:v ffv1 -level 3 -coder {choice.coder} -context {choice.context} -g {choice.group} -slicecrc {choice.parity}".split()
+    chosen = ("-coder", choice.coder), ("-context", choice.context), ("-g", choice.group), ("-slicecrc", choice.parity)
+    encoder = [*"-c:v ffv1 -level 3".split(), *(word for option in chosen if option[1] is not None for word in option)]
     words = ["-f", "lavfi", "-i", filters, "-frames:v", frames, *encoder, "-slices", slices]
     for number in range(1, passes + 1) if passes > 1 else ():
         ffmpeg(*words, "-pass", number, "-passlogfile", log, path)
@@ -84,6 +85,12 @@ def recorded(folder, choice, source, size, slices, frames, passes=1):
     samples = [planar(choice.pixels, raw[start : start + each]) for start in range(0, len(raw), each)]
     name = " ".join(map(str, [*choice, f"{size[0]}x{size[1]}", slices]))
     return Recorded(name, size, record_of(path), packets_of(path), samples)
+
+
+def by_default(folder):
+    """A recording of 25 frames by FFmpeg's own settings: Golomb-Rice codes, 8 bits, a keyframe in twelve."""
+    choice = Choice("yuv420p", None, None, None, 1)
+    return recorded(folder, choice, "mandelbrot=s=48x32:start_x=-0.7:start_y=0.3:start_scale=0.5,noise=alls=4:allf=t", (48, 32), 4, 25)
 
 
 def made(folder, number):

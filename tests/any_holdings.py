@@ -25,29 +25,29 @@ def recording_of(record, size, is_any):
 
 
 # FORMAT: Slice headers
-def header_of(recording, piece, first):
-    """The header of a slice that is of one tile, and the decoder after it; or None."""
+def header_of(recording, piece, first, is_any=True):
+    """The header of a slice that is of one tile, and the decoder after it; or None. Without --any it is of a keyframe."""
     if not readings.is_slice(piece):
         return None
     try:
         header, coder = sample_reading.start_of_slice(recording, piece[:-8], first)
     except sample_reading.FrameFault:
         return None
-    is_taken = header.width == header.height == 1 and first == (header.x == header.y == 0) and (header.key is not False or not is_in_profile(recording))
+    is_taken = header.width == header.height == 1 and first == (header.x == header.y == 0) and (is_any or header.key is not False)
     return (header, coder) if is_taken else None
 
 
 # FORMAT: Slice headers
-def tile_of(recording, piece, first):
+def tile_of(recording, piece, first, is_any=True):
     """The tile of which some bytes are a slice, or None."""
-    found = header_of(recording, piece, first)
+    found = header_of(recording, piece, first, is_any)
     return found and found[0].y * recording.grid[0] + found[0].x
 
 
 # FORMAT: Slices of a payload
-def found_slices(recording, payload):
+def found_slices(recording, payload, is_any=True):
     """The slices found in a payload, each with its tile, in the chain's order."""
-    found = [(tile_of(recording, piece, start == 0), piece) for start, piece in readings.links(payload)[0]]
+    found = [(tile_of(recording, piece, start == 0, is_any), piece) for start, piece in readings.links(payload)[0]]
     return [each for each in found if each[0] is not None]
 
 
@@ -59,22 +59,35 @@ def is_in_order(recording, payload):
 
 
 # FORMAT: Holdings
-def taken(recording, payload):
+def taken(recording, payload, is_any=True):
     """What a copy adds to a holding: the slices found in it, each with its tile and the copy's digest."""
     digest = readings.hashlib.sha256(payload).digest()
-    return {each: {digest} for each in found_slices(recording, payload)}
+    return {each: {digest} for each in found_slices(recording, payload, is_any)}
+
+
+# FORMAT: The holding file
+def is_between(recording, tile, piece):
+    """Whether a slice says that its frame is no keyframe: the keyframe bit stands in the slice of tile 0."""
+    return tile == 0 and header_of(recording, piece, True)[0].key is False
 
 
 # FORMAT: The holding file
 def holding_text(record, recording, held):
-    """The file of a holding: in the profile of version 2, else of its own magic."""
+    """The file of a holding: of version 2, if its record is in the profile and no slice has the keyframe bit 0; else of its own magic."""
     text = readings.holding_text(record, recording.size, held)
-    return text if is_in_profile(recording) else MAGIC + bytes([VERSION]) + text[8:]
+    is_second = is_in_profile(recording) and not any(is_between(recording, *each) for each in held)
+    return text if is_second else MAGIC + bytes([VERSION]) + text[8:]
 
 
 # FORMAT: The holding file
-def read_holding(text, is_any):
-    """The record, the recording and the slices of a holding file, or Fault with the number of its first fault."""
+def judge_first(recording, first):
+    """With a record in the profile a file of its own magic begins with a slice that has the keyframe bit 0; the first entry may be None."""
+    readings.judge(not is_in_profile(recording) or first and is_between(recording, *first), 1)
+
+
+# FORMAT: The holding file
+def read_head(text, is_any):
+    """The record, the recording and the end of the record in a holding file, or Fault with the number of its first fault."""
     heads = [readings.MAGIC + b"\x01", readings.MAGIC + b"\x02", *[MAGIC + bytes([VERSION])] * is_any]
     for place in range(8):
         if not any(head.startswith(text[: place + 1]) for head in heads):
@@ -84,14 +97,21 @@ def read_holding(text, is_any):
     readings.judge(len(text) < 20 or length <= readings.RECORD_LIMIT, 11)
     readings.judge(len(text) >= 20 + length, 3)
     record, size = text[20 : 20 + length], (int.from_bytes(text[8:12], "big"), int.from_bytes(text[12:16], "big"))
-    is_other = text.startswith(MAGIC)
     try:
-        recording = recording_of(record, size, is_other)
+        return record, recording_of(record, size, text.startswith(MAGIC)), 20 + length
     except Fault:
         raise Fault(2) from None
-    readings.judge(not (is_other and is_in_profile(recording)), 1)
-    version = b"\x02" if is_other else text[7:8]
-    return record, recording, readings.read_entries(recording, text[:7] + version + text[8:], 20 + length, tile_of)
+
+
+# FORMAT: The holding file
+def read_holding(text, is_any, is_begun=False):
+    """The record, the recording and the slices of a holding file, or Fault with the number of its first fault. Of one that is only begun the first
+    entry is not judged."""
+    record, recording, place = read_head(text, is_any)
+    if not text.startswith(MAGIC):
+        return record, recording, readings.read_entries(recording, text, place, lambda *words: tile_of(*words, is_any=False))
+    judge = (lambda *words: None) if is_begun else judge_first
+    return record, recording, readings.read_entries(recording, text[:7] + b"\x02" + text[8:], place, tile_of, judge)
 
 
 # ---- what the commands make
@@ -102,9 +122,9 @@ def took(record, size, payloads, is_any=True):
     """What `take` makes and prints of copies, or Fault with the number of the record's fault."""
     recording, held, lines = recording_of(record, size, is_any), {}, ""
     for number, payload in enumerate(payloads, 1):
-        found = taken(recording, payload)
+        found = taken(recording, payload, is_any)
         word = " unordered" if is_any and not is_in_order(recording, payload) else ""
-        slices, new = len(found_slices(recording, payload)), len(set(found) - set(held))
+        slices, new = len(found_slices(recording, payload, is_any)), len(set(found) - set(held))
         lines += f"copy {number} links {len(readings.links(payload)[0])} slices {slices} new {new}{word}\n"
         held = readings.united(held, found)
     return holding_text(record, recording, held), lines.encode()

@@ -87,10 +87,8 @@ def union_difference(held, copies):
 
 def frame_difference(held, recording, frame, slices):
     """Whether halves of a frame give it back, and pictures of them and of it are right: those of a keyframe are its samples, and of a frame between
-    keyframes nothing is decoded. In the profile a frame between keyframes has no slices that are held."""
+    keyframes nothing is decoded."""
     whole = held.take(*halves(frame))[0]
-    if any_holdings.is_in_profile(recording) and not slices[0].header.key:
-        return None if held.restore(whole) == (None, b"", 1, "missing tile 0") else "restore: a frame between keyframes in the profile"
     if held.restore(whole) != (frame, f"restored {len(frame)} bytes\n".encode(), 0, ""):
         return "restore: another frame of two halves"
     is_key, tiles = slices[0].header.key, readings.tiles_of(recording)
@@ -105,17 +103,22 @@ def frame_difference(held, recording, frame, slices):
 
 
 def profile_difference(held, recording, copies):
-    """Whether without --any a recording out of the profile is refused, and of one in the profile all is the same."""
+    """Whether without --any a recording out of the profile is refused, and the holding of its frames. Of one in the profile all is the same, but
+    for a slice of tile 0 of a frame between keyframes: that is held with --any alone."""
     plain, hold = held.without_any(), held.take(*copies)[0]
     if any_holdings.is_in_profile(recording):
-        return None if [hold, *results(plain, hold)] == [plain.take(*copies)[0], *results(held, hold)] else "another file or line without --any"
+        taken, lines = any_holdings.took(held.record, held.size, copies, False)
+        if plain.take(*copies) != (taken, lines, 0, ""):
+            return "take: another holding without --any"
+        if not hold.startswith(any_holdings.MAGIC):
+            return None if (hold, *results(plain, hold)) == (taken, *results(held, hold)) else "another file or line without --any"
     try:
         readings.recording_of(held.record, held.size, readings.PROFILE)
     except readings.Fault as fault:
         if plain.take(*copies) != (None, b"", 1, f"setup fault {fault.args[0]}"):
             return "take: a recording out of the profile is not refused without --any"
     refused = {found[1:] for found in (plain.report(hold), plain.restore(hold), plain.picture(hold), plain.join(hold), plain.merge(hold, hold))}
-    return None if refused == {(b"", 1, "holding file fault 1")} else "a holding out of the profile is not refused without --any"
+    return None if refused == {(b"", 1, "holding file fault 1")} else "a holding of its own magic is not refused without --any"
 
 
 def results(held, hold):

@@ -231,10 +231,12 @@ def held_inputs(recording, payload, text):
 
 
 def every_input(recording):
-    """The first frame of a recording, its record and its first holding file, cut and zeroed everywhere, through each command."""
-    payload = next(iter(recording.frames.values()))
+    """The first frame of a recording, its record and its first holding file, cut and zeroed everywhere, through each command; of a recording that is
+    not in the profile the second frame and holding file, where there are two."""
+    place = 1 if recording in OTHERS and len(recording.frames) > 1 else 0
+    payload = list(recording.frames.values())[place]
     if recording.holdings:
-        yield from held_inputs(recording, payload, recording.holdings[0])
+        yield from held_inputs(recording, payload, recording.holdings[place])
     if recording in OTHERS:
         yield from played_inputs(recording)
         return

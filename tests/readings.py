@@ -441,8 +441,9 @@ def read_holding(text):
 
 
 # FORMAT: The holding file
-def read_entries(setup, text, place, tile_of=tile_of):
-    """The entries of a holding file from a place on, by what is a slice of the recording."""
+def read_entries(setup, text, place, tile_of=tile_of, judge_first=lambda setup, first: None):
+    """The entries of a holding file from a place on, by what is a slice of the recording. The first one is judged before its digests are read;
+    where there is none, that is judged once the end tag was read."""
     held, last = {}, None
     while text[place : place + 1] == b"\x01":
         head = text[place + 1 : place + 7]
@@ -453,10 +454,14 @@ def read_entries(setup, text, place, tile_of=tile_of):
         tile = int.from_bytes(head[:2], "big")
         judge(tile_of(setup, piece, tile == 0) == tile, 6)
         judge(last is None or last < (tile, piece), 5)
+        if last is None:
+            judge_first(setup, (tile, piece))
         last, place = (tile, piece), place + 7 + length
         held[last], place = (set(), place) if text[7] == 1 else read_origins(text, place)
     judge(place < len(text), 3)
     judge(text[place] == 0, 4)
+    if last is None:
+        judge_first(setup, None)
     judge(place + 1 == len(text), 7)
     return held
 

@@ -218,11 +218,12 @@ class Recording:
 
 
 class AnyRecording:
-    """A recording of tests/real that is out of the profile: inputs of the commands over holdings with the word --any, and what these make."""
+    """A recording of tests/real that is out of the profile: inputs of the commands over holdings with the word --any, of a frame that is named, and
+    what these make."""
 
-    def __init__(self, name):
+    def __init__(self, name, frame="frame-0"):
         self.size = tuple(int(side) for side in name.split("-")[1].split("x"))
-        self.record, self.frame = (recorded(f"real/{name}/{part}") for part in ("record", "frame-0"))
+        self.record, self.frame = (recorded(f"real/{name}/{part}") for part in ("record", frame))
         halves = held_frames.halves(self.frame)
         whole, lines = any_holdings.took(self.record, self.size, halves)
         held = [any_holdings.took(self.record, self.size, [half])[0] for half in halves]

@@ -11,7 +11,7 @@ import readings
 from wanted import heads
 
 # Those whose exit status can be 3.
-THREE = ["picture", "splice", "scan", "check", "mend", "samples"]
+THREE = ["take", "picture", "splice", "scan", "check", "mend", "samples"]
 
 MEMORY, FILE_SIZE, PATIENCE = 256 << 20, 4 << 20, 20
 
@@ -38,17 +38,21 @@ def is_front(one, made, printed):
 
 
 def begins(one, made):
-    """Whether a file that `merge` began beside a fault is a head and entries of its files, with their origins, without the end."""
+    """Whether a file that `merge` began beside a fault is a head and entries of its files, with their origins, without the end; the magic is that of
+    any recording where one of the files has it."""
     if one.command != "merge" or len(set(heads(one))) > 1:
         return False
+    texts = one.texts[0], one.texts[-1]
+    if made.startswith(any_holdings.MAGIC) != any(text.startswith(any_holdings.MAGIC) for text in texts):
+        return False
     try:
-        _, _, held = any_holdings.read_holding(made + b"\x00", one.is_any)
+        _, _, held = any_holdings.read_holding(made + b"\x00", one.is_any, is_begun=True)
     except readings.Fault:
         return False
     except readings.TooManyStates:
         return True
-    texts = one.texts[0] + one.texts[-1]
-    return all(piece in texts and all(origin in texts for origin in origins) for (_, piece), origins in held.items())
+    both = b"".join(texts)
+    return all(piece in both and all(origin in both for origin in origins) for (_, piece), origins in held.items())
 
 
 def breach(one, ran, made):

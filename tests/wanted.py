@@ -80,7 +80,7 @@ def wanted_take(one):
         made, printed = any_holdings.took(one.record, one.size, one.payloads, one.is_any)
     except readings.Fault as fault:
         return fault_wanted(fault, "setup")
-    return Wanted(0, printed, made)
+    return Wanted(any_holdings.take_status(printed), printed, made)
 
 
 def wanted_decode(one, setup):
@@ -147,8 +147,8 @@ def wanted_large_picture(recording, held):
     open_tiles = {tile: f"disputed {len(pieces)}" if pieces else "missing" for tile, pieces in enumerate(stand) if len(pieces) != 1}
 
     def fits(printed, made):
-        reported = {int(tile): how for _, tile, how in (line.split(" ", 2) for line in printed.decode().splitlines())}
-        readable = {tile: how for tile, how in reported.items() if not how.startswith(("fault ", "unclean "))}
+        reported = {int(tile): how for _, tile, how in (line.split(" ", 2) for line in printed.decode().splitlines() if line.startswith("tile "))}
+        readable = {tile: how for tile, how in reported.items() if not how.startswith(("fault ", "unclean ", "no keyframe"))}
         return readable == open_tiles and list(reported) == sorted(reported) and len(made) == readings.samples_of(recording, recording.size)
 
     return Wanted(3 if open_tiles else None, fits=fits)

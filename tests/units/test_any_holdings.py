@@ -16,6 +16,8 @@ from any_holdings import MAGIC
 from readings import Fault
 
 REAL = pathlib.Path(__file__).resolve().parent.parent / "real"
+# A recording by FFmpeg's own settings, with a keyframe in twelve frames; its record is in the profile.
+DEFAULT = "yuv420p-32x24-4-slices"
 OUT_OF_PROFILE = ["yuv420p10-48x40-6-slices", "bgra-32x24-6-slices", "ya8-32x24-4-slices", "yuv420p-36x28-4-slices", "gray16-32x24-4-slices"]
 Found = typing.Tuple[typing.Optional[bytes], bytes, int, str]
 Run = typing.Callable[[typing.List[str], typing.Dict[str, bytes]], Found]
@@ -101,18 +103,51 @@ class ReadingTest(unittest.TestCase):
         self.assert_fault(4, text[:-1] + b"\2")
         place = text.index(frame[:30])
         self.assert_fault(6, text[:place] + b"\xff" + text[place + 1 :])
-        record, size, frame = named("gray-48x32-4-slices")
-        text, _ = any_holdings.took(record, size, [frame])
-        self.assert_fault(1, MAGIC + b"\1" + text[8:])
-        self.assert_fault(2, MAGIC + b"\1" + text[8:20] + b"\xff" + text[21:])
-        # That the record is of the profile is judged before what comes after it.
-        self.assert_fault(1, MAGIC + b"\1" + text[8 : 20 + len(record)])
         record, size, frame = named("yuv444p12-32x24-4-slices")
         with self.assertRaisesRegex(Fault, "16"):
             any_holdings.took(record, size, [frame])
 
+    def test_the_first_entry_of_a_file_whose_record_is_in_the_profile(self) -> None:
+        """After the other magic it is a slice of tile 0 of a frame between keyframes. That is judged when its slice was read, or else the end tag."""
+        record, size, frame = named("gray-48x32-4-slices")
+        text, end = MAGIC + b"\1" + any_holdings.took(record, size, [frame])[0][8:], 20 + len(record)
+        first = end + 7 + len(readings.links(frame)[0][-1][1])
+        self.assert_fault(2, text[:20] + b"\xff" + text[21:])
+        for cut, number in ((end - 1, 3), (end, 3), (first - 1, 3), (first, 1), (len(text), 1)):
+            self.assert_fault(number, text[:cut])
+        for tail, number in ((b"\0", 1), (b"\0\0", 1), (b"\2", 4)):
+            self.assert_fault(number, text[:end] + tail)
+        record, size, frame = named(DEFAULT, "frame-13")
+        text, end = any_holdings.took(record, size, [frame])[0], 20 + len(record)
+        entry = text[end : end + 7 + len(readings.links(frame)[0][-1][1])]
+        self.assertEqual(text[:8], MAGIC + b"\1")
+        for changed, number in ((readings.MAGIC + b"\2" + text[8:], 6), (text[:end] + entry + bytes([0, 0, 0, 1]), 3),
+                                (text[:end] + text[end + len(entry) + 36 :], 1), (text[: end + 10] + b"\0" + text[end + 11 :], 6)):
+            self.assert_fault(number, changed)
+        # One that is only begun need not have an entry.
+        self.assertEqual(any_holdings.read_holding(text[:end] + b"\0", True, is_begun=True)[2], {})
+
+    def test_frames_between_keyframes_of_a_record_in_the_profile(self) -> None:
+        """Their slices are held with --any alone, and that of tile 0 says so in the magic of the file; files of both magics are joined."""
+        record, size, frame = named(DEFAULT, "frame-13")
+        recording = any_holdings.recording_of(record, size, True)
+        self.assertTrue(any_holdings.is_in_profile(recording))
+        lacks_last, lacks_first = (any_holdings.took(record, size, [half])[0] for half in held_frames.halves(frame))
+        self.assertEqual([text[:8] for text in (lacks_first, lacks_last)], [readings.MAGIC + b"\2", MAGIC + b"\1"])
+        whole = any_holdings.took(record, size, held_frames.halves(frame))[0]
+        self.assertEqual([any_holdings.joined(texts)[0] for texts in ([lacks_first, lacks_last], [lacks_last, lacks_first, lacks_first])], [whole] * 2)
+        self.assertEqual((whole[:8], any_holdings.restored(whole)), (MAGIC + b"\1", (frame, None)))
+        text, printed = any_holdings.took(record, size, [frame], False)
+        self.assertEqual((text[:8], printed, any_holdings.restored(text, False)),
+                         (readings.MAGIC + b"\2", b"copy 1 links 4 slices 3 new 3\n", (None, "missing tile 0")))
+        self.assert_fault(1, whole, False)
+        for name in ("frame-00", "frame-12", "frame-24"):
+            key = named(DEFAULT, name)[2]
+            plain, other = any_holdings.took(record, size, [key], False)[0], any_holdings.took(record, size, [key, frame])[0]
+            self.assertEqual([any_holdings.took(record, size, [key])[0], plain[:8], other[:8]], [plain, readings.MAGIC + b"\2", MAGIC + b"\1"])
+
     def test_a_keyframe_bit_of_0_is_no_slice_of_the_profile(self) -> None:
-        """The profile's frames are keyframes, with --any too."""
+        """With --any it is one."""
         record = makings.record_of((1, 1))
         recording = any_holdings.recording_of(record, (8, 8), True)
         self.assertTrue(any_holdings.is_in_profile(recording))
@@ -122,8 +157,10 @@ class ReadingTest(unittest.TestCase):
             for number in [0] * 9:
                 encoder.number(row, number)
             piece = readings.sliced(encoder.header() + b"codes")
-            self.assertEqual(any_holdings.tile_of(recording, piece, True), readings.tile_of(recording, piece, True))
-            self.assertEqual(any_holdings.tile_of(recording, piece, True), 0 if key else None)
+            self.assertEqual(any_holdings.tile_of(recording, piece, True, False), readings.tile_of(recording, piece, True))
+            self.assertEqual(any_holdings.tile_of(recording, piece, True, False), 0 if key else None)
+            self.assertEqual(any_holdings.tile_of(recording, piece, True), 0)
+            self.assertEqual(any_holdings.is_between(recording, 0, piece), not key)
             self.assertEqual(any_holdings.tile_of(recording._replace(depth=10), piece, True), 0)
             self.assertIsNone(any_holdings.tile_of(recording._replace(depth=10), piece, False))
 
@@ -134,7 +171,8 @@ class ComparisonTest(unittest.TestCase):
     def difference(self, name: str, frame: str = "frame-0", wrong: typing.Callable[[Run, list[str], dict[str, bytes]], Found] | None = None) -> str | None:
         record, size, payload = named(name, frame)
         recording = readings.recording_of(record, size)
-        slices = [each for each in sample_reading.frames_of(recording, [named(name)[2], payload][frame == "frame-0" :])][-1]
+        before = [named(name, path.name)[2] for path in sorted((REAL / name).glob("frame-*")) if path.name < frame]
+        slices = list(sample_reading.frames_of(recording, [*before, payload]))[-1]
         run = called if wrong is None else lambda words, files: wrong(called, words, files)
         return held_frames.difference(held_frames.Held(run, record, size), random.Random(3), payload, slices)
 
@@ -142,6 +180,8 @@ class ComparisonTest(unittest.TestCase):
         for name in ("yuv420p10-48x40-6-slices", "gray-48x32-4-slices", "bgra-32x24-6-slices"):
             self.assertIsNone(self.difference(name))
         self.assertIsNone(self.difference("yuv422p-32x24-4-slices", "frame-1"))
+        for frame in ("frame-00", "frame-01", "frame-13"):
+            self.assertIsNone(self.difference(DEFAULT, frame))
 
     def test_wrong_programs_are_found(self) -> None:
         def lost(run: Run, words: list[str], files: dict[str, bytes]) -> Found:
@@ -170,6 +210,14 @@ class ComparisonTest(unittest.TestCase):
         for wrong, said in ((lost, "merge: another holding"), (old, "take: another holding"), (accepting, "is not refused without --any"),
                             (blank, "picture: other samples"), (silent, "report: other lines")):
             self.assertIn(said, self.difference("yuv420p10-48x40-6-slices", wrong=wrong) or "", wrong.__doc__)
+        def keys_alone(run: Run, words: list[str], files: dict[str, bytes]) -> Found:
+            """In the profile a slice with the keyframe bit 0 is not held with --any either."""
+            return run([words[0], *words[2:]] if words[:2] == ["take", "--any"] else words, files)
+
+        self.assertIn("take: another holding", self.difference(DEFAULT, "frame-13", keys_alone) or "")
+        self.assertIn("take: another holding", self.difference(DEFAULT, "frame-13", old) or "")
+        self.assertIn("take: another holding without", self.difference(DEFAULT, "frame-13", accepting) or "")
+        self.assertIsNone(self.difference(DEFAULT, "frame-12", keys_alone))
         # In the profile the same holding is accepted without the word.
         self.assertIsNone(self.difference("gray-48x32-4-slices", wrong=accepting))
 

@@ -9,6 +9,8 @@ import tempfile
 import unittest
 
 import any_holdings
+import held_frames
+import readings
 from mend_reel.judging.results import FrameResult, FrameState
 from mend_reel.model import Content, Copy, Fault, Frame, SliceReport, Track
 from mend_reel.program.kept_frames import Held, Keeper, copy_over, refuse_kept
@@ -183,6 +185,22 @@ class KeeperTest(unittest.TestCase):
             self.assertIn(b"missing", lines)
         self.assertEqual(keeper.notes, [])
         self.assertEqual((self.work / "keep/frame-3.hold").read_bytes()[:8], b"FFV1ANY\1")
+
+    def test_frames_between_keyframes_of_a_record_in_the_profile(self):
+        """By FFmpeg's own settings most frames are such: all of their slices are kept, and none is shown."""
+        program, folder = stand_in.make(self.folder), REAL / "yuv420p-32x24-4-slices"
+        keeper = Keeper(program, self.work, str(self.folder / "kept"), str(self.folder / "pictures"))
+        track = dataclasses.replace(VIDEO, width=32, height=24, record=(folder / "record").read_bytes())
+        self.assertTrue(keeper.is_asked_for(track))
+        for name, magic, shown in (("frame-12", readings.MAGIC + b"\2", 0), ("frame-13", any_holdings.MAGIC + b"\1", 4)):
+            frame = (folder / name).read_bytes()
+            keeper.hold(Held(name, track, [(f"/films/{number}", half) for number, half in enumerate(held_frames.halves(frame))], RESULT))
+            hold = (self.work / f"keep/{name}.hold").read_bytes()
+            self.assertEqual((hold[:8], any_holdings.restored(hold)), (magic, (frame, None)))
+            samples, lines, _ = any_holdings.pictured(hold)
+            self.assertEqual((lines.count(b"no keyframe"), (self.work / f"pictures/{name}.png").read_bytes()), (shown, picture(keeper.shapes[1], samples)))
+            self.assertEqual(keeper.drawn[-1].tiles, Tiles(is_key=not shown))
+        self.assertEqual(keeper.notes, [])
 
     def test_a_list_that_cannot_be_kept_is_a_note(self):
         keeper = self.keeper("exit 0")

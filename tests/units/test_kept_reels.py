@@ -74,16 +74,22 @@ class KeptReelsTest(InFolder):
                 self.assertEqual((self.shown()[-1], len(lost_tiles)), (picture(shape, samples, lost_tiles, LONGEST), 1))
 
     def test_frames_that_are_no_keyframes(self) -> None:
-        """Where tile 0 is undamaged its slice says it, else the container does: then nothing is decoded either."""
-        folder = "gray16-40x32-4-slices"
-        whole = self.frame(folder, "frame-2")
-        for place, tile in ((-1, 0), (0, 3)):
-            start, _ = readings.links(whole)[0][place]
-            self.run_on(folder, start + 3, "frame-2")
-            image = decoded(self.shown()[-1])
-            self.assertEqual([image[y][x] == (128, 128, 128) for x, y in ((0, 0), (39, 0), (0, 31), (39, 31))], [number != tile for number in range(4)])
-            self.assertIn("no keyframe: undamaged tiles are plain gray", self.read("page.html").decode())
-            self.assertEqual({pixel for row in decoded(self.read("pictures/frame-1.png")) for pixel in row}, {(128, 128, 128)})
+        """Where tile 0 is undamaged its slice says it, else the container does: then nothing is decoded either. With a record in the profile the
+        holding's magic says it too."""
+        for folder, name, magics in (("gray16-40x32-4-slices", "frame-2", (any_holdings.MAGIC, any_holdings.MAGIC)),
+                                     ("yuv420p-32x24-4-slices", "frame-13", (readings.MAGIC, any_holdings.MAGIC))):
+            whole, (right, lower) = self.frame(folder, name), (int(side) - 1 for side in folder.split("-")[1].split("x"))
+            for place, tile, magic in ((-1, 0, magics[0]), (0, 3, magics[1])):
+                with self.subTest(folder=folder, tile=tile):
+                    start, _ = readings.links(whole)[0][place]
+                    self.run_on(folder, start + 3, name)
+                    image, blank = decoded(self.shown()[-1]), decoded(self.read("pictures/frame-1.png"))
+                    grays = {pixel for row in blank for pixel in row}
+                    self.assertEqual(len(grays), 1)
+                    self.assertEqual([image[y][x] in grays for x, y in ((0, 0), (right, 0), (0, lower), (right, lower))],
+                                     [number != tile for number in range(4)])
+                    self.assertIn("no keyframe: undamaged tiles are plain gray", self.read("page.html").decode())
+                    self.assertEqual(self.read("kept/frame-1.hold")[:7], magic)
 
     def test_a_recording_without_parities_keeps_nothing(self) -> None:
         content = (REAL / "matroska-no-parity/reel.mkv").read_bytes()

@@ -163,19 +163,25 @@ class Stored(unittest.TestCase):
             with self.subTest(folder.name):
                 size = tuple(int(side) for side in folder.name.split("-")[1].split("x"))
                 recording = readings.recording_of((folder / "record").read_bytes(), size)
-                payloads = [(folder / f"frame-{number}").read_bytes() for number in range(len(wanted))]
+                payloads = [path.with_name(path.name.replace("samples", "frame")).read_bytes() for path in wanted]
                 for slices, path in zip(sample_reading.frames_of(recording, payloads), wanted):
                     self.assertEqual(sample_reading.samples_text(recording, slices, 0), path.read_bytes(), path.name)
                     self.assertTrue(all(each.is_clean for each in slices))
                 seen += 1
-        self.assertEqual(seen, 10)
+        self.assertEqual(seen, 11)
 
     def test_profile_refuses_the_others(self) -> None:
+        """But for the record of one that is out of it by its frames between keyframes alone."""
+        accepted = []
         for folder in sorted((TESTS / "real").iterdir()):
             if any(folder.glob("samples-*")):
-                with self.subTest(folder.name), self.assertRaises(readings.Fault):
-                    size = tuple(int(side) for side in folder.name.split("-")[1].split("x"))
+                size = tuple(int(side) for side in folder.name.split("-")[1].split("x"))
+                try:
                     readings.recording_of((folder / "record").read_bytes(), size, readings.PROFILE)
+                    accepted.append(folder.name)
+                except readings.Fault:
+                    pass
+        self.assertEqual(accepted, ["yuv420p-32x24-4-slices"])
 
 
 if __name__ == "__main__":

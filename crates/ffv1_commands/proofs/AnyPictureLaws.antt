@@ -17,7 +17,6 @@ use Rattle.ffv1_holding.specs.Originals.{AreCopiesOfSlices}
 use Rattle.ffv1_holding.specs.declared.recordings.Recordings.TheVariants.{Any}
 use Rattle.ffv1_holding.proofs.Reels.{own_size, has_parities}
 use Rattle.ffv1_holding.proofs.ExactlyHeld.{near_are_copies}
-use Rattle.ffv1_hold.specs.Headline.{IsReelOf}
 use Rattle.ffv1_hold.proofs.TextLaws.{one_text}
 use Rattle.ffv1_picture.specs.Frames.{planes_of}
 use Rattle.ffv1_player.specs.Frames.{planes_of_samples, IsSameFrame}
@@ -26,33 +25,51 @@ use Rattle.ffv1_player.specs.ShownSlices.{ShowsEachSlice}
 use Rattle.ffv1_player.specs.Written.{sample_bytes, plane_bytes, samples_bytes}
 use Rattle.ffv1_player.specs.declared.samples.Samples.{Samples}
 use Rattle.ffv1_player.specs.declared.samples.SliceEnd.{SliceEnd}
+use Rattle.ffv1_player.specs.declared.shown.Shown.{Shown}
 use Rattle.ffv1_player.specs.declared.shown.ShownTile.TheVariants.{Decoded}
 use Rattle.ffv1_player.proofs.ShownSlices as shown_slices
 use Rattle.ffv1_player.proofs.PlayedSlices.{keyframe_is_shown}
 use Rattle.ffv1_player.proofs.ProfilePictures.{profile_is_shown_alike}
+use Rattle.ffv1_commands.specs.TakenFrames.{as_taken, IsTakenReel}
 use Rattle.ffv1_commands.specs.AnyPictureText.{IsShownWhole, AnyPictureStops}
 use Rattle.ffv1_commands.specs.AnyPictureLaws.{ShowsAnyOnly, AnyPictureShowsTheOriginal, AnyPictureShowsNearCopies, AnyPictureShowsTheKeyframe, PicturesAreAlike}
 use Rattle.ffv1_commands.specs.Commands.{IsNoFaultOfBytes}
 use Rattle.ffv1_commands.specs.declared.fault.CliFault.{CliFault}
 use Rattle.ffv1_commands.specs.declared.fault.CliFault.TheVariants as faults
-use Rattle.ffv1_commands.proofs.CommandLaws.{IsFileOf, one_holding, made, taken_reel, no_fault, is_reel, exact, own, same_reel}
+use Rattle.ffv1_commands.proofs.CommandLaws.{IsFileOfCopies, read_taken, made, made_no_fault, is_reel, exact, own, same_reel}
+
+-- as it is taken, a holding is shown the same
+shown_taken : (h : Contents) (shown : Shown) → ShowsHolding h shown → ShowsHolding (as_taken Any h) shown
+shown_taken h shown shows = record {
+  recording = shows.recording;
+  says = shows.says;
+  key = shows.key;
+  may_be = shows.may_be;
+  known = shows.known;
+  shows = record {
+    pictures = shows.shows.pictures;
+    count = shows.shows.count;
+    stated = shows.shows.stated;
+    each = shows.shows.each;
+    is_frame = shows.shows.is_frame;
+  };
+}
 
 module _ (config : List ℕ) (width height : ℕ) (reel : Reel) (copies : List (List ℕ)) (file original : List ℕ) (slices : List (List ℕ))
-    (of_record : IsReelOf Any config width height reel) (is : IsFileOf Any config width height copies file)
+    (of_record : IsTakenReel Any config width height reel) (is : IsFileOfCopies Any config width height copies file)
     (is_original : IsOriginal reel.rules original slices) (are : AreCopiesOfSlices reel.rules slices copies) where
   not_shown : (ob oa pb pa : Option (List ℕ)) (fault : CliFault) → AnyPictureStops (Some file) ob oa pb pa fault → IsNoFaultOfBytes fault
   not_shown ob oa pb pa (faults.Read path) stops = tt
   not_shown ob oa pb pa (faults.Write path) stops = tt
-  not_shown ob oa pb pa (faults.HoldFile fault) stops =
-      no_fault Any (holding_of is.reel copies) file (taken_reel Any config width height is.reel is.of_record) is.text is.has fault stops
+  not_shown ob oa pb pa (faults.HoldFile fault) stops = made_no_fault Any config width height copies file is fault stops
   not_shown ob oa pb pa faults.Memory stops = tt
   not_shown ob oa pb pa fault stops = stops
 
   shows : ShowsAnyOnly reel file slices
   shows = record {
     written = λ ob oa pb pa whole does.
-        let same = one_holding Any does.held (holding_of is.reel copies) file does.file is.text is.has in
-        let picture = subst (λ (h : Contents). ShowsHolding h does.shown) same does.picture in (
+        let same = read_taken Any config width height copies file is does.held does.file in
+        let picture = subst (λ (h : Contents). ShowsHolding h does.shown) same (shown_taken does.held does.shown does.picture) in (
           does.shown,
           subst (λ (z : Reel). ShowsEachSlice z slices does.shown)
               (sym (same_reel Any config width height reel copies file original slices of_record is is_original are))
@@ -100,11 +117,12 @@ pub any_picture_shows_the_keyframe : AnyPictureShowsTheKeyframe
 any_picture_shows_the_keyframe config width height reel copies file original slices of_record is is_original are r frame left says played ob oa pb pa whole does =
     let only = any_picture_shows_the_original config width height reel copies file original slices of_record is is_original are in
     let written = only.written ob oa pb pa whole does in
-    let parities = has_parities Any config width height of_record.0 of_record.1 in
-    let same : of_record.0 ≡ r =
-    record_is_one config Version3 width height of_record.0 r (parities_are_wider config width height of_record.0 parities) says in
-    let reel_says : SaysRecording reel r =
-    subst (SaysRecording reel) same (subst (λ (z : Reel). SaysRecording z of_record.0) (sym of_record.2) (own_size config width height of_record.0 parities)) in
+    let (recording, read, is_own) = of_record.1 in
+    let parities = has_parities Any config width height recording read in
+    let same : recording ≡ r = record_is_one config Version3 width height recording r (parities_are_wider config width height recording parities) says in
+    let own_says : SaysRecording of_record.0 recording =
+    subst (λ (z : Reel). SaysRecording z recording) (sym is_own) (own_size config width height recording parities) in
+    let reel_says : SaysRecording reel r = subst (SaysRecording reel) same (subst (λ (z : Reel). SaysRecording z recording) (sym of_record.2) own_says) in
     let shown = keyframe_is_shown reel r original slices written.0 frame left reel_says is_original written.1 played in (
       subst (Appends ob oa) (same_bytes written.0.samples frame shown.samples) written.2,
       (
@@ -133,9 +151,9 @@ raw_planes planes = sym (flat_map-map (λ (plane : List ℕ). plane) (λ (plane 
 pub pictures_are_alike : PicturesAreAlike
 pictures_are_alike file one other pb pa mb ma whole all are a b =
     let same : b.held ≡ a.held = one_text b.held a.held file b.file.well_formed a.file.well_formed b.file.fits.record' a.file.fits.record'
-    (b.file.version, b.file.fits.stated, b.file.text) (a.file.version, a.file.fits.stated, a.file.text) in
+    (b.file.version, b.file.fits.stated, b.file.fits.tells, b.file.text) (a.file.version, a.file.fits.stated, a.file.fits.tells, a.file.text) in
     let shown = subst (λ (h : Contents). ShowsHolding h b.shown) same b.picture in
-    let alike = profile_is_shown_alike a.held a.shown b.shown a.file.well_formed a.file.taken.0 a.picture shown in
+    let alike = profile_is_shown_alike a.held a.shown b.shown a.file.well_formed a.file.taken a.picture shown in
     let raw : one ≡ flat_map (λ plane. plane) (planes_of a.shown.frame) = a.samples ∙ raw_planes a.shown.frame.planes.items in
     let bytes = bytes_of_planes b.shown.samples.depth b.shown.samples.planes.items
     ∙ ap (λ depth. flat_map (plane_bytes depth) (planes_of_samples b.shown.samples)) alike.0

@@ -7,7 +7,7 @@ use Rattle.ffv1_holding.specs.Contents.{Contents}
 use Rattle.ffv1_hold.specs.HoldingText.{file_text}
 use Rattle.ffv1_hold.specs.FileFaults.{ReadsHolding}
 use Rattle.ffv1_commands.specs.Devices.{UnlessWriting}
-use Rattle.ffv1_commands.specs.Holdings.{IsHoldingFile, IsHoldingFault, HoldingStops}
+use Rattle.ffv1_commands.specs.Holdings.{IsHoldingFile, IsTakenFile, IsHoldingFault, HoldingStops, ReadsTaken}
 use Rattle.ffv1_commands.specs.declared.fault.CliFault.{CliFault}
 use Rattle.ffv1_commands.specs.declared.path.CommandPath.{CommandPath}
 use Rattle.ffv1_commands.specs.declared.path.CommandPath.TheVariants as paths
@@ -26,6 +26,10 @@ module _ (recordings : Recordings) (a b : ReadLog) where
         taken = read.taken;
         fits = read.file.fits;
       }
+
+  -- .. as it is taken
+  pub taken_file : (taken : Contents) → ReadsTaken recordings a b taken → IsTakenFile recordings a.remaining taken
+  taken_file taken (h, read, is) = (h, held_file h read, is)
 
   -- the fault of one that was not read
   pub unread_file : (path : CommandPath) (fault : CliFault) → HoldingStops recordings path fault a b → IsHoldingFault recordings path a.remaining fault

@@ -8,7 +8,7 @@ use Rattle.ffv1_holding.specs.Contents.{Contents}
 use Rattle.ffv1_hold.specs.FileFaults.{ReadsHolding}
 use Rattle.ffv1_hold.specs.Reading.{WentBefore, is_read}
 use Rattle.ffv1_hold.specs.declared.file_fault.HoldFileFault.TheVariants as files
-use Rattle.ffv1_commands.specs.Holdings.{HoldingStops, IsUnheld}
+use Rattle.ffv1_commands.specs.Holdings.{HoldingStops, ReadsTaken, IsUnheld}
 use Rattle.ffv1_commands.specs.InTurn.{ReadsAlone}
 use Rattle.ffv1_commands.specs.Inner.Inputs.{Goes}
 use Rattle.ffv1_commands.specs.JoinText.{IsReadAsFile, FileBreaks, JoinBreaks, IfFileUnread, IfLaterUnread}
@@ -21,7 +21,8 @@ use Rattle.ffv1_commands.proofs.Sources.{goes_anew, went_at, Kept, kept_at}
 
 -- ---- a source that began without a failure
 
-holding_anew : (recordings : Recordings) (a b : ReadLog) (h : Contents) → ReadsHolding recordings a b h → IsReadAsFile recordings a.remaining h
+holding_anew : (recordings : Recordings) (a b : ReadLog) (h : Contents) → ReadsHolding recordings a b h
+    → ReadsAlone (λ old new. ReadsHolding recordings old new h) a.remaining
 holding_anew recordings a b h read = (
   record { remaining = b.remaining; tries = no_failures; taken = 0 },
   record {
@@ -33,6 +34,9 @@ holding_anew recordings a b h read = (
     few = omega arith;
   },
 )
+
+taken_anew : (recordings : Recordings) (a b : ReadLog) (taken : Contents) → ReadsTaken recordings a b taken → IsReadAsFile recordings a.remaining taken
+taken_anew recordings a b taken (h, read, is) = let (log, so) = holding_anew recordings a b h read in (log, (h, so, is))
 
 -- how its tries went
 tries_anew : (given : Bool) → (tries : Tries) × WentBefore given no_failures tries
@@ -55,14 +59,14 @@ stops_anew recordings path fault a b (f, is, stops) =
 join_breaks_anew : (recordings : Recordings) (path : CommandPath) (whole : Contents) (fault : CliFault) (a b : ReadLog) → JoinBreaks recordings path whole fault a b
     → ReadsAlone (JoinBreaks recordings path whole fault) a.remaining
 join_breaks_anew recordings path whole fault a b (inl (inl stops)) = let (log, so) = stops_anew _ path fault a b stops in (log, inl (inl so))
-join_breaks_anew recordings path whole fault a b (inl (inr (is, (h, read)))) = let (log, so) = holding_anew _ a b h read in (log, inl (inr (is, (h, so))))
-join_breaks_anew recordings path whole fault a b (inr (is, (h, read, differs))) = let (log, so) = holding_anew _ a b h read in (log, inr (is, (h, so, differs)))
+join_breaks_anew recordings path whole fault a b (inl (inr (is, (h, read)))) = let (log, so) = taken_anew _ a b h read in (log, inl (inr (is, (h, so))))
+join_breaks_anew recordings path whole fault a b (inr (is, (h, read, differs))) = let (log, so) = taken_anew _ a b h read in (log, inr (is, (h, so, differs)))
 
 -- so is that of an input that is read so
 module _ {C : Type 0} (went : C → C → ReadLog → ReadLog → Type 0) (remaining : C → Option (List ℕ))
     (left : (old new : C) (a b : ReadLog) → went old new a b → a.remaining ≡ remaining old) (recordings : Recordings) where
-  pub goes_read : (h : Contents) (old new : C) → Goes went (λ a b. ReadsHolding recordings a b h) old new → IsReadAsFile recordings (remaining old) h
-  goes_read h = goes_anew went remaining left (λ a b. ReadsHolding recordings a b h) (λ a b. holding_anew recordings a b h)
+  pub goes_read : (h : Contents) (old new : C) → Goes went (λ a b. ReadsTaken recordings a b h) old new → IsReadAsFile recordings (remaining old) h
+  goes_read h = goes_anew went remaining left (λ a b. ReadsTaken recordings a b h) (λ a b. taken_anew recordings a b h)
 
   pub join_goes : (path : CommandPath) (whole : Contents) (fault : CliFault) (old new : C) → Goes went (JoinBreaks recordings path whole fault) old new
       → ReadsAlone (JoinBreaks recordings path whole fault) (remaining old)

@@ -4,8 +4,8 @@ use Rattle.ffv1_holding.specs.Sets as set
 use Rattle.ffv1_holding.specs.Contents.{Contents, IsSameReel, joined}
 use Rattle.ffv1_holding.specs.Joins.{joined_all, AreJoinable}
 use Rattle.ffv1_holding.specs.declared.recordings.Recordings.{Recordings}
-use Rattle.ffv1_commands.specs.Holdings.{IsHoldingFile}
-use Rattle.ffv1_commands.specs.JoinText.{file_line, line_of_join, lines_from, join_text, AreHoldingFiles, JoinsEach}
+use Rattle.ffv1_commands.specs.Holdings.{IsTakenFile}
+use Rattle.ffv1_commands.specs.JoinText.{file_line, line_of_join, lines_from, join_text, AreTakenFiles, JoinsEach}
 use Rattle.ffv1_commands.specs.Inner.JoinText.{JoinsOne}
 
 pub joined_all-push : (whole : Contents) (others : List Contents) (other : Contents)
@@ -18,18 +18,18 @@ pub AreJoinable-push : (whole : Contents) (others : List Contents) (other : Cont
 AreJoinable-push whole [] other are same = (same, tt)
 AreJoinable-push whole (o ∷ os) other are same = (are.0, AreJoinable-push (joined whole o) os other are.1 same)
 
-pub AreHoldingFiles-push : (recordings : Recordings) (inputs : List (Option (List ℕ))) (hs : List Contents) (input : Option (List ℕ)) (h : Contents) → AreHoldingFiles recordings inputs hs
-    → IsHoldingFile recordings input h → AreHoldingFiles recordings (inputs ++ input ∷ []) (hs ++ h ∷ [])
-AreHoldingFiles-push recordings [] [] input h files file = (file, tt)
-AreHoldingFiles-push recordings [] (g ∷ gs) input h files file = absurd files
-AreHoldingFiles-push recordings (i ∷ is) [] input h files file = absurd files
-AreHoldingFiles-push recordings (i ∷ is) (g ∷ gs) input h files file = (files.0, AreHoldingFiles-push _ is gs input h files.1 file)
+pub AreTakenFiles-push : (recordings : Recordings) (inputs : List (Option (List ℕ))) (hs : List Contents) (input : Option (List ℕ)) (h : Contents) → AreTakenFiles recordings inputs hs
+    → IsTakenFile recordings input h → AreTakenFiles recordings (inputs ++ input ∷ []) (hs ++ h ∷ [])
+AreTakenFiles-push recordings [] [] input h files file = (file, tt)
+AreTakenFiles-push recordings [] (g ∷ gs) input h files file = absurd files
+AreTakenFiles-push recordings (i ∷ is) [] input h files file = absurd files
+AreTakenFiles-push recordings (i ∷ is) (g ∷ gs) input h files file = (files.0, AreTakenFiles-push _ is gs input h files.1 file)
 
-pub length-AreHoldingFiles : (recordings : Recordings) (inputs : List (Option (List ℕ))) (hs : List Contents) → AreHoldingFiles recordings inputs hs → length inputs ≡ length hs
-length-AreHoldingFiles recordings [] [] files = refl
-length-AreHoldingFiles recordings [] (g ∷ gs) files = absurd files
-length-AreHoldingFiles recordings (i ∷ is) [] files = absurd files
-length-AreHoldingFiles recordings (i ∷ is) (g ∷ gs) files = let rest = length-AreHoldingFiles _ is gs files.1 in omega arith
+pub length-AreTakenFiles : (recordings : Recordings) (inputs : List (Option (List ℕ))) (hs : List Contents) → AreTakenFiles recordings inputs hs → length inputs ≡ length hs
+length-AreTakenFiles recordings [] [] files = refl
+length-AreTakenFiles recordings [] (g ∷ gs) files = absurd files
+length-AreTakenFiles recordings (i ∷ is) [] files = absurd files
+length-AreTakenFiles recordings (i ∷ is) (g ∷ gs) files = let rest = length-AreTakenFiles _ is gs files.1 in omega arith
 
 pub lines_from-push : (number : ℕ) (whole : Contents) (others : List Contents) (other : Contents)
     → lines_from number whole (others ++ other ∷ []) ≡ lines_from number whole others ++ line_of_join (number + length others)
@@ -44,7 +44,7 @@ lines_from-push number whole (o ∷ os) other =
     ∙ ap (λ n. (line_of_join number whole o ++ lines_from (number + 1) (joined whole o) os) ++ line_of_join n
     (joined_all joined (joined whole o) os) other) same
 
-abbrev pub joins_first : (recordings : Recordings) (input : Option (List ℕ)) (h : Contents) (text : List ℕ) → text ≡ file_line 1 (set.size h.slices) → IsHoldingFile recordings input h
+abbrev pub joins_first : (recordings : Recordings) (input : Option (List ℕ)) (h : Contents) (text : List ℕ) → text ≡ file_line 1 (set.size h.slices) → IsTakenFile recordings input h
     → JoinsEach recordings (input ∷ []) h text
 joins_first recordings input h text reported file = record {
   first = h;
@@ -56,14 +56,14 @@ joins_first recordings input h text reported file = record {
 }
 
 abbrev pub joins_more : (recordings : Recordings) (inputs : List (Option (List ℕ))) (old new : Contents) (before after : List ℕ) (input : Option (List ℕ)) (number : ℕ)
-    → JoinsEach recordings inputs old before → number ≡ length inputs → JoinsOne (IsHoldingFile recordings input) (number + 1) old new before after → JoinsEach recordings (inputs ++ input ∷ []) new after
+    → JoinsEach recordings inputs old before → number ≡ length inputs → JoinsOne (IsTakenFile recordings input) (number + 1) old new before after → JoinsEach recordings (inputs ++ input ∷ []) new after
 joins_more recordings inputs old new before after input number each n one =
-    let count = length-AreHoldingFiles _ inputs (each.first ∷ each.others) each.files in
+    let count = length-AreTakenFiles _ inputs (each.first ∷ each.others) each.files in
     let place : number + 1 ≡ 2 + length each.others = omega (arith, n, count) in
     record {
       first = each.first;
       others = each.others ++ one.other ∷ [];
-      files = AreHoldingFiles-push _ inputs (each.first ∷ each.others) input one.other each.files one.file;
+      files = AreTakenFiles-push _ inputs (each.first ∷ each.others) input one.other each.files one.file;
       joinable = AreJoinable-push each.first each.others one.other each.joinable (subst (λ (h : Contents). IsSameReel h one.other) each.held one.same);
       held = one.held ∙ ap (λ h. joined h one.other) each.held ∙ sym (joined_all-push each.first each.others one.other);
       lines = one.line ∙ ap (λ t. t ++ line_of_join (number + 1) old one.other) each.lines

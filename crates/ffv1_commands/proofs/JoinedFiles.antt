@@ -8,13 +8,13 @@ use Rattle.ffv1_holding.specs.declared.recordings.Recordings.{Recordings}
 use Rattle.ffv1_devices.specs.Logs.{ReadLog, WriteLog}
 use Rattle.ffv1_holding.specs.Sets as set
 use Rattle.ffv1_holding.specs.Contents.{Contents, IsSameReel}
-use Rattle.ffv1_hold.specs.FileFaults.{IsFaultOf, ReadsHolding}
+use Rattle.ffv1_hold.specs.FileFaults.{IsFaultOf}
 use Rattle.ffv1_hold.specs.declared.file_fault.HoldFileFault.TheVariants as files
 use Rattle.ffv1_hold.proofs.Magics.{begun_none}
 use Rattle.ffv1_commands.specs.Fault.{NamesPath, of_hold}
 use Rattle.ffv1_commands.specs.Paths.{IsJoinPath}
 use Rattle.ffv1_commands.specs.InTurn.{AreKeptFrom, log_of, ReadsAlone}
-use Rattle.ffv1_commands.specs.Holdings.{IsHoldingFile, HoldingStops}
+use Rattle.ffv1_commands.specs.Holdings.{IsTakenFile, HoldingStops, ReadsTaken}
 use Rattle.ffv1_commands.specs.Inner.Holdings.{MadeStops, WritesMade}
 use Rattle.ffv1_commands.specs.JoinText.{file_line, JoinsEach, JoinsFiles, IsFaultOfFiles, IsFaultOfInput, StopsAtPlace, LaterFilesKept, JoinStops, IsReadAsFile, AreReadAsFiles, FileBreaks, JoinBreaks, JoinsAll, StopsAtFile, ReportsJoin}
 use Rattle.ffv1_commands.specs.Inner.JoinText.{JoinsOne}
@@ -23,18 +23,18 @@ use Rattle.ffv1_commands.specs.declared.fault.CliFault.TheVariants as faults
 use Rattle.ffv1_commands.specs.declared.path.CommandPath.{CommandPath}
 use Rattle.ffv1_commands.specs.declared.path.CommandPath.TheVariants as paths
 use Rattle.ffv1_commands.proofs.InputFaults.{IsUnwritten, IsHoldingFault-says}
-use Rattle.ffv1_commands.proofs.HeldFiles.{held_file, unread_file}
+use Rattle.ffv1_commands.proofs.HeldFiles.{taken_file, unread_file}
 use Rattle.ffv1_commands.proofs.JoinSteps.{joins_first, joins_more, joins_reel}
 use Rattle.ffv1_commands.proofs.MadeFiles.{made_says, made_bytes}
 
 -- ---- one file
 
 -- a file that was read and joined is joined as its input's bytes say
-abbrev file_joined : (recordings : Recordings) (a b : ReadLog) (number : ℕ) (old new : Contents) (lines lines' : List ℕ) → JoinsOne (ReadsHolding recordings a b) number old new lines lines'
-    → JoinsOne (IsHoldingFile recordings a.remaining) number old new lines lines'
+abbrev file_joined : (recordings : Recordings) (a b : ReadLog) (number : ℕ) (old new : Contents) (lines lines' : List ℕ) → JoinsOne (ReadsTaken recordings a b) number old new lines lines'
+    → JoinsOne (IsTakenFile recordings a.remaining) number old new lines lines'
 file_joined recordings a b number old new lines lines' one = record {
   other = one.other;
-  file = held_file _ a b one.other one.file;
+  file = taken_file _ a b one.other one.file;
   same = one.same;
   held = one.held;
   line = one.line;
@@ -56,7 +56,7 @@ unbuffered recordings path input = (
 )
 
 -- a file that was read is refused for its reel, or memory ran out
-pub join_refused : (recordings : Recordings) (before : ℕ) (a b : ReadLog) (whole other : Contents) → ReadsHolding recordings a b other → (r : Result ℕ HoldFault) (fault : HoldFault)
+pub join_refused : (recordings : Recordings) (before : ℕ) (a b : ReadLog) (whole other : Contents) → ReadsTaken recordings a b other → (r : Result ℕ HoldFault) (fault : HoldFault)
     → r ≡ Err fault → (r ≡ Err holds.OtherReel → ¬ IsSameReel whole other) → r ≢ Err holds.PayloadTooLong
     → JoinBreaks recordings (paths.Hold before) whole (of_hold fault) a b
 join_refused recordings before a b whole other read r holds.OtherReel was differs short = inr (refl, (other, read, differs was))
@@ -65,9 +65,9 @@ join_refused recordings before a b whole other read r holds.Memory was differs s
 
 -- ---- all files
 
-pub all_first : (recordings : Recordings) (a b : ReadLog) (h : Contents) (text : List ℕ) → text ≡ file_line 1 (set.size h.slices) → ReadsHolding recordings a b h
+pub all_first : (recordings : Recordings) (a b : ReadLog) (h : Contents) (text : List ℕ) → text ≡ file_line 1 (set.size h.slices) → ReadsTaken recordings a b h
     → JoinsAll recordings [] a b h text
-all_first recordings a b h text reported read = record { each = joins_first _ a.remaining h text reported (held_file _ a b h read); first = read; others = tt }
+all_first recordings a b h text reported read = record { each = joins_first _ a.remaining h text reported (taken_file _ a b h read); first = read; others = tt }
 
 AreReadAsFiles-push : (recordings : Recordings) (inputs : List (Option (List ℕ))) (hs : List Contents) (input : Option (List ℕ)) (h : Contents) → AreReadAsFiles recordings inputs hs → IsReadAsFile recordings input h
     → AreReadAsFiles recordings (inputs ++ input ∷ []) (hs ++ h ∷ [])
@@ -77,7 +77,7 @@ AreReadAsFiles-push recordings (i ∷ is) [] input h each one = absurd each
 AreReadAsFiles-push recordings (i ∷ is) (g ∷ gs) input h each one = (each.0, AreReadAsFiles-push _ is gs input h each.1 one)
 
 pub all_more : (recordings : Recordings) (inputs : List (Option (List ℕ))) (a b : ReadLog) (old new : Contents) (before after : List ℕ) (input : Option (List ℕ)) (i : ℕ)
-    (log : ReadLog) → JoinsAll recordings inputs a b old before → i ≡ length inputs → JoinsOne (ReadsHolding recordings (log_of input) log) (i + 1 + 1) old new before after
+    (log : ReadLog) → JoinsAll recordings inputs a b old before → i ≡ length inputs → JoinsOne (ReadsTaken recordings (log_of input) log) (i + 1 + 1) old new before after
     → JoinsAll recordings (inputs ++ input ∷ []) a b new after
 all_more recordings inputs a b old new before after input i log all n one = record {
   each = joins_more _ (a.remaining ∷ inputs) old new before after input (i + 1) all.each (omega (arith, n))
@@ -95,7 +95,7 @@ all_as recordings inputs others a b whole text same all = subst (λ (i : List (O
 
 -- a later file's fault, where those before it were joined
 module _ (recordings : Recordings) (first input : Option (List ℕ)) (rest : List (Option (List ℕ))) (i : ℕ) (at : get_or rest i None ≡ input)
-    (whole of_first : Contents) (file : IsHoldingFile recordings first of_first) (same : whole.reel ≡ of_first.reel) where
+    (whole of_first : Contents) (file : IsTakenFile recordings first of_first) (same : whole.reel ≡ of_first.reel) where
   other_refused : (fault : CliFault) → ReadsAlone (JoinBreaks recordings (paths.Hold (i + 1)) whole fault) input → IsFaultOfInput recordings (first ∷ rest) (suc i) fault
   other_refused fault (log, inl (inl stops)) =
       let next : i + 1 ≡ suc i = omega arith in
@@ -109,7 +109,7 @@ module _ (recordings : Recordings) (first input : Option (List ℕ)) (rest : Lis
       of_first,
       other,
       file,
-      subst (λ (x : Option (List ℕ)). IsHoldingFile recordings x other) (sym at) (held_file _ (log_of input) log other read),
+      subst (λ (x : Option (List ℕ)). IsTakenFile recordings x other) (sym at) (taken_file _ (log_of input) log other read),
       λ e. differs (same ∙ e),
     ),
   )
@@ -219,8 +219,9 @@ module _ {R : Type 0} (recordings : Recordings) (reports : R → Option (List �
       whole = whole;
       text = text;
       each = all.each;
-      has_file = made.has_file;
-      file = made.file.bytes';
+      file = made.file;
+      saved = made.saved;
+      written = made.written.bytes';
       printed = made.printed.bytes';
     };
     err = tt;

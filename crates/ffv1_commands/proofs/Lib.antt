@@ -5,6 +5,7 @@ pub mod Reporting
 pub mod RecordFaults
 pub mod InputFaults
 pub mod WrittenBoth
+pub mod FiledHoldings
 pub mod HeldFiles
 pub mod UnreadFiles
 pub mod PrintSteps

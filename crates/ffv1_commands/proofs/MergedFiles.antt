@@ -4,8 +4,8 @@ use Rattle.std.specs.Prelude.{◌≢◌}
 use Rattle.std.specs.Io.KnownBytes.{Consumes}
 use Rattle.std.proofs.KnownBytes.{Consumes-whole}
 use Rattle.ffv1_bits.specs.Limits.{file_limit}
-use Rattle.ffv1_holding.specs.Contents.{Contents, IsSameReel, joined}
-use Rattle.ffv1_hold.proofs.HeldEntries.{holding-joined}
+use Rattle.ffv1_holding.specs.Contents.{Contents}
+use Rattle.ffv1_hold.specs.UnitedHoldings.{AreOfOneRecord, united}
 use Rattle.ffv1_hold.specs.HoldingText.{head_text, begun_text, file_text, holding_text}
 use Rattle.ffv1_hold.specs.declared.version.Version.TheVariants.{Second}
 use Rattle.ffv1_hold.specs.FileFaults.{IsOutside, IsFaultOf}
@@ -15,6 +15,7 @@ use Rattle.ffv1_hold.specs.declared.file_fault.HoldFileFault.{HoldFileFault}
 use Rattle.ffv1_hold.specs.declared.file_fault.HoldFileFault.TheVariants as files
 use Rattle.ffv1_hold.proofs.MergeSteps.{part_begins}
 use Rattle.ffv1_hold.proofs.MergeStarts.{all_part}
+use Rattle.ffv1_hold.proofs.UnionReels.{holding_both}
 use Rattle.ffv1_holding.specs.declared.recordings.Recordings.{Recordings}
 use Rattle.ffv1_hold.specs.FileFaults.{MayTake}
 use Rattle.ffv1_hold.specs.JoinedStreams.{inputs_of}
@@ -47,10 +48,13 @@ module _ (i : Inputs) (w v : Option (List ℕ)) where
   merges u = record {
     one = u.left;
     other = u.right;
-    left_file = holding_file i.recordings _ _ u.left u.taken u.read.left_read;
-    right_file = holding_file i.recordings _ _ u.right (subst (MayTake i.recordings) u.read.same u.taken) u.read.right_read;
+    left_file = holding_file i.recordings _ _ u.left u.left_taken u.read.left_read;
+    right_file = holding_file i.recordings _ _ u.right u.right_taken u.read.right_read;
     same = u.read.same;
-    has_file = record { well_formed = holding-joined u.left u.right u.read.same u.read.left_read.well_formed u.read.right_read.well_formed; fits = u.fits };
+    has_file = record {
+      well_formed = holding_both u.left.reel u.right.reel (u.left.slices, u.left.origins) (u.right.slices, u.right.origins) u.read.same u.read.left_read.well_formed u.read.right_read.well_formed;
+      fits = u.fits;
+    };
     written = u.written;
   }
 
@@ -65,23 +69,23 @@ module _ (i : Inputs) (w v : Option (List ℕ)) where
   either_fault f inside (inl r) = inl (input_fault _ _ f inside r.0)
   either_fault f inside (inr r) = inr (input_fault _ _ f inside r.0)
 
-  union_begins : (left right : Contents) → BeginsWithPart i.left_old left → BeginsWithPart i.right_old right → IsSameReel left right
-      → BeginsUnion i.left_old i.right_old (joined left right)
+  union_begins : (left right : Contents) → BeginsWithPart i.left_old left → BeginsWithPart i.right_old right → AreOfOneRecord left.reel right.reel
+      → BeginsUnion i.left_old i.right_old (united left right)
   union_begins left right l r same = record { one = left; other = right; left_begins = l; right_begins = r; same = same; is = refl }
 
-  so_far : (left right : Contents) → ReadsSoFar i left right → BeginsUnion i.left_old i.right_old (joined left right)
+  so_far : (left right : Contents) → ReadsSoFar i left right → BeginsUnion i.left_old i.right_old (united left right)
   so_far left right r = union_begins left right (part_begins _ _ left r.left_read) (part_begins _ _ right r.right_read) r.same
 
   entries_pass : EntriesPass i → (union : Contents) × BeginsUnion i.left_old i.right_old union × (file_limit < length (holding_text union))
   entries_pass p = (
-    joined p.left p.right,
+    united p.left p.right,
     so_far p.left p.right p.read,
-    omega (arith, p.over, length-append (begun_text Second (joined p.left p.right)) (0 ∷ [])),
+    omega (arith, p.over, length-append (begun_text Second (united p.left p.right)) (0 ∷ [])),
   )
 
   union_passes : UnionPasses i → (union : Contents) × BeginsUnion i.left_old i.right_old union × (file_limit < length (holding_text union))
   union_passes u = (
-    joined u.left u.right,
+    united u.left u.right,
     so_far u.left u.right
         (record { left_read = all_part _ _ u.left u.read.left_read; right_read = all_part _ _ u.right u.read.right_read; same = u.read.same }),
     u.over,
@@ -121,7 +125,7 @@ module _ (i : Inputs) (w v : Option (List ℕ)) where
   entries_left : WritesNoEnd i w v → LeavesEntries i.left_old i.right_old w v
   entries_left (inl none) = inl none
   entries_left (inr e) = inr (
-    joined e.left e.right,
+    united e.left e.right,
     union_begins e.left e.right e.left_begins e.right_begins e.same,
     e.written,
   )
@@ -154,7 +158,7 @@ pub record MergeOfBytes {T : Type 0} (recordings : Recordings) (r : Result T Cli
 
 merge_leaves : (recordings : Recordings) (old new : Devices) (f : HoldFileFault) → LeavesFront recordings f old new
     → MergeLeaves old.left.remaining old.right.remaining old.sink.contents new.sink.contents (of_merge f)
-merge_leaves recordings old new files.Write left = (joined left.left left.right, so_far (inputs_of recordings old new) old.sink.contents new.sink.contents left.left left.right left.read, left.front)
+merge_leaves recordings old new files.Write left = (united left.left left.right, so_far (inputs_of recordings old new) old.sink.contents new.sink.contents left.left left.right left.read, left.front)
 merge_leaves recordings old new fault left = entries_left (inputs_of recordings old new) old.sink.contents new.sink.contents left
 
 module _ {T : Type 0} (recordings : Recordings) (old new : Devices) where

@@ -3,6 +3,8 @@ use Rattle.std.proofs.Common.{◌≡◌, ℕ, ◌*◌, List, Option, Some, None,
 use Rattle.ffv1_range.specs.Setup.{RecordingValue}
 use Rattle.ffv1_range.specs.SetupForms.{all_granted, record_read}
 use Rattle.ffv1_range.specs.TileHeaders.{rules_of}
+use Rattle.ffv1_range.specs.Frames.{by_frames}
+use Rattle.ffv1_range.specs.declared.frames.Frames.{Frames}
 use Rattle.ffv1_range.specs.declared.fault.SetupFault.{SetupFault}
 use Rattle.ffv1_range.proofs.SetupLaws.{record-run}
 use Rattle.ffv1_holding.specs.declared.recordings.Recordings.{Recordings}
@@ -19,38 +21,42 @@ use Rattle.ffv1_commands.specs.Commands.{IsNoFaultOfBytes}
 use Rattle.ffv1_commands.specs.SmallCommands.{RestoresBy, CommandsRestoreByAFunction}
 use Rattle.ffv1_commands.specs.declared.fault.CliFault.{CliFault}
 use Rattle.ffv1_commands.specs.declared.fault.CliFault.TheVariants as faults
-use Rattle.ffv1_commands.proofs.CommandLaws.{IsFileOf, made, one_holding, no_fault, taken_reel}
+use Rattle.ffv1_commands.specs.TakenFrames.{frames_of, in_taken_frames, as_taken}
+use Rattle.ffv1_commands.proofs.CommandLaws.{IsFileOfCopies, read_taken, made, made_no_fault, unsettled_taken}
 
 -- the function and the number of tiles that a record gives, where it is one
 record Tiling : Type 0 where
   tile_of : TileOf
   tiles : ℕ
 
-abbrev tiling : Result RecordingValue SetupFault → Tiling
-tiling (Ok recording) = record { tile_of = tile_by (rules_of recording); tiles = recording.setup.across * recording.setup.down }
-tiling (Err fault) = record { tile_of = λ content first. None; tiles = 0 }
+abbrev tiling : Frames → Result RecordingValue SetupFault → Tiling
+tiling frames (Ok recording) = record { tile_of = tile_by (by_frames frames (rules_of recording)); tiles = recording.setup.across * recording.setup.down }
+tiling frames (Err fault) = record { tile_of = λ content first. None; tiles = 0 }
 
 unfoldable tiling_of : Recordings → List ℕ → ℕ → ℕ → Tiling
-tiling_of recordings config width height = tiling (record_read all_granted config (scope_of recordings) width height)
+tiling_of recordings config width height = tiling (frames_of recordings) (record_read all_granted config (scope_of recordings) width height)
 
 abbrev tiling_by : Reel → Tiling
 tiling_by reel = record { tile_of = tile_by reel.rules; tiles = reel_tiles reel }
 
 module _ (recordings : Recordings) (config : List ℕ) (width height : ℕ) (copies : List (List ℕ)) (file : List ℕ)
-    (is : IsFileOf recordings config width height copies file) where
+    (is : IsFileOfCopies recordings config width height copies file) where
   one_tiling : tiling_by is.reel ≡ tiling_of recordings config width height
   unfolding tiling_of
-  one_tiling = ap tiling_by is.of_record.2
-      ∙ sym (ap tiling (record-run config (scope_of recordings) width height is.of_record.0 is.of_record.1))
+  one_tiling =
+      let (recording, read, own) = is.of_record.1 in
+      ap tiling_by (is.of_record.2 ∙ ap (in_taken_frames recordings) own)
+      ∙ sym (ap (tiling (frames_of recordings)) (record-run config (scope_of recordings) width height recording read))
 
-  read : (h : Contents) → IsHoldingFile recordings (Some file) h → h ≡ holding_of is.reel copies
-  read h file_is = one_holding recordings h (holding_of is.reel copies) file file_is is.text is.has
+  read : (h : Contents) → IsHoldingFile recordings (Some file) h → as_taken recordings h ≡ holding_of is.reel copies
+  read h file_is = read_taken recordings config width height copies file is h file_is
 
   settled : (payload : List ℕ) → IsRestoredFrom (tile_by is.reel.rules) (reel_tiles is.reel) copies payload → (h : Contents)
       → IsHoldingFile recordings (Some file) h
       → (tile : ℕ) → IsLeastUnsettled h tile → ⊥
   settled payload restored h file_is tile least =
-      let own : IsLeastUnsettled (holding_of is.reel copies) tile = subst (λ (g : Contents). IsLeastUnsettled g tile) (read h file_is) least in
+      let own : IsLeastUnsettled (holding_of is.reel copies) tile = subst (λ (g : Contents). IsLeastUnsettled g tile) (read h file_is)
+      (unsettled_taken recordings h tile least) in
       own.unsettled (((restored_of_holding is.reel copies payload).0 restored).0 tile own.in_grid)
 
   refused : (payload : List ℕ) → IsRestoredFrom (tile_by is.reel.rules) (reel_tiles is.reel) copies payload
@@ -58,8 +64,7 @@ module _ (recordings : Recordings) (config : List ℕ) (width height : ℕ) (cop
       → RestoreStops recordings (Some file) ob oa pb pa fault → IsNoFaultOfBytes fault
   refused payload restored ob oa pb pa (faults.Read path) stops = tt
   refused payload restored ob oa pb pa (faults.Write path) stops = tt
-  refused payload restored ob oa pb pa (faults.HoldFile fault) stops =
-      no_fault recordings (holding_of is.reel copies) file (taken_reel recordings config width height is.reel is.of_record) is.text is.has fault stops
+  refused payload restored ob oa pb pa (faults.HoldFile fault) stops = made_no_fault recordings config width height copies file is fault stops
   refused payload restored ob oa pb pa (faults.Missing tile) (h, file_is, refusal) = settled payload restored h file_is tile refusal.0
   refused payload restored ob oa pb pa (faults.Disputed tile) (h, file_is, refusal) = settled payload restored h file_is tile refusal.0
   refused payload restored ob oa pb pa faults.Memory stops = tt
@@ -68,7 +73,7 @@ module _ (recordings : Recordings) (config : List ℕ) (width height : ℕ) (cop
   restores_by : RestoresBy (tile_by is.reel.rules) (reel_tiles is.reel) copies recordings file
   restores_by = record {
     written = λ ob oa pb pa does.
-        let same : does.held ≡ holding_of is.reel copies = read does.held does.file in (
+        let same : as_taken recordings does.held ≡ holding_of is.reel copies = read does.held does.file in (
           restored_payload does.held,
           (restored_of_holding is.reel copies (restored_payload does.held)).1 (subst AreSettled same does.settled, ap restored_payload same),
           does.payload,

@@ -1,13 +1,12 @@
 -- What taking copies says of the record, the copies and the outputs.
-use Rattle.std.proofs.Common.{◌≡◌, ℕ, ◌+◌, ◌<◌, Bool, List, length, map, take, Option, Result, Ok, Err, IfOk, IfErr, refl, sym, ap, subst, inl, inr, arith}
+use Rattle.std.proofs.Common.{◌≡◌, ℕ, ◌+◌, ◌<◌, Bool, List, length, map, take, Option, Result, Ok, Err, IfOk, IfErr, refl, sym, ap, ◌∙◌, subst, inl, inr, arith}
 use Rattle.std.specs.Io.KnownBytes.{Appends}
 use Rattle.std.proofs.lemmas.List.{length-map}
 use Rattle.ffv1_bits.specs.Limits.{payload_limit}
 use Rattle.ffv1_holding.specs.declared.recordings.Recordings.{Recordings}
 use Rattle.ffv1_devices.specs.Logs.{ReadLog, WriteLog, Reads}
 use Rattle.ffv1_holding.specs.Reels.{Reel}
-use Rattle.ffv1_holding.specs.Contents.{Contents, holding_of}
-use Rattle.ffv1_hold.specs.Headline.{IsReelOf}
+use Rattle.ffv1_holding.specs.Contents.{Contents}
 use Rattle.ffv1_hold.specs.HoldingText.{holding_text}
 use Rattle.ffv1_holding.specs.TakeFaults.{IsTakeFault}
 use Rattle.ffv1_holding.specs.declared.fault.HoldFault.{HoldFault}
@@ -17,9 +16,10 @@ use Rattle.ffv1_commands.specs.InTurn.{StopsAtCopy, IfCopyUnread}
 use Rattle.ffv1_commands.specs.RecordInputs.{IsReelInput, TakesReel, ReelStops}
 use Rattle.ffv1_commands.specs.Fault.{NamesPath, of_hold}
 use Rattle.ffv1_commands.specs.Paths.{IsTakePath}
-use Rattle.ffv1_commands.specs.Holdings.{HasFile, IsFileFault}
+use Rattle.ffv1_commands.specs.TakenFrames.{IsTakenReel, IsFiled}
+use Rattle.ffv1_commands.specs.Holdings.{IsSavedFile, IsFileFault}
 use Rattle.ffv1_commands.specs.Inner.Holdings.{MadeStops}
-use Rattle.ffv1_commands.specs.TakeText.{TakesEach, TakesCopies, IsFaultOfInputs, FaultKeepsLater, LaterKept, TakeStops, TakesAll, ReportsTake}
+use Rattle.ffv1_commands.specs.TakeText.{TakesEach, TakesCopies, IsFaultOfInputs, FaultKeepsLater, LaterKept, TakeStops, ReportsTake}
 use Rattle.ffv1_commands.specs.declared.fault.CliFault.{CliFault}
 use Rattle.ffv1_commands.specs.declared.fault.CliFault.TheVariants as faults
 use Rattle.ffv1_commands.specs.declared.path.CommandPath.{CommandPath}
@@ -73,11 +73,11 @@ copy_untaken before a b copy took holds.OtherReel none = absurd none
 -- ---- over the logs of the devices
 
 -- the record is that of its reel
-pub reel_read : (recordings : Recordings) (a b : ReadLog) (config : List ℕ) (width height : ℕ) (reel : Reel) → TakesWhole a b config → IsReelOf recordings config width height reel
+pub reel_read : (recordings : Recordings) (a b : ReadLog) (config : List ℕ) (width height : ℕ) (reel : Reel) → TakesWhole a b config → IsTakenReel recordings config width height reel
     → TakesReel recordings width height a b reel
 reel_read recordings a b config width height reel took is =
-    let same : config ≡ reel.config = sym (ap (λ (r : Reel). r.config) is.2) in
-    record { read = subst (TakesWhole a b) same took; of_record = subst (λ (c : List ℕ). IsReelOf recordings c width height reel) same is }
+    let same : config ≡ reel.config = sym (ap (λ (r : Reel). r.config) is.2 ∙ ap (λ (r : Reel). r.config) is.1.2) in
+    record { read = subst (TakesWhole a b) same took; of_record = subst (λ (c : List ℕ). IsTakenReel recordings c width height reel) same is }
 
 -- at a fault of the copies nothing was written
 pub copies-unwritten : {C : Type 0} (reports : C → Option (List ℕ)) (old new : List C) (fault : CliFault) → StopsAtCopy CopyStops reports old new fault
@@ -102,9 +102,6 @@ module _ (recordings : Recordings) (record' : Option (List ℕ)) (width height :
   copies_refused fault (i, (lt, before, stops)) = absurd stops
 
   module _ (held : Contents) (lines : List ℕ) (in_order : Bool) (each : TakesEach recordings inputs reel held lines in_order) where
-    text : holding_text held ≡ holding_text (holding_of reel each.copies)
-    text = ap holding_text each.held
-
     made_refused : (fault : CliFault) → MadeStops held lines ob oa pb pa fault → TakeStops recordings record' width height inputs ob oa pb pa fault
     made_refused (faults.HoldFile fault) stops = (
       reel,
@@ -113,14 +110,17 @@ module _ (recordings : Recordings) (record' : Option (List ℕ)) (width height :
       taken_whole inputs each.copies each.read,
       subst (λ (h : Contents). IsFileFault h (faults.HoldFile fault)) each.held stops,
     )
-    made_refused (faults.Write named) stops =
-        let whole_file = subst (λ (f : List ℕ). WriteStops f lines ob oa pb pa (faults.Write named)) text stops in (
-          reel,
-          each.copies,
-          of_record,
-          taken_whole inputs each.copies each.read,
-          subst (λ (l : List ℕ). WriteStops (holding_text (holding_of reel each.copies)) l ob oa pb pa (faults.Write named)) each.lines whole_file,
-        )
+    made_refused (faults.Write named) (filed, is, stops) = (
+      reel,
+      each.copies,
+      of_record,
+      taken_whole inputs each.copies each.read,
+      (
+        filed,
+        subst (λ (h : Contents). IsFiled h filed) each.held is,
+        subst (λ (l : List ℕ). WriteStops (holding_text filed) l ob oa pb pa (faults.Write named)) each.lines stops,
+      ),
+    )
     made_refused fault stops = absurd stops
 
 -- where a copy was not taken, its fault is one of the inputs, and those after it are as they were
@@ -164,8 +164,9 @@ module _ {C : Type 0} (recordings : Recordings) (reports : C → Option (List �
       of_record = reel_input all.reel all.of_record;
       copies = all.each.copies;
       read = taken_whole (map reports old) all.each.copies all.each.read;
-      has_file = subst HasFile all.each.held made.has_file;
-      file = subst (Appends out.contents out'.contents) (ap holding_text all.each.held) made.file.bytes';
+      file = made.file;
+      saved = subst (λ (h : Contents). IsSavedFile h made.file) all.each.held made.saved;
+      written = made.written.bytes';
       printed = subst (Appends output.contents output'.contents) all.each.lines made.printed.bytes';
       order = all.each.order;
     };

@@ -7,12 +7,12 @@ use Rattle.ffv1_slice.specs.Slices.{IsOriginal}
 use Rattle.ffv1_holding.specs.Reels.{Reel}
 use Rattle.ffv1_holding.specs.Originals.{AreCopiesOfSlices, AreNear}
 use Rattle.ffv1_holding.specs.declared.recordings.Recordings.TheVariants.{Any}
-use Rattle.ffv1_hold.specs.Headline.{IsReelOf}
 use Rattle.ffv1_player.specs.Frames.{LeftValue, IsPlayedFrame}
 use Rattle.ffv1_player.specs.ShownSlices.{ShowsEachSlice}
 use Rattle.ffv1_player.specs.Written.{samples_bytes}
 use Rattle.ffv1_player.specs.declared.samples.Samples.{Samples}
 use Rattle.ffv1_player.specs.declared.shown.Shown.{Shown}
+use Rattle.ffv1_commands.specs.TakenFrames.{IsTakenReel}
 use Rattle.ffv1_commands.specs.AnyPictureText.{shown_samples, IsWholeShown, ShowsAnyFile, AnyPictureStops}
 use Rattle.ffv1_commands.specs.PictureText.{ShowsFile}
 use Rattle.ffv1_commands.specs.Commands.{IsMadeOf, IsNoFaultOfBytes}
@@ -35,7 +35,7 @@ pub record ShowsAnyOnly (reel : Reel) (file : List ℕ) (slices : List (List ℕ
 abbrev pub AnyPictureShowsTheOriginal : Type 0
 AnyPictureShowsTheOriginal =
     (config : List ℕ) (width height : ℕ) (reel : Reel) (copies : List (List ℕ)) (file original : List ℕ) (slices : List (List ℕ))
-    → IsReelOf Any config width height reel → IsMadeOf Any config width height copies file
+    → IsTakenReel Any config width height reel → IsMadeOf Any config width height copies file
     → IsOriginal reel.rules original slices → AreCopiesOfSlices reel.rules slices copies
     → ShowsAnyOnly reel file slices
 
@@ -43,7 +43,7 @@ AnyPictureShowsTheOriginal =
 abbrev pub AnyPictureShowsNearCopies : Type 0
 AnyPictureShowsNearCopies =
     (config : List ℕ) (width height : ℕ) (reel : Reel) (copies : List (List ℕ)) (file original : List ℕ) (slices : List (List ℕ))
-    → IsReelOf Any config width height reel → IsMadeOf Any config width height copies file
+    → IsTakenReel Any config width height reel → IsMadeOf Any config width height copies file
     → AreNear reel.rules original slices copies
     → ShowsAnyOnly reel file slices
 
@@ -52,7 +52,7 @@ AnyPictureShowsNearCopies =
 abbrev pub AnyPictureShowsTheKeyframe : Type 0
 AnyPictureShowsTheKeyframe =
     (config : List ℕ) (width height : ℕ) (reel : Reel) (copies : List (List ℕ)) (file original : List ℕ) (slices : List (List ℕ))
-    → IsReelOf Any config width height reel → IsMadeOf Any config width height copies file
+    → IsTakenReel Any config width height reel → IsMadeOf Any config width height copies file
     → IsOriginal reel.rules original slices → AreCopiesOfSlices reel.rules slices copies
     → (r : RecordingValue) (frame : Samples) (left : List LeftValue) → IsRecordingOf config width height r → IsPlayedFrame r None original frame left
     → (out_before out_after printed_before printed_after : Option (List ℕ)) (whole : Bool)

@@ -1,19 +1,19 @@
 -- The commands from copies to a frame: whatever trees of `take`, `join` and `merge` lead from copies to a holding file, the same copies give
 -- one file and one report, and where the copies are an original's, what `restore` writes of the file is the original.
-use Rattle.std.specs.Prelude.{ℕ, ◌≡◌, ◌<◌, Bool, List, [], ◌++◌, map, length, Option, Some, slice_index_or}
+use Rattle.std.specs.Prelude.{ℕ, ◌≡◌, ◌<◌, ◌⊎◌, Bool, List, [], ◌++◌, map, length, Option, Some, slice_index_or, Contains}
 use Rattle.std.specs.List.{flat_map}
 use Rattle.std.specs.Io.KnownBytes.{Appends}
 use Rattle.ffv1_range.specs.Setup.{SetupValue, IsSetupOf}
 use Rattle.ffv1_range.specs.TileHeaders.{profile_rules}
-use Rattle.ffv1_slice.specs.Slices.{IsOriginal}
+use Rattle.ffv1_slice.specs.Slices.{IsOriginal, found_slices}
 use Rattle.ffv1_holding.specs.Reels.{Reel}
 use Rattle.ffv1_holding.specs.Contents.{Contents, holding_of, HasSameCopies}
 use Rattle.ffv1_holding.specs.declared.recordings.Recordings.TheVariants.{Profile}
 use Rattle.ffv1_holding.specs.declared.recordings.Recordings.{Recordings}
-use Rattle.ffv1_hold.specs.Headline.{IsReelOf}
 use Rattle.ffv1_holding.specs.Originals.{AreCopiesOfSlices, AreNear}
 use Rattle.ffv1_hold.specs.Restorations.{AreEqualInAll, ShowsSlices}
 use Rattle.ffv1_picture.specs.declared.frame.Frame.{Frame}
+use Rattle.ffv1_commands.specs.TakenFrames.{IsTakenReel, IsFiled}
 use Rattle.ffv1_commands.specs.Holdings.{IsHoldingFile}
 use Rattle.ffv1_commands.specs.TakeText.{TakesCopies}
 use Rattle.ffv1_commands.specs.JoinText.{JoinsFiles}
@@ -74,14 +74,23 @@ abbrev pub MadeOfCopies : Type 0
 MadeOfCopies =
     (recordings : Recordings) (config : List ℕ) (width height : ℕ) (copies : List (List ℕ)) (file : List ℕ)
     → IsMadeOf recordings config width height copies file
-    → (reel : Reel) × IsReelOf recordings config width height reel × IsHoldingFile recordings (Some file) (holding_of reel copies)
+    → (reel : Reel) × IsTakenReel recordings config width height reel
+    × ((filed : Contents) × IsFiled (holding_of reel copies) filed × IsHoldingFile recordings (Some file) filed)
 
--- However the same copies are ordered, grouped or repeated, and whether any recording is taken or only those of the profile, the files made
--- of them are equal byte for byte, ..
+-- The same is found in the copies, whether these recordings are taken or those: as they are the same, or as no slice that is found is of a frame
+-- between keyframes of the profile.
+abbrev pub FindTheSame : (recordings also : Recordings) → List ℕ → ℕ → ℕ → List (List ℕ) → Type 0
+FindTheSame recordings also config width height copies = (recordings ≡ also)
+    ⊎ ((r s : Reel) → IsTakenReel recordings config width height r → IsTakenReel also config width height s
+    → (copy : List ℕ) → Contains copies copy → found_slices r.rules copy ≡ found_slices s.rules copy)
+
+-- However the same copies are ordered, grouped or repeated, and whether any recording is taken or only those of the profile, if the same is
+-- found in them so, the files made of them are equal byte for byte, ..
 abbrev pub SameCopiesMakeOneFile : Type 0
 SameCopiesMakeOneFile =
     (recordings also : Recordings) (config : List ℕ) (width height : ℕ) (copies others : List (List ℕ)) (file other : List ℕ)
     → IsMadeOf recordings config width height copies file → IsMadeOf also config width height others other → HasSameCopies copies others
+    → FindTheSame recordings also config width height copies
     → file ≡ other
 
 -- .. what is read of them is equal in every tile and origin, ..
@@ -89,6 +98,7 @@ abbrev pub SameCopiesMakeOneHolding : Type 0
 SameCopiesMakeOneHolding =
     (recordings also : Recordings) (config : List ℕ) (width height : ℕ) (copies others : List (List ℕ)) (file other : List ℕ) (h g : Contents)
     → IsMadeOf recordings config width height copies file → IsMadeOf also config width height others other → HasSameCopies copies others
+    → FindTheSame recordings also config width height copies
     → IsHoldingFile recordings (Some file) h → IsHoldingFile also (Some other) g
     → AreEqualInAll h g
 
@@ -97,6 +107,7 @@ abbrev pub SameCopiesMakeOneReport : Type 0
 SameCopiesMakeOneReport =
     (recordings also : Recordings) (config : List ℕ) (width height : ℕ) (copies others : List (List ℕ)) (file other report other_report : List ℕ)
     → IsMadeOf recordings config width height copies file → IsMadeOf also config width height others other → HasSameCopies copies others
+    → FindTheSame recordings also config width height copies
     → ReportsFile recordings (Some file) (Some []) (Some report) → ReportsFile also (Some other) (Some []) (Some other_report)
     → report ≡ other_report
 
@@ -105,7 +116,7 @@ SameCopiesMakeOneReport =
 abbrev pub CommandsRestoreTheOriginal : Type 0
 CommandsRestoreTheOriginal =
     (recordings : Recordings) (config : List ℕ) (width height : ℕ) (reel : Reel) (copies : List (List ℕ)) (file original : List ℕ) (slices : List (List ℕ))
-    → IsReelOf recordings config width height reel → IsMadeOf recordings config width height copies file
+    → IsTakenReel recordings config width height reel → IsMadeOf recordings config width height copies file
     → IsOriginal reel.rules original slices → AreCopiesOfSlices reel.rules slices copies
     → RestoresOnly recordings file original
 
@@ -113,7 +124,7 @@ CommandsRestoreTheOriginal =
 abbrev pub CommandsRestoreNearCopies : Type 0
 CommandsRestoreNearCopies =
     (recordings : Recordings) (config : List ℕ) (width height : ℕ) (reel : Reel) (copies : List (List ℕ)) (file original : List ℕ) (slices : List (List ℕ))
-    → IsReelOf recordings config width height reel → IsMadeOf recordings config width height copies file
+    → IsTakenReel recordings config width height reel → IsMadeOf recordings config width height copies file
     → AreNear reel.rules original slices copies
     → RestoresOnly recordings file original
 

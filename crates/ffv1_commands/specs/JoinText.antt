@@ -6,13 +6,13 @@ use Rattle.ffv1_holding.specs.Sets as set
 use Rattle.ffv1_holding.specs.Contents.{Contents, IsSameReel, joined}
 use Rattle.ffv1_holding.specs.Joins.{joined_all, AreJoinable}
 use Rattle.ffv1_holding.specs.declared.recordings.Recordings.{Recordings}
-use Rattle.ffv1_hold.specs.FileFaults.{ReadsHolding}
 use Rattle.ffv1_hold.specs.HoldingText.{holding_text}
 use Rattle.ffv1_devices.specs.Logs.{ReadLog, WriteLog}
 use Rattle.ffv1_holding.specs.declared.fault.HoldFault.TheVariants as holds
 use Rattle.ffv1_commands.specs.Devices.{WriteStops, BothKept}
 use Rattle.ffv1_commands.specs.InTurn.{AreKeptFrom, ReadsAlone, WentAt}
-use Rattle.ffv1_commands.specs.Holdings.{IsHoldingFile, HasFile, IsHoldingFault, IsFileFault, HoldingStops, IsUnheld, IsMade, MadeBreaks}
+use Rattle.ffv1_commands.specs.TakenFrames.{IsFiled}
+use Rattle.ffv1_commands.specs.Holdings.{IsTakenFile, IsSavedFile, IsHoldingFault, IsFileFault, HoldingStops, ReadsTaken, IsUnheld, IsMade, MadeBreaks}
 use Rattle.ffv1_commands.specs.declared.fault.CliFault.{CliFault}
 use Rattle.ffv1_commands.specs.declared.fault.CliFault.TheVariants as faults
 use Rattle.ffv1_commands.specs.declared.path.CommandPath.{CommandPath}
@@ -35,18 +35,18 @@ lines_from number whole (other ∷ others) = line_of_join number whole other ++ 
 abbrev pub join_text : Contents → List Contents → List ℕ
 join_text first others = file_line 1 (set.size first.slices) ++ lines_from 2 first others
 
--- Inputs are the files of these holdings.
-abbrev pub AreHoldingFiles : Recordings → List (Option (List ℕ)) → List Contents → Type 0
-AreHoldingFiles recordings [] [] = Unit {0}
-AreHoldingFiles recordings [] (h ∷ hs) = ⊥
-AreHoldingFiles recordings (input ∷ inputs) [] = ⊥
-AreHoldingFiles recordings (input ∷ inputs) (h ∷ hs) = IsHoldingFile recordings input h × AreHoldingFiles recordings inputs hs
+-- Inputs are the files of these holdings, as they are taken.
+abbrev pub AreTakenFiles : Recordings → List (Option (List ℕ)) → List Contents → Type 0
+AreTakenFiles recordings [] [] = Unit {0}
+AreTakenFiles recordings [] (h ∷ hs) = ⊥
+AreTakenFiles recordings (input ∷ inputs) [] = ⊥
+AreTakenFiles recordings (input ∷ inputs) (h ∷ hs) = IsTakenFile recordings input h × AreTakenFiles recordings inputs hs
 
--- The holdings of the files were joined, and this text has a line for each.
+-- The holdings of the files, as they are taken, were joined, and this text has a line for each.
 pub record JoinsEach (recordings : Recordings) (inputs : List (Option (List ℕ))) (whole : Contents) (text : List ℕ) : Type 0 where
   pub first : Contents
   pub others : List Contents
-  pub files : AreHoldingFiles recordings inputs (first ∷ others)
+  pub files : AreTakenFiles recordings inputs (first ∷ others)
   pub joinable : AreJoinable IsSameReel joined first others
   pub held : whole ≡ joined_all joined first others
   pub lines : text ≡ join_text first others
@@ -56,8 +56,9 @@ pub record JoinsFiles (recordings : Recordings) (inputs : List (Option (List ℕ
   pub whole : Contents
   pub text : List ℕ
   pub each : JoinsEach recordings inputs whole text
-  pub has_file : HasFile whole
-  pub file : Appends out_before out_after (holding_text whole)
+  pub file : List ℕ
+  pub saved : IsSavedFile whole file
+  pub written : Appends out_before out_after file
   pub printed : Appends printed_before printed_after text
 
 -- The files before one were joined.
@@ -68,8 +69,8 @@ AreJoinedBefore recordings inputs i = (i ≡ 0) ⊎ ((whole : Contents) × (text
 abbrev pub IsFaultOfFiles : Recordings → List (Option (List ℕ)) → CliFault → Type 0
 IsFaultOfFiles recordings inputs (faults.Hold fault) =
     (fault ≡ holds.OtherReel)
-    × ((i : ℕ) × (i < length inputs) × AreJoinedBefore recordings inputs i × ((first other : Contents) × IsHoldingFile recordings (slice_index_or inputs 0 None) first
-    × IsHoldingFile recordings (slice_index_or inputs i None) other × (¬ IsSameReel first other)))
+    × ((i : ℕ) × (i < length inputs) × AreJoinedBefore recordings inputs i × ((first other : Contents) × IsTakenFile recordings (slice_index_or inputs 0 None) first
+    × IsTakenFile recordings (slice_index_or inputs i None) other × (¬ IsSameReel first other)))
 IsFaultOfFiles recordings inputs faults.Memory = Unit {0}
 IsFaultOfFiles recordings inputs fault = (i : ℕ) × (i < length inputs) × AreJoinedBefore recordings inputs i × IsHoldingFault recordings (paths.Hold i) (slice_index_or inputs i None) fault
 
@@ -81,15 +82,15 @@ JoinStops recordings inputs out_before out_after printed_before printed_after (f
     × IsFileFault whole (faults.HoldFile fault))
 JoinStops recordings inputs out_before out_after printed_before printed_after (faults.Write path) =
     (whole : Contents) × (text : List ℕ) × JoinsEach recordings inputs whole text
-    × WriteStops (holding_text whole) text out_before out_after printed_before printed_after (faults.Write path)
+    × ((filed : Contents) × IsFiled whole filed × WriteStops (holding_text filed) text out_before out_after printed_before printed_after (faults.Write path))
 JoinStops recordings inputs out_before out_after printed_before printed_after faults.Memory = Unit {0}
 JoinStops recordings inputs out_before out_after printed_before printed_after fault = IsFaultOfFiles recordings inputs fault
 
 -- why the file at this place gave no holding, or one of another record or size than the first
 abbrev pub IsFaultOfInput : Recordings → List (Option (List ℕ)) → ℕ → CliFault → Type 0
 IsFaultOfInput recordings inputs i (faults.Hold fault) =
-    (fault ≡ holds.OtherReel) × ((first other : Contents) × IsHoldingFile recordings (slice_index_or inputs 0 None) first
-    × IsHoldingFile recordings (slice_index_or inputs i None) other × (¬ IsSameReel first other))
+    (fault ≡ holds.OtherReel) × ((first other : Contents) × IsTakenFile recordings (slice_index_or inputs 0 None) first
+    × IsTakenFile recordings (slice_index_or inputs i None) other × (¬ IsSameReel first other))
 IsFaultOfInput recordings inputs i fault = IsHoldingFault recordings (paths.Hold i) (slice_index_or inputs i None) fault
 
 -- One of the files was not joined; those before it were, and those after it are as they were. Old and new are those after the first.
@@ -108,9 +109,9 @@ LaterFilesKept recordings inputs old new _ = Unit {0}
 
 -- ---- over the logs of the devices
 
--- the input was read as the file of this holding, by a source of its own
+-- the input was read as the file of this holding, as it is taken, by a source of its own
 abbrev pub IsReadAsFile : Recordings → Option (List ℕ) → Contents → Type 0
-IsReadAsFile recordings input h = ReadsAlone (λ old new. ReadsHolding recordings old new h) input
+IsReadAsFile recordings input h = ReadsAlone (λ old new. ReadsTaken recordings old new h) input
 
 -- so was each of the inputs
 abbrev pub AreReadAsFiles : Recordings → List (Option (List ℕ)) → List Contents → Type 0
@@ -121,18 +122,18 @@ AreReadAsFiles recordings (input ∷ inputs) (h ∷ hs) = IsReadAsFile recording
 
 -- a file was not joined, since it was not read, or since memory ran out once it was
 abbrev pub FileBreaks : Recordings → CommandPath → CliFault → (old new : ReadLog) → Type 0
-FileBreaks recordings path fault old new = HoldingStops recordings path fault old new ⊎ ((fault ≡ faults.Memory) × ((h : Contents) × ReadsHolding recordings old new h))
+FileBreaks recordings path fault old new = HoldingStops recordings path fault old new ⊎ ((fault ≡ faults.Memory) × ((h : Contents) × ReadsTaken recordings old new h))
 
 -- a file was not joined into a holding: for that, or since it is of another record or size
 abbrev pub JoinBreaks : Recordings → CommandPath → Contents → CliFault → (old new : ReadLog) → Type 0
 JoinBreaks recordings path whole fault old new =
     FileBreaks recordings path fault old new
-    ⊎ ((fault ≡ faults.Hold holds.OtherReel) × ((other : Contents) × ReadsHolding recordings old new other × (¬ IsSameReel whole other)))
+    ⊎ ((fault ≡ faults.Hold holds.OtherReel) × ((other : Contents) × ReadsTaken recordings old new other × (¬ IsSameReel whole other)))
 
 -- The first file was read, and each other one by a source of its own; their holdings were joined, and this text has a line for each.
 pub record JoinsAll (recordings : Recordings) (inputs : List (Option (List ℕ))) (old new : ReadLog) (whole : Contents) (text : List ℕ) : Type 0 where
   pub each : JoinsEach recordings (old.remaining ∷ inputs) whole text
-  pub first : ReadsHolding recordings old new each.first
+  pub first : ReadsTaken recordings old new each.first
   pub others : AreReadAsFiles recordings inputs each.others
 
 -- How one of the files was not joined: the first was not, and the others are as they were; or one of those was not, those before it were,

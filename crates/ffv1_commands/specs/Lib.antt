@@ -2,6 +2,7 @@ pub mod Paths
 pub mod Fault
 pub mod Devices
 pub mod InTurn
+pub mod TakenFrames
 pub mod Lists
 pub mod ChainText
 pub mod SetupLines

@@ -5,7 +5,8 @@ use Rattle.ffv1_bits.specs.Limits.{file_limit}
 use Rattle.ffv1_holding.specs.declared.recordings.Recordings.{Recordings}
 use Rattle.ffv1_devices.specs.Writing.{WritesFront}
 use Rattle.ffv1_holding.specs.Reels.{Reel}
-use Rattle.ffv1_holding.specs.Contents.{Contents, IsSameReel, joined}
+use Rattle.ffv1_holding.specs.Contents.{Contents}
+use Rattle.ffv1_hold.specs.UnitedHoldings.{AreOfOneRecord, united}
 use Rattle.ffv1_hold.specs.HoldingText.{head_text, begun_text, holding_text}
 use Rattle.ffv1_hold.specs.FileFaults.{IsFileReel, IsFaultOf}
 use Rattle.ffv1_hold.specs.MergedStreams.{StreamBegins, BeginsWithPart, MergeRefuses, LeftRefusesFirst, WritesUnion, WritesNoEnd, WritesFrontSoFar}
@@ -21,26 +22,26 @@ use Rattle.ffv1_commands.specs.declared.fault.CliFault.{CliFault}
 use Rattle.ffv1_commands.specs.declared.fault.CliFault.TheVariants as faults
 use Rattle.ffv1_commands.specs.declared.path.CommandPath.TheVariants as paths
 
--- Both inputs are the files of holdings of one reel, and the file of their union was written.
+-- Both inputs are the files of holdings of one record and size, and the file of their union was written.
 pub record MergesFiles (recordings : Recordings) (left right out_before out_after : Option (List ℕ)) : Type 0 where
   pub one : Contents
   pub other : Contents
   pub left_file : IsHoldingFile recordings left one
   pub right_file : IsHoldingFile recordings right other
-  pub same : IsSameReel one other
-  pub has_file : HasFile (joined one other)
-  pub written : Appends out_before out_after (holding_text (joined one other))
+  pub same : AreOfOneRecord one.reel other.reel
+  pub has_file : HasFile (united one other)
+  pub written : Appends out_before out_after (holding_text (united one other))
 
--- The inputs, if their bytes are known, begin with the heads and the entries of two holdings of one reel, and this is their union.
+-- The inputs, if their bytes are known, begin with the heads and the entries of two holdings of one record and size, and this is their union.
 pub record BeginsUnion (left right : Option (List ℕ)) (union : Contents) : Type 0 where
   pub one : Contents
   pub other : Contents
   pub left_begins : BeginsWithPart left one
   pub right_begins : BeginsWithPart right other
-  pub same : IsSameReel one other
-  pub is : union ≡ joined one other
+  pub same : AreOfOneRecord one.reel other.reel
+  pub is : union ≡ united one other
 
--- The inputs, if their bytes are known, begin with heads of two reels.
+-- The inputs, if their bytes are known, begin with heads of two records or sizes.
 pub record HeadsDiffer (recordings : Recordings) (left right : Option (List ℕ)) : Type 0 where
   pub one : Reel
   pub other : Reel
@@ -50,7 +51,7 @@ pub record HeadsDiffer (recordings : Recordings) (left right : Option (List ℕ)
   pub right_version : Version
   pub left_begins : StreamBegins left (head_text left_version one)
   pub right_begins : StreamBegins right (head_text right_version other)
-  pub differ : ¬ (one ≡ other)
+  pub differ : ¬ AreOfOneRecord one other
 
 -- ---- why two files were not merged
 
@@ -58,7 +59,7 @@ pub record HeadsDiffer (recordings : Recordings) (left right : Option (List ℕ)
 abbrev pub IsFaultOfEither : Recordings → Option (List ℕ) → Option (List ℕ) → HoldFileFault → Type 0
 IsFaultOfEither recordings left right fault = IfSome left (λ bytes. IsFaultOf recordings bytes fault) ⊎ IfSome right (λ bytes. IsFaultOf recordings bytes fault)
 
--- the fault of both together: their heads are of two reels, or the file of what both begin with would pass its limit
+-- the fault of both together: their heads are of two records or sizes, or the file of what both begin with would pass its limit
 abbrev pub IsFaultOfBoth : Recordings → Option (List ℕ) → Option (List ℕ) → HoldFileFault → Type 0
 IsFaultOfBoth recordings left right files.OtherReel = HeadsDiffer recordings left right
 IsFaultOfBoth recordings left right files.TooLong = (union : Contents) × BeginsUnion left right union × (file_limit < length (holding_text union))
@@ -92,7 +93,7 @@ MergeLeaves left right out_before out_after _ = LeavesEntries left right out_bef
 
 -- ---- what the command returns
 
--- what it returns for the files of two holdings of one reel whose union is this
+-- what it returns for the files of two holdings of one record and size whose union is this
 abbrev pub ReturnsFiles : Contents → Result (Unit {0}) CliFault → Type 0
 ReturnsFiles union (Ok _) = Unit {0}
 ReturnsFiles union (Err (faults.Read path)) = Unit {0}
@@ -101,7 +102,7 @@ ReturnsFiles union (Err faults.Memory) = Unit {0}
 ReturnsFiles union (Err (faults.HoldFile fault)) = (fault ≡ files.TooLong) × (file_limit < length (holding_text union))
 ReturnsFiles union (Err _) = ⊥
 
--- what it returns for inputs that begin with heads of two reels
+-- what it returns for inputs that begin with heads of two records or sizes
 abbrev pub ReturnsOtherHeads : Result (Unit {0}) CliFault → Type 0
 ReturnsOtherHeads (Err (faults.HoldFile fault)) = fault ≡ files.OtherReel
 ReturnsOtherHeads (Err (faults.Read path)) = Unit {0}

@@ -5,9 +5,9 @@ use Rattle.ffv1_range.specs.SetupFaults.{FirstSetupFault, FirstRecordingFault}
 use Rattle.ffv1_range.specs.declared.fault.SetupFault.{SetupFault}
 use Rattle.ffv1_holding.specs.Reels.{Reel, FirstRecordFault}
 use Rattle.ffv1_holding.specs.declared.recordings.Recordings.{Recordings}
-use Rattle.ffv1_hold.specs.Headline.{IsReelOf}
 use Rattle.ffv1_devices.specs.Logs.{ReadLog}
 use Rattle.ffv1_commands.specs.Devices.{IsWholeInput, TakesWhole, FileStops}
+use Rattle.ffv1_commands.specs.TakenFrames.{IsTakenReel}
 use Rattle.ffv1_commands.specs.declared.fault.CliFault.{CliFault}
 use Rattle.ffv1_commands.specs.declared.fault.CliFault.TheVariants as faults
 use Rattle.ffv1_commands.specs.declared.path.CommandPath.TheVariants as paths
@@ -24,10 +24,10 @@ pub record IsRecordingInput (input : Option (List ℕ)) (width height : ℕ) (re
   pub read : IsWholeInput input config
   pub is_recording : IsRecordingOf config width height recording
 
--- The same for a reel of these recordings, which keeps the record beside its setup.
+-- The same for a reel of these recordings, with slices of the frames that are taken; it keeps the record beside its setup.
 pub record IsReelInput (recordings : Recordings) (input : Option (List ℕ)) (width height : ℕ) (reel : Reel) : Type 0 where
   pub read : IsWholeInput input reel.config
-  pub of_record : IsReelOf recordings reel.config width height reel
+  pub of_record : IsTakenReel recordings reel.config width height reel
 
 -- ---- over the logs of the devices
 
@@ -43,10 +43,10 @@ pub record TakesRecording (width height : ℕ) (old new : ReadLog) (recording : 
   pub read : TakesWhole old new config
   pub is_recording : IsRecordingOf config width height recording
 
--- The same for a reel of these recordings, which keeps the record beside its setup.
+-- The same for a reel of these recordings, with slices of the frames that are taken; it keeps the record beside its setup.
 pub record TakesReel (recordings : Recordings) (width height : ℕ) (old new : ReadLog) (reel : Reel) : Type 0 where
   pub read : TakesWhole old new reel.config
-  pub of_record : IsReelOf recordings reel.config width height reel
+  pub of_record : IsTakenReel recordings reel.config width height reel
 
 -- why a record gave nothing: it was not read, its bytes have this fault first, or memory ran out
 abbrev pub StopsAtRecord : (First : List ℕ → SetupFault → Type 0) → (old new : ReadLog) → CliFault → Type 0

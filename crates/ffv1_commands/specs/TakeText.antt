@@ -15,7 +15,8 @@ use Rattle.ffv1_hold.specs.HoldingText.{holding_text}
 use Rattle.ffv1_devices.specs.Logs.{ReadLog, WriteLog}
 use Rattle.ffv1_commands.specs.Devices.{IsWholeInput, AreWholeInputs, WriteStops, IsCopyFault, CopyStops, BothKept}
 use Rattle.ffv1_commands.specs.InTurn.{AreKeptFrom, AreTaken, StopsAtCopy}
-use Rattle.ffv1_commands.specs.Holdings.{HasFile, IsFileFault, IsMade, MadeBreaks}
+use Rattle.ffv1_commands.specs.TakenFrames.{IsFiled}
+use Rattle.ffv1_commands.specs.Holdings.{IsSavedFile, IsFileFault, IsMade, MadeBreaks}
 use Rattle.ffv1_commands.specs.RecordInputs.{IsReelInput, TakesReel, ReelStops}
 use Rattle.ffv1_commands.specs.declared.fault.CliFault.{CliFault}
 use Rattle.ffv1_commands.specs.declared.fault.CliFault.TheVariants as faults
@@ -77,8 +78,9 @@ pub record TakesCopies (recordings : Recordings) (record' : Option (List ℕ)) (
   pub of_record : IsReelInput recordings record' width height reel
   pub copies : List (List ℕ)
   pub read : AreWholeInputs inputs copies
-  pub has_file : HasFile (holding_of reel copies)
-  pub file : Appends out_before out_after (holding_text (holding_of reel copies))
+  pub file : List ℕ
+  pub saved : IsSavedFile (holding_of reel copies) file
+  pub written : Appends out_before out_after file
   pub printed : Appends printed_before printed_after (take_text recordings reel copies)
   pub order : in_order ≡ are_reported_in_order recordings reel copies
 
@@ -117,7 +119,8 @@ TakeStops recordings record' width height inputs out_before out_after printed_be
     × IsFileFault (holding_of reel copies) (faults.HoldFile fault)
 TakeStops recordings record' width height inputs out_before out_after printed_before printed_after (faults.Write path) =
     (reel : Reel) × (copies : List (List ℕ)) × IsReelInput recordings record' width height reel × AreWholeInputs inputs copies
-    × WriteStops (holding_text (holding_of reel copies)) (take_text recordings reel copies) out_before out_after printed_before printed_after (faults.Write path)
+    × ((filed : Contents) × IsFiled (holding_of reel copies) filed
+    × WriteStops (holding_text filed) (take_text recordings reel copies) out_before out_after printed_before printed_after (faults.Write path))
 TakeStops recordings record' width height inputs out_before out_after printed_before printed_after faults.Memory = Unit {0}
 TakeStops recordings record' width height inputs out_before out_after printed_before printed_after _ = ⊥
 

@@ -1,7 +1,9 @@
 //! Holding files, read from a source and written to OUT.
 ghost use Rattle.std.specs.Prelude.{◌≡◌, IfErr};
+ghost use Rattle.ffv1_holding.specs.Contents.{Contents};
 ghost use Rattle.ffv1_holding.specs.declared.recordings.Recordings.TheVariants.{Profile};
 ghost use Rattle.ffv1_commands.specs.Devices.{UnlessWriting};
+ghost use Rattle.ffv1_commands.specs.TakenFrames.{as_taken, IsFiled};
 ghost use Rattle.ffv1_commands.specs.Inner.Holdings.{ReadsHeld, SavesNamed, WritesMade};
 
 use crate::devices::write_file;
@@ -41,29 +43,59 @@ pub(crate) fn read_profile_holding<S: Source>(
     }
 }
 
-/// Writes the file of a holding to OUT. Returns `HoldFile` if the holding has none, and then OUT is not touched.
-fn write_holding<O: Sink>(out: &mut O, holding: &Holding<Recording>) -> Result<(), CliFault>
-    ensures reported { SavesNamed result holding.now (O.log out.old) (O.log out.new) }
+/// The holding in which slices of recordings are taken and joined: of any recording one of any frames.
+pub(crate) fn as_taken(recordings: Recordings, holding: Holding<Recording>) -> Holding<Recording>
+    ensures { result ≡ as_taken recordings holding }
+{
+    match recordings {
+        Recordings::Profile => holding,
+        Recordings::Any => holding.into_any_frames(),
+    }
+}
+
+/// The holding whose file is written: by the record's own rules where each slice is one by these, else as it is.
+fn as_filed(holding: Holding<Recording>) -> Holding<Recording>
+    ensures { IsFiled holding result }
+{
+    match holding.into_own_frames() {
+        Ok(own) => own,
+        Err(holding) => holding,
+    }
+}
+
+/// Writes the file of a holding, which is filed so, to OUT.
+fn write_holding<O: Sink>(out: &mut O, filed: &Holding<Recording>) -> Result<(), CliFault>
+    requires filed { (h : Contents) × IsFiled h filed.now }
+    ensures reported { (h : Contents) → IsFiled h filed.now → SavesNamed result h (O.log out.old) (O.log out.new) }
     ensures untouched { IfErr result (λ fault. UnlessWriting fault (out.new ≡ out.old)) }
 {
-    match write_hold(holding, out) {
+    match write_hold(filed, out) {
         Ok(()) => Ok(()),
         Err(HoldFileFault::TooLong) => Err(CliFault::HoldFile(HoldFileFault::TooLong)),
-        // The only other fault is that of writing.
+        // The only other fault is that of writing: what is filed has a magic.
         Err(_) => Err(CliFault::Write(CommandPath::Out)),
     }
 }
 
-/// Writes the file of a holding to OUT, and then prints a text. A holding that has no file leaves both as they were.
+/// Writes the file of a holding, as it is filed, to OUT. Returns `HoldFile` if it has none, and then OUT is not touched.
+fn write_filed<O: Sink>(out: &mut O, holding: Holding<Recording>) -> Result<(), CliFault>
+    ensures reported { SavesNamed result holding (O.log out.old) (O.log out.new) }
+    ensures untouched { IfErr result (λ fault. UnlessWriting fault (out.new ≡ out.old)) }
+{
+    let filed = as_filed(holding);
+    write_holding(out, &filed)
+}
+
+/// Writes the file of a holding, as it is filed, to OUT, and then prints a text. A holding that has no file leaves both as they were.
 pub(crate) fn write_made<O: Sink, W: Sink>(
     out: &mut O,
-    holding: &Holding<Recording>,
+    holding: Holding<Recording>,
     output: &mut W,
     text: &str,
 ) -> Result<(), CliFault>
-    ensures reported { WritesMade result holding.now text.now (O.log out.old) (O.log out.new) (W.log output.old) (W.log output.new) }
+    ensures reported { WritesMade result holding text.now (O.log out.old) (O.log out.new) (W.log output.old) (W.log output.new) }
     ensures untouched { IfErr result (λ fault. UnlessWriting fault ((out.new ≡ out.old) × (output.new ≡ output.old))) }
 {
-    write_holding(out, holding)?;
+    write_filed(out, holding)?;
     write_file(output, CommandPath::StandardOutput, text.as_bytes())
 }

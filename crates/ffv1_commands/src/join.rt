@@ -2,18 +2,17 @@
 ghost use Rattle.std.specs.Prelude.{◌≡◌, ◌≢◌, ◌+◌, ◌<◌, ◌^◌, [], ◌∷◌, ◌++◌, length, map, Err, IfOk, IfErr, OnOk, string_bytes};
 ghost use Rattle.ffv1_holding.specs.Contents.{IsSameReel, joined};
 ghost use Rattle.ffv1_holding.specs.Sets.{size};
-ghost use Rattle.ffv1_hold.specs.FileFaults.{ReadsHolding};
 ghost use Rattle.ffv1_commands.specs.Fault.{NamesPath};
 ghost use Rattle.ffv1_commands.specs.Paths.{IsJoinPath};
 ghost use Rattle.ffv1_commands.specs.Devices.{UnlessWriting};
 ghost use Rattle.ffv1_commands.specs.Inner.Inputs.{Goes};
-ghost use Rattle.ffv1_commands.specs.Holdings.{IsUnheld};
+ghost use Rattle.ffv1_commands.specs.Holdings.{ReadsTaken, IsUnheld};
 ghost use Rattle.ffv1_commands.specs.JoinText.{file_line, FileBreaks, JoinsAll, JoinsFiles, StopsAtFile, LaterFilesKept, JoinStops, ReportsJoin, IfFileUnread, IfLaterUnread};
 ghost use Rattle.ffv1_commands.specs.Inner.JoinText.{JoinsFile};
 
 use crate::devices::buffered;
 use crate::fault::CliFault;
-use crate::holdings::{read_holding, write_made};
+use crate::holdings::{as_taken, read_holding, write_made};
 use crate::inputs::{Alone, Inputs, Kept};
 use crate::path::CommandPath;
 use ffv1_devices::{Sink, Source, ThroughWrite};
@@ -24,6 +23,9 @@ use std::io::{Read, Write};
 
 /// Joins the holdings of files of these recordings, one after the other; writes the file of their union to `out`, and then prints a line
 /// for each file, as `file 1 new 1`: how many of its slices no earlier file had.
+///
+/// Of any recording files of one record and size are joined in whatever frames. The file of the union is that of a holding by the record's
+/// own rules where each slice is one by these, and else of one of any frames.
 ///
 /// Each file is joined before the next is read: at a fault of one those after it are as they were. Returns `Read` if a
 /// file can't be read; `HoldFile` with the first fault of a file in the order of its bytes, or if the union's file would
@@ -96,7 +98,7 @@ fn join_by<F: Source, I: Inputs<R>, R, O: Sink, W: Sink>(
 {
     let mut lines = String::new(alloc);
     let whole = join_inputs::<_, I, _>(alloc, recordings, first, others, &mut lines)?;
-    write_made(out, &whole, output, lines.as_str())
+    write_made(out, whole, output, lines.as_str())
 }
 
 /// Joins the holdings of files, and adds a line for each.
@@ -127,23 +129,24 @@ fn join_inputs<F: Source, I: Inputs<R>, R>(
     Ok(whole)
 }
 
-/// The holding of the first file, and its line.
+/// The holding of the first file, as it is taken, and its line.
 fn first_holding<F: Source>(
     alloc: Global,
     recordings: Recordings,
     first: &mut F,
     lines: &mut String,
 ) -> Result<Holding<Recording>, CliFault>
-    ensures ok { IfOk result (ReadsHolding recordings (F.log first.old) (F.log first.new)) }
+    ensures ok { IfOk result (ReadsTaken recordings (F.log first.old) (F.log first.new)) }
     ensures line { IfOk result (λ whole. string_bytes lines.new ≡ string_bytes lines.old ++ file_line 1 (size whole.slices)) }
     ensures err { IfErr result (λ fault. FileBreaks recordings (CommandPath.Hold 0) fault (F.log first.old) (F.log first.new)) }
 {
-    let whole = read_holding(alloc, recordings, first, CommandPath::Hold(0))?;
+    let read = read_holding(alloc, recordings, first, CommandPath::Hold(0))?;
+    let whole = as_taken(recordings, read);
     push_file(lines, 1, whole.size())?;
     Ok(whole)
 }
 
-/// Joins the holding of a file, before which stand so many others, into another, and adds a line for it.
+/// Joins the holding of a file, as it is taken, before which stand so many others, into another, and adds a line for it.
 fn join_file<I: Inputs<R>, R>(
     alloc: Global,
     recordings: Recordings,
@@ -155,8 +158,8 @@ fn join_file<I: Inputs<R>, R>(
     requires { before < 2 ^ 63 }
     ensures { Goes I.went (JoinsFile recordings result before whole.old whole.new (string_bytes lines.old) (string_bytes lines.new)) file.old file.new }
 {
-    let other = I::holding(alloc, recordings, file, CommandPath::Hold(before))?;
-    let new = join_in(whole, other)?;
+    let read = I::holding(alloc, recordings, file, CommandPath::Hold(before))?;
+    let new = join_in(whole, as_taken(recordings, read))?;
     push_file(lines, before + 1, new)?;
     Ok(())
 }

@@ -9,9 +9,9 @@ ghost use Rattle.ffv1_commands.specs.UnreadLaws.{UnreadIsGivenUp, LongCopyIsGive
 ghost use Rattle.ffv1_commands.specs.SpliceLaws.{SameCopiesMakeOneSplice, SpliceGivesTheOriginal, SpliceGivesNearCopies, SpliceGivesWovenCopies, SpliceGivesNearWovenCopies, TrueIsWhole};
 
 /// Whatever trees of `take`, `join` and `merge` lead from copies to a holding file, for one record and size, of recordings of the profile
-/// or of any: the file is that of the holding of just what is found in the copies. However the same copies are ordered, grouped or
-/// repeated, the files are equal byte for byte, what is read of them is equal in every tile and origin, and their
-/// reports are equal.
+/// or of any: the file is that of the holding of just what is found in the copies, by the record's own rules where each slice is one by these.
+/// However the same copies are ordered, grouped or repeated, the files are equal byte for byte, what is read of them is equal in every tile
+/// and origin, and their reports are equal. So it is of a tree for the profile and one for any recording, if both find the same in the copies.
 pub fn same_copies_make_one_file()
     ensures made { MadeOfCopies }
     ensures file { SameCopiesMakeOneFile }
@@ -21,9 +21,9 @@ pub fn same_copies_make_one_file()
 
 /// Whatever trees of `take`, `join` and `merge` lead from copies to a holding file, for one record and size: where
 /// every slice found in the copies is the original's for its tile, and each tile's is found in some copy, `restore`
-/// of the file writes the original byte for byte, or is refused because reading, writing or memory failed, and, of a recording of the profile,
-/// `picture` of it shows what the original's slices spell. So it is where all copies differ from the original only within 32 bits
-/// of each slice, its size field undamaged, and each of its slices is intact in one of them.
+/// of the file writes the original byte for byte, or is refused because reading, writing or memory failed. Of any recording the original may be of
+/// a frame between keyframes. Of a recording of the profile `picture` of the file shows what the original's slices spell. So it is where all
+/// copies differ from the original only within 32 bits of each slice, its size field undamaged, and each of its slices is intact in one of them.
 pub fn commands_restore_the_original()
     ensures original { CommandsRestoreTheOriginal }
     ensures near { CommandsRestoreNearCopies }

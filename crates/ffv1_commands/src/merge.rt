@@ -3,7 +3,8 @@ ghost use Rattle.std.specs.Prelude.{◌≡◌, ◌⊎◌, IfErr, IsErrOf, OnOk};
 ghost use Rattle.ffv1_bits.specs.Limits.{file_limit};
 ghost use Rattle.ffv1_devices.specs.Touching.{WritesIfTouched};
 ghost use Rattle.ffv1_holding.specs.Reels.{Reel};
-ghost use Rattle.ffv1_holding.specs.Contents.{Contents, IsSameReel, joined};
+ghost use Rattle.ffv1_holding.specs.Contents.{Contents};
+ghost use Rattle.ffv1_hold.specs.UnitedHoldings.{AreOfOneRecord, united};
 ghost use Rattle.ffv1_hold.specs.declared.version.Version.{Version};
 ghost use Rattle.ffv1_hold.specs.FileFaults.{MayTake};
 ghost use Rattle.ffv1_hold.specs.MergedStreams.{IsFileOf, BeginsWithHead, WritesAtMost};
@@ -39,9 +40,9 @@ pub fn run_merge<R: Read, Q: Read, O: Write>(
     ensures leaves { IfErr result (MergeLeaves (R.remaining left.old) (Q.remaining right.old) (O.contents out.old) (O.contents out.new)) }
     ensures most { WritesAtMost (O.contents out.old) (O.contents out.new) file_limit }
 
-    ensures only { (v w : Version) (g h : Contents) → IsSameReel g h → MayTake recordings g.reel → IsFileOf (R.remaining left.old) v g → IsFileOf (Q.remaining right.old) w h
-        → ReturnsFiles (joined g h) result }
-    ensures other { (g h : Reel) → BeginsWithHead recordings (R.remaining left.old) g → BeginsWithHead recordings (Q.remaining right.old) h → ¬ (g ≡ h)
+    ensures only { (v w : Version) (g h : Contents) → AreOfOneRecord g.reel h.reel → MayTake recordings g.reel → MayTake recordings h.reel
+        → IsFileOf (R.remaining left.old) v g → IsFileOf (Q.remaining right.old) w h → ReturnsFiles (united g h) result }
+    ensures other { (g h : Reel) → BeginsWithHead recordings (R.remaining left.old) g → BeginsWithHead recordings (Q.remaining right.old) h → ¬ AreOfOneRecord g h
         → ReturnsOtherHeads result }
     ensures untouched { IsErrOf result (CliFault.HoldFile HoldFileFault.OtherReel) → out.new ≡ out.old }
     ensures out_untouched { IfErr result (IsWrittenIfTouched CommandPath.Out (out.new ≡ out.old) (O.contents out.old) (O.contents out.new)) }
@@ -69,9 +70,9 @@ pub fn merge_of<R: Source, Q: Source, O: Sink>(
         (record { left = R.log left.new; right = Q.log right.new; sink = O.log out.new }) }
     ensures most { WritesAtMost (O.log out.old).contents (O.log out.new).contents file_limit }
 
-    ensures only { (v w : Version) (g h : Contents) → IsSameReel g h → MayTake recordings g.reel → IsFileOf (R.log left.old).remaining v g → IsFileOf (Q.log right.old).remaining w h
-        → ReturnsFiles (joined g h) result }
-    ensures other { (g h : Reel) → BeginsWithHead recordings (R.log left.old).remaining g → BeginsWithHead recordings (Q.log right.old).remaining h → ¬ (g ≡ h)
+    ensures only { (v w : Version) (g h : Contents) → AreOfOneRecord g.reel h.reel → MayTake recordings g.reel → MayTake recordings h.reel
+        → IsFileOf (R.log left.old).remaining v g → IsFileOf (Q.log right.old).remaining w h → ReturnsFiles (united g h) result }
+    ensures other { (g h : Reel) → BeginsWithHead recordings (R.log left.old).remaining g → BeginsWithHead recordings (Q.log right.old).remaining h → ¬ AreOfOneRecord g h
         → ReturnsOtherHeads result }
     ensures untouched { IsErrOf result (CliFault.HoldFile HoldFileFault.OtherReel) → out.new ≡ out.old }
     ensures out_untouched { IfErr result (λ fault. (fault ≡ CliFault.Write CommandPath.Out) ⊎ WritesIfTouched O.log out.old out.new) }

@@ -13,7 +13,7 @@ ghost use Rattle.ffv1_commands.specs.Inner.TakeText.{TakesCopy};
 
 use crate::devices::read_file;
 use crate::fault::CliFault;
-use crate::holdings::write_made;
+use crate::holdings::{as_taken, write_made};
 use crate::inputs::{Alone, Inputs, Kept};
 use crate::path::CommandPath;
 use ffv1_devices::{FromRead, Sink, Source, ThroughWrite};
@@ -27,6 +27,9 @@ use std::io::{Read, Write};
 /// `copy 1 links 2 slices 1 new 1`: its links, those that are slices, and the slices that no earlier copy gave. Of any recording the line
 /// ends in ` unordered` where the slices found in the copy do not stand in the order of their tiles, each tile once: what is restored
 /// is in that order, and so is not what was recorded. Returns whether no line ends so.
+///
+/// Of any recording slices of frames between keyframes are taken too, whose keyframe bit is 0 (RFC 9043, section 4.4). The file is that of a
+/// holding by the record's own rules where each slice is one by these, and else of one of any frames: then it has the other magic.
 ///
 /// The record is judged before the first copy is read, and each copy is taken before the next is read: at a fault of one
 /// those after it are as they were. Returns `Read` if the record or a copy can't be read, or the record is longer than
@@ -118,11 +121,11 @@ fn take_by<R: Source, I: Inputs<C>, C, O: Sink, W: Sink>(
 {
     let mut holding = empty_holding(alloc, recordings, configuration, width, height)?;
     let (lines, in_order) = take_inputs::<I, _>(alloc, recordings, &mut holding, copies)?;
-    write_made(out, &holding, output, lines.as_str())?;
+    write_made(out, holding, output, lines.as_str())?;
     Ok(in_order)
 }
 
-/// An empty holding for a record, which is read whole, and frames of this size.
+/// An empty holding for a record, which is read whole, and frames of this size, as it is taken.
 fn empty_holding<R: Source>(
     alloc: Global,
     recordings: Recordings,
@@ -135,7 +138,8 @@ fn empty_holding<R: Source>(
     ensures err { IfErr result (ReelStops recordings width height (R.log configuration.old) (R.log configuration.new)) }
 {
     let config = read_file(alloc, configuration, CommandPath::Record)?;
-    Ok(Holding::of_record(alloc, recordings, config.as_slice(), width, height)?)
+    let holding = Holding::of_record(alloc, recordings, config.as_slice(), width, height)?;
+    Ok(as_taken(recordings, holding))
 }
 
 /// Takes copies into an empty holding. Returns a line for each, and whether all are in order, as far as that is reported.

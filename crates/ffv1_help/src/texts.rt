@@ -46,9 +46,10 @@ Option
       The first word after take, join, merge, report, restore or picture. The
       command then takes any recording of version 3 whose slices have parities
       and one tile each: each coder, 8 to 16 bits, RGB, alpha, frames that are
-      no keyframes. A holding of a recording in the profile is the same file
-      with --any and without. That of another recording begins with FFV1ANY, and
-      is read with --any alone.
+      no keyframes. If the record is in the profile, a holding is the same file
+      with --any and without, unless a slice of it says that the frame is no
+      keyframe. Any other holding file begins with FFV1ANY, and is read with
+      --any alone.
 
 Exit statuses
   0  Done.
@@ -121,7 +122,8 @@ Faults
   holding file fault N
        1  the file is no holding file, or its version is neither 1 nor 2; or it
           begins with FFV1ANY, and --any is not given, or its version is not 1,
-          or its record is in the profile
+          or its record is in the profile and its first slice does not say that
+          the frame is no keyframe
        2  its record has no setup for its size, or is not in the profile and the
           file begins with FFV1HLD
        3  it ends before its end tag

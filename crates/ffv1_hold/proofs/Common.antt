@@ -37,15 +37,15 @@ pub use Rattle.ffv1_slice.proofs.SliceFacts.{slice_in_grid}
 pub use Rattle.ffv1_slice.specs.Slices.{IsSliceOf}
 pub use borrow.Rule.Slice.PartMut.{put_mid}
 pub use mathlib.Core.Bool.{and-false, or-false, or_assoc, true≢false}
-pub use Rattle.ffv1_hold.specs.FileEntries.{AreDigestsIn, AreEntries, AreOrigins, Follows, FollowsDigest, HasText, HasTextAfter, IsDigest, IsFileEntryOf, file_entry_cmp, last_of}
-pub use Rattle.ffv1_hold.specs.FileFaults.{BeginsMagic, BodyShows, EntriesShow, EntryShows, FileIsWhole, FileShows, IsEntryInPlace, IsFaultOf, IsFileReel, IsHoldingText, IsMagic, IsMisnamed, IsOutside, IsPartAfter, IsPartOfBody, IsPartOfEntries, IsPartOfEntry, IsPartOfFile, IsPartOfMagic, IsPartOfOrigins, IsPartOfReel, IsPartOfSlice, MayRead, MayTake, IsWrong, MagicShows, OriginsShow, ReadsFile, ReelIsWhole, ReelShows, Returns, ShowsAfter, SliceIsTooLong, SliceShows, recordings_of}
+pub use Rattle.ffv1_hold.specs.FileEntries.{KeepsMagic, AreDigestsIn, AreEntries, AreOrigins, Follows, FollowsDigest, HasText, HasTextAfter, IsDigest, IsFileEntryOf, file_entry_cmp, last_of}
+pub use Rattle.ffv1_hold.specs.FileFaults.{BeginsMagic, BodyShows, EndShows, EntriesShow, EntryShows, FileIsWhole, FileShows, IsEntryInPlace, IsFaultOf, IsFileReel, IsHoldingText, IsMagic, IsOutside, IsPartAfter, IsPartOfBody, IsPartOfEntries, IsPartOfEntry, IsPartOfFile, IsPartOfMagic, IsPartOfOrigins, IsPartOfReel, IsPartOfSlice, MayRead, MayTake, IsWrong, MagicShows, OriginsShow, ReadsFile, ReelIsWhole, ReelShows, Returns, ShowsAfter, SliceIsTooLong, SliceShows, recordings_of}
 pub use Rattle.ffv1_hold.specs.Headline.{IsReelOf}
-pub use Rattle.ffv1_hold.specs.HoldingText.{FileEntry, FitsInFile, HasFileVersion, IsStated, IsTextOf, begun_text, entry_text, file_text, holding_text, magic, origins_limit, text_after_slice, version_number}
+pub use Rattle.ffv1_hold.specs.HoldingText.{FileEntry, CanBeFirst, FitsInFile, HasFileVersion, IsNoKeyframe, IsOfAnyFrames, IsStated, IsTextOf, TellsMagic, begun_text, entry_text, file_text, holding_text, magic, origins_limit, text_after_slice, version_number}
 unfoldable pub use Rattle.ffv1_hold.specs.HoldingText.{be2, be4, body_text, entries_text, file_entries, head_text, origins_text, sized_record, slice_text}
 pub use Rattle.ffv1_hold.specs.Inner.FileEntries.{next_text}
 pub use Rattle.ffv1_hold.specs.Inner.FileFaults.{EndIsWhole, EntriesAreWhole, HeadIsWhole, HeadShows, IsPartOfHead, IsReelAfter}
 pub use Rattle.ffv1_hold.specs.Inner.MergeLogs.{StopsEntry}
-pub use Rattle.ffv1_hold.specs.Inner.Merging.{AreVersions, Ends, EntryStops, Facts, FollowsAll, HeadRefuses, HeadsRefuse, IsOpened, IsPassed, IsReadUpTo, IsTurn, MergeIsRefused, ReadsToNext, Stands, Start, Stops, StopsAtWrite, both, digests_union, inputs_from, no_facts, part, with_digests, with_file_entry}
+pub use Rattle.ffv1_hold.specs.Inner.Merging.{AreReels, IsBegun, KeepsAll, KeepsNext, KeepsUnion, union_reel, AreVersions, Ends, EntryStops, Facts, FollowsAll, HeadRefuses, HeadsRefuse, IsOpened, IsPassed, IsReadUpTo, IsTurn, MergeIsRefused, ReadsToNext, Stands, Start, Stops, StopsAtWrite, both, digests_union, inputs_from, no_facts, part, with_digests, with_file_entry}
 pub use Rattle.ffv1_hold.specs.Inner.ReadOrigins.{DigestShows, TakesDigest}
 pub use Rattle.ffv1_hold.specs.Inner.Reading.{IsShorter, Never, ReadsText, Takes, TakesText}
 pub use Rattle.ffv1_hold.specs.Inner.Saving.{AreWithinLimit, AreWritable, entries_length, file_entries_below, tile_file_entries}
@@ -56,6 +56,7 @@ pub use Rattle.ffv1_hold.specs.JoinedStreams.{JoinsStreams}
 pub use Rattle.ffv1_hold.specs.ReadLimits.{AreAllDigests, EndsFirstOpen, IsReadLimitOf, LiesWhole}
 pub use Rattle.ffv1_hold.specs.Reading.{EndsIn, GoesOnIn, PassesIn, Refuses, StopsAt, StopsIn, WentBefore, is_read}
 pub use Rattle.ffv1_hold.specs.Saving.{IsTooLong}
+pub use Rattle.ffv1_hold.specs.UnitedHoldings.{AreOfOneRecord, reel_of_both, united}
 pub use Rattle.ffv1_hold.specs.declared.entry.HeldSlice.TheInside.{Inside}
 pub use Rattle.ffv1_hold.specs.declared.file_fault.HoldFileFault.{HoldFileFault}
 pub use Rattle.ffv1_hold.specs.declared.file_fault.HoldFileFault.TheVariants.{Write}
@@ -73,11 +74,11 @@ pub use Rattle.ffv1_holding.proofs.OriginSteps.{both_tie, held_each, held_union,
 pub use Rattle.ffv1_holding.proofs.Reels.{one_record, profile_record_reel, record_reel_is, reel_is, reel_limits, reel_small, reel_tiles_few, same_in_frames, setup_reel_of}
 pub use Rattle.ffv1_holding.proofs.RisingSets.{contains_item, insert_present, items-empty, items-from_list, or_absorbed, rising_rest, size-items, union-insert}
 pub use Rattle.ffv1_holding.proofs.Tiles.{any-other, any-same, contains-tile_slices}
-pub use Rattle.ffv1_holding.specs.Contents.{AreDigests, Contents, IsEntryOf, IsHolding, IsSameReel, digests_of, holding_of, joined, no_slices, with_copies, with_entry, with_found}
+pub use Rattle.ffv1_holding.specs.Contents.{AreDigests, Contents, IsEntryOf, AreOwnEntries, IsHolding, IsSameReel, with_reel, digests_of, holding_of, joined, no_slices, with_copies, with_entry, with_found}
 pub use Rattle.ffv1_holding.specs.HoldingParts.{IsKept, contents}
 pub use Rattle.ffv1_holding.specs.Inner.TileSets.{entries_below, tile_entries}
 pub use Rattle.ffv1_holding.specs.Originals.{AreNear, HoldsExactly}
-pub use Rattle.ffv1_holding.specs.Reels.{FirstRecordFault, WantsMemory, IsReel, IsRecordReel, IsRecordingFor, Reel, reel_of, reel_tiles}
+pub use Rattle.ffv1_holding.specs.Reels.{FirstRecordFault, WantsMemory, IsOwnReel, IsReel, IsRecordReel, IsRecordingFor, Reel, in_frames, reel_of, reel_tiles}
 pub use Rattle.ffv1_holding.specs.declared.recordings.Recordings.{Recordings}
 pub use Rattle.ffv1_holding.specs.declared.recordings.Recordings.TheVariants.{Any, Profile}
 pub use Rattle.ffv1_holding.specs.Rising.{IsRising}

@@ -1,5 +1,7 @@
 -- The parts of the size and the record.
-use Rattle.ffv1_hold.proofs.Common.{◌≡◌, ℕ, ◌<◌, ◌≤◌, List, [], ◌∷◌, ◌++◌, length, Bool, Option, Result, Ok, Err, IfOk, IfErr, arith, inl, inr, refl, sym, ap, ◌∙◌, subst, append_assoc, append-nil, length-append, ◌⊎◌, record_limit, SetupFault, FirstRecordFault, Recordings, HoldFileFault, Reel, Version, HasFileVersion, magic, be4, sized_record, head_text, entries_text, file_entries, IsStated, Contents, IsHolding, ReadLog, Refuses, TakesText, ReadsText, AreEntries, MayRead, IsMagic, IsFileReel, IsReelAfter, IsHoldingText, IsPartOfReel, ReelIsWhole, FileIsWhole, ReelShows, IsPartOfEntries, EntriesShow, IsPartOfFile, FileShows, EntriesAreWhole, IsPartOfHead, HeadIsWhole, HeadShows, HeadRefuses}
+use Rattle.ffv1_hold.proofs.Common.{◌≡◌, ℕ, ◌<◌, ◌≤◌, List, [], ◌∷◌, ◌++◌, length, Bool, Option, Result, Ok, Err, IfOk, IfErr, arith, inl, inr, refl, sym, ap, ◌∙◌, subst, append_assoc, append-nil, length-append, ◌⊎◌, record_limit, SetupFault, FirstRecordFault, Recordings, HoldFileFault, Reel, Version, HasFileVersion, magic, be4, sized_record, head_text, entries_text, file_entries, IsStated, Contents, IsHolding, ReadLog, Refuses, TakesText, ReadsText, AreEntries, MayRead, IsMagic, IsFileReel, IsReelAfter, IsHoldingText, IsPartOfReel, ReelIsWhole, FileIsWhole, ReelShows, IsPartOfEntries, EntriesShow, IsPartOfFile, FileShows, EntriesAreWhole, IsPartOfHead, HeadIsWhole, HeadShows, HeadRefuses, KeepsMagic, TellsMagic, last_of, None, false, in_frames, IsRecordReel, record_reel_is}
+use Rattle.ffv1_range.specs.declared.frames.Frames.TheVariants.{Any}
+use Rattle.ffv1_holding.proofs.Reels.{any_reel_is}
 use Rattle.ffv1_range.specs.declared.fault.SetupFault.TheVariants.{Memory as no_memory}
 use Rattle.ffv1_hold.specs.declared.file_fault.HoldFileFault.TheVariants as faults
 use Rattle.ffv1_hold.proofs.Bodies.{length-be4}
@@ -57,16 +59,18 @@ module _ (q : Recordings) where
 
 -- a text, whose end is looked for
 abbrev IsFileOfReel : Version → Reel → List ℕ → Type 0
-IsFileOfReel v r s = (h : Contents) × (tag : List ℕ) × IsHolding h × IsStated v h × (h.reel ≡ r) × (s ≡ entries_text v (file_entries h) ++ tag) × (tag ≡ 0 ∷ [])
+IsFileOfReel v r s = (h : Contents) × (tag : List ℕ) × IsHolding h × IsStated v h × TellsMagic h.reel (file_entries h) × (h.reel ≡ r)
+    × (s ≡ entries_text v (file_entries h) ++ tag) × ((tag ≡ 0 ∷ []) × KeepsMagic r (last_of (file_entries h)) None)
 
 text_of : {q : Recordings} (v : Version) (r : Reel) → IsFileReel q r → (s : List ℕ) → IsFileOfReel v r s → IsHoldingText q (head_text v r ++ s)
-text_of {q} v r is s (h, tag, holding, stated, reel, same, end) = (
+text_of {q} v r is s (h, tag, holding, stated, tells, reel, same, (end, keeps)) = (
   h,
   holding,
   subst (IsFileReel q) (sym reel) is,
   (
     v,
     stated,
+    tells,
     ap (λ (x : Reel). head_text v x ++ s) (sym reel)
         ∙ ap (λ t. head_text v h.reel ++ t) (same ∙ ap (λ t. entries_text v (file_entries h) ++ t) end)
         ∙ sym (append_assoc (head_text v h.reel) (entries_text v (file_entries h)) (0 ∷ [])),
@@ -77,21 +81,21 @@ pub file_from_whole_entries : {q : Recordings} (v : Version) (r : Reel) → IsFi
     → FileIsWhole q f (head_text v r ++ s)
 file_from_whole_entries v r is faults.Read s w = text_of v r is s w
 file_from_whole_entries v r is faults.Trailing s w = text_of v r is s w
-file_from_whole_entries v r is faults.Magic s w = absurd w.6
-file_from_whole_entries v r is (faults.Setup f) s w = absurd w.6
-file_from_whole_entries v r is faults.Truncated s w = absurd w.6
-file_from_whole_entries v r is faults.Tag s w = absurd w.6
-file_from_whole_entries v r is faults.Order s w = absurd w.6
-file_from_whole_entries v r is faults.NotASlice s w = absurd w.6
-file_from_whole_entries v r is faults.Write s w = absurd w.6
-file_from_whole_entries v r is faults.Memory s w = absurd w.6
-file_from_whole_entries v r is faults.TooLong s w = absurd w.6
-file_from_whole_entries v r is faults.OtherReel s w = absurd w.6
+file_from_whole_entries v r is faults.Magic s w = absurd w.7
+file_from_whole_entries v r is (faults.Setup f) s w = absurd w.7
+file_from_whole_entries v r is faults.Truncated s w = absurd w.7
+file_from_whole_entries v r is faults.Tag s w = absurd w.7
+file_from_whole_entries v r is faults.Order s w = absurd w.7
+file_from_whole_entries v r is faults.NotASlice s w = absurd w.7
+file_from_whole_entries v r is faults.Write s w = absurd w.7
+file_from_whole_entries v r is faults.Memory s w = absurd w.7
+file_from_whole_entries v r is faults.TooLong s w = absurd w.7
+file_from_whole_entries v r is faults.OtherReel s w = absurd w.7
 
-pub file_from_entries_part : {q : Recordings} (v : Version) (r : Reel) → IsFileReel q r → (s : List ℕ) → IsPartOfEntries v r.rules s → IsPartOfFile q (head_text v r ++ s)
+pub file_from_entries_part : {q : Recordings} (v : Version) (r : Reel) → IsFileReel q r → (s : List ℕ) → IsPartOfEntries v r s → IsPartOfFile q (head_text v r ++ s)
 file_from_entries_part v r i s h = inr (inr (v, r, s, i, refl, h))
 
-pub file_from_entries_fault : {q : Recordings} (v : Version) (r : Reel) → IsFileReel q r → (f : HoldFileFault) (s : List ℕ) → EntriesShow v r.rules f s
+pub file_from_entries_fault : {q : Recordings} (v : Version) (r : Reel) → IsFileReel q r → (f : HoldFileFault) (s : List ℕ) → EntriesShow v r f s
     → FileShows q f (head_text v r ++ s)
 file_from_entries_fault v r i f s h = inr (inr (v, r, s, i, refl, h))
 
@@ -99,7 +103,7 @@ file_from_entries_fault v r i f s h = inr (inr (v, r, s, i, refl, h))
 pub head_is_part : {q : Recordings} (v : Version) (r : Reel) → IsFileReel q r → HasFileVersion v r.rules.is_profile → IsPartOfFile q (head_text v r)
 unfolding entries_text
 head_is_part v r is has =
-    let none : AreEntries v r.rules [] = record { version = has; each = tt; rising = λ i j d lt short. absurd (omega arith) } in
+    let none : AreEntries v r [] = record { version = has; each = tt; rising = λ i j d lt short. absurd (omega arith); first = inl refl } in
     inr (inr (v, r, [], is, sym (append-nil (head_text v r)), ([], [], none, refl, inl refl)))
 
 -- a size and a record that were read, or refused, after the magic
@@ -124,6 +128,10 @@ pub version_of_file : (q : Recordings) (p : Bool) (v : Version) → IsMagic q p 
 version_of_file q p v is (Err f) reel = tt
 version_of_file q p v is (Ok r) reel = subst (HasFileVersion v) (sym reel.named) is.1
 
+-- the recording of a record after the magic of others than the profile, in any frames
+pub any_reel_after : (p : Bool) (r : Reel) → IsRecordReel r → length r.config ≤ record_limit → p ≡ false → IsReelAfter p (in_frames Any r)
+any_reel_after p r is fits other = record { reel = any_reel_is r (record_reel_is r is); named = sym other; fits = fits }
+
 -- a refusal that isn't Memory is the first fault of the record
 pub first_fault : (recordings : Recordings) (config : List ℕ) (w h : ℕ) (f : SetupFault) → (f ≡ no_memory) ⊎ FirstRecordFault recordings config w h f → (f ≡ no_memory → ⊥)
     → FirstRecordFault recordings config w h f
@@ -137,7 +145,6 @@ pub reel_judged : (p : Bool) {a b : ReadLog} {i j : ℕ} {xs : List ℕ} → Tak
 reel_judged p t (Ok reel) same fault = subst (TakesText _ _ _ _) same t
 reel_judged p t (Err faults.Memory) same (inl is) = memory_stops _ _ _ _ _ _ _ _ t (inr is)
 reel_judged p t (Err faults.TooLong) same (inr is) = shown _ _ _ _ _ _ _ _ t _ tt is
-reel_judged p t (Err faults.Magic) same (inr is) = shown _ _ _ _ _ _ _ _ t _ tt is
 reel_judged p t (Err (faults.Setup f)) same (inr is) = shown _ _ _ _ _ _ _ _ t _ tt is
 reel_judged p t (Err _) same (inl is) = absurd is
 reel_judged p t (Err _) same (inr is) = absurd is

@@ -1,5 +1,5 @@
 -- The entries of a holding, as its files give them.
-use Rattle.ffv1_hold.proofs.Common.{◌≡◌, ℕ, zero, suc, ◌<◌, ◌≤◌, Bool, true, false, ◌||◌, ◌&&◌, List, [], ◌∷◌, ◌++◌, length, map, get_or, Some, refl, sym, ap, ◌∙◌, subst, arith, drop, true≢false, or-false, AllByRecursion, list_any, is_eq, eq_by_cmp, ordering_reverse, Less, map-append, get_or-map, length-map, false_from_ne_true, Entry, with_each, bytes_cmp, entry_cmp, origin_cmp, entries_total, entries_antisymmetric, origins_total, origins_antisymmetric, IsRising, digests_in, Contents, IsHolding, IsEntryOf, digests_of, with_entry, joined, IsSameReel, Reel, rising_rest, contains_item, items-empty, items-rising, items-insert_last, or_cases, all-insert, all-union, held_union, whole_union, held_each, whole_each, Version, First, Second, FileEntry, origins_limit, file_entries, HasFileVersion, IsStated, last_of, Follows, IsDigest, AreOrigins, AreDigestsIn, IsFileEntryOf, AreEntries}
+use Rattle.ffv1_hold.proofs.Common.{◌≡◌, ℕ, zero, suc, ◌<◌, ◌≤◌, Bool, true, false, ◌||◌, ◌&&◌, List, [], ◌∷◌, ◌++◌, length, map, get_or, Some, refl, sym, ap, ◌∙◌, subst, arith, drop, true≢false, or-false, AllByRecursion, list_any, is_eq, eq_by_cmp, ordering_reverse, Less, map-append, get_or-map, length-map, false_from_ne_true, Entry, with_each, bytes_cmp, entry_cmp, origin_cmp, entries_total, entries_antisymmetric, origins_total, origins_antisymmetric, IsRising, digests_in, Contents, IsHolding, IsEntryOf, digests_of, with_entry, joined, IsSameReel, Reel, rising_rest, contains_item, items-empty, items-rising, items-insert_last, or_cases, all-insert, all-union, held_union, whole_union, held_each, whole_each, Version, First, Second, FileEntry, origins_limit, file_entries, HasFileVersion, IsStated, last_of, Follows, IsDigest, AreOrigins, AreDigestsIn, IsFileEntryOf, AreEntries, TellsMagic, file_entry_cmp, ◌⊎◌}
 use Rattle.ffv1_holding.specs.Sets as set
 use Rattle.ffv1_hold.proofs.DigestSets.{has, entry_tie, entry_self, has-digests_in, has-with_each, digests_rise, same_digests, has_all}
 
@@ -152,19 +152,9 @@ pub version_of : (v : Version) (h : Contents) → IsStated v h → HasFileVersio
 version_of First h was = was.1
 version_of Second h was = tt
 
-pub are_entries : (v : Version) (h : Contents) → IsHolding h → IsStated v h → AreEntries v h.reel.rules (file_entries h)
+pub all_entries : (v : Version) (h : Contents) → IsHolding h → IsStated v h → AllByRecursion (IsFileEntryOf v h.reel.rules) (file_entries h)
 unfolding file_entries
-are_entries v h is was = record {
-  version = version_of v h was;
-  each = each (set.items h.slices) (λ i d lt. contains_item entries_total h.slices i d lt);
-  rising = λ i j d lt in_range.
-      let long = length-map (set.items h.slices) (stated (digests_of h)) in
-      rw (
-        get_or-map (stated (digests_of h)) (set.items h.slices) i d.0 d (omega arith),
-        get_or-map (stated (digests_of h)) (set.items h.slices) j d.0 d (omega arith),
-      )
-      (items-rising h.slices i j d.0 lt (omega arith));
-}
+all_entries v h is was = each (set.items h.slices) (λ i d lt. contains_item entries_total h.slices i d lt)
   where
     each : (xs : List Entry) → ((i : ℕ) (d : Entry) → i < length xs → set.contains h.slices (get_or xs i d) ≡ true)
         → AllByRecursion (IsFileEntryOf v h.reel.rules) (map (stated (digests_of h)) xs)
@@ -173,6 +163,20 @@ are_entries v h is was = record {
       record { slice = is.slices x (held 0 x (omega arith)); origins = stated_digests v h is was x (held 0 x (omega arith)) },
       each xs (λ i d lt. held (suc i) d (omega arith)),
     )
+
+pub entries_rise : (h : Contents) → IsRising file_entry_cmp (file_entries h)
+unfolding file_entries
+entries_rise h = λ i j d lt in_range.
+    let long = length-map (set.items h.slices) (stated (digests_of h)) in
+    rw (
+      get_or-map (stated (digests_of h)) (set.items h.slices) i d.0 d (omega arith),
+      get_or-map (stated (digests_of h)) (set.items h.slices) j d.0 d (omega arith),
+    )
+    (items-rising h.slices i j d.0 lt (omega arith))
+
+pub are_entries : (v : Version) (h : Contents) → IsHolding h → IsStated v h → (file_entries h ≡ []) ⊎ TellsMagic h.reel (file_entries h)
+    → AreEntries v h.reel (file_entries h)
+are_entries v h is was begun = record { version = version_of v h was; each = all_entries v h is was; rising = entries_rise h; first = begun }
 
 -- holdings of one reel with the same entries are equal
 pub same_contents : (g h : Contents) → IsHolding g → IsHolding h → g.reel ≡ h.reel → file_entries g ≡ file_entries h → g ≡ h

@@ -17,6 +17,8 @@ pub mod OneFault
 pub mod Unfinished
 pub mod Returned
 pub mod OneInput
+pub mod FirstSlices
+pub mod HeldFirsts
 pub mod Magics
 pub mod Heads
 pub mod Entries
@@ -31,6 +33,7 @@ pub mod PlanSteps
 pub mod Restorations
 pub mod Weights
 pub mod MergeFacts
+pub mod UnionReels
 pub mod MergeReadLimits
 pub mod ReadDigests
 pub mod OneReadLimit

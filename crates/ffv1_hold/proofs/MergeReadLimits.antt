@@ -1,5 +1,5 @@
 -- How far the text of a holding was read, by the entries that lie whole in what was written.
-use Rattle.ffv1_hold.proofs.Common.{record_reel_is, ◌≡◌, ℕ, suc, ◌+◌, ◌<◌, ◌≤◌, true, List, [], ◌∷◌, ◌++◌, length, map, get_or, drop, Option, Some, None, IfSome, refl, sym, ap, ◌∙◌, subst, inl, inr, arith, append_assoc, append-nil, length-append, ◌⊎◌, AllByRecursion, Consumes, Appends, Entry, entries_total, Reel, IsReel, Contents, IsHolding, digests_of, Version, Second, FileEntry, head_text, entry_text, body_text, entries_text, begun_text, file_entries, file_text, IsStated, IsFileEntryOf, next_text, IsFileReel, LiesWhole, AreAllDigests, IsReadLimitOf, IsFileOf, IsFileOfSome, StaysInReadLimit, Facts, part, ReadsToNext, contains_item, Recordings}
+use Rattle.ffv1_hold.proofs.Common.{◌≡◌, ℕ, suc, ◌+◌, ◌<◌, ◌≤◌, true, List, [], ◌∷◌, ◌++◌, length, map, get_or, drop, Option, Some, None, IfSome, refl, sym, ap, ◌∙◌, subst, inl, inr, arith, append_assoc, append-nil, length-append, ◌⊎◌, AllByRecursion, Consumes, Appends, Entry, entries_total, Reel, IsReel, Contents, IsHolding, digests_of, Version, Second, FileEntry, head_text, entry_text, body_text, entries_text, begun_text, file_entries, file_text, IsStated, IsFileEntryOf, next_text, IsFileReel, LiesWhole, AreAllDigests, IsReadLimitOf, IsFileOf, IsFileOfSome, StaysInReadLimit, Facts, part, ReadsToNext, contains_item, Recordings}
 use Rattle.ffv1_holding.specs.Sets as set
 use Rattle.ffv1_hold.proofs.NumberTexts.{no_tag, rest_same}
 use Rattle.ffv1_hold.proofs.BodyTexts.{same_body}
@@ -9,6 +9,7 @@ use Rattle.ffv1_hold.proofs.Slots.{entries_text-split, entries_text-cons, entrie
 use Rattle.ffv1_hold.proofs.Returned.{taken_front}
 use Rattle.ffv1_hold.proofs.TileTexts.{own}
 use Rattle.ffv1_hold.proofs.MergeFacts.{IsWithin, entry_split}
+use Rattle.ffv1_hold.proofs.UnionReels.{IsInFrames}
 
 -- ---- lists that are split in two ways
 
@@ -43,35 +44,40 @@ module _ (v : Version) where
       (more.0, (λ i. one.0 i ∷ more.1 i), more.2)
 
 -- each entry of facts lies whole in the text of others that they are within, where these give its slice all digests
-module _ (r : Reel) (f g : Facts) (is : IsHolding (part r g)) (stated : IsStated Second (part r g)) (within : IsWithin f g) (rest : List ℕ)
+module _ (r q : Reel) (in_r : IsInFrames q r) (f g : Facts) (is : IsHolding (part q g)) (stated : IsStated Second (part q g)) (within : IsWithin f g) (rest : List ℕ)
     (AreAll : FileEntry → List (List ℕ) → Type 0)
-    (all : (e : Entry) → set.contains f.0 e ≡ true → AreAll (own (part r f) e) (digests_of (part r g) e)) where
-  lies_whole : (e : Entry) → set.contains f.0 e ≡ true → LiesWhole AreAll r (begun_text Second (part r g) ++ rest) (own (part r f) e)
+    (all : (e : Entry) → set.contains f.0 e ≡ true → AreAll (own (part r f) e) (digests_of (part q g) e)) where
+  whole_split : (a b c : List ℕ) → (head_text Second q ++ (a ++ b ++ c)) ++ rest ≡ head_text Second q ++ a ++ b ++ (c ++ rest)
+  whole_split a b c = grind (arith, append_assoc)
+
+  lies_whole : (e : Entry) → set.contains f.0 e ≡ true → LiesWhole AreAll r (begun_text Second (part q g) ++ rest) (own (part r f) e)
   lies_whole e held =
-      let split = entry_split (part r g) e (within.slices e held) in
+      let split = entry_split (part q g) e (within.slices e held) in
       let before = split.0 in
       let after = split.1 in
-      let whole = own (part r g) e in
-      let fit = subst (AreFitting Second) split.2 (fitting_items Second (part r g) is stated) in
+      let whole = own (part q g) e in
+      let fit = subst (AreFitting Second) split.2 (fitting_items Second (part q g) is stated) in
       let es = entries_text Second before in
-      let text : entries_text Second (file_entries (part r g)) ≡ es ++ entry_text Second whole ++ entries_text Second after =
+      let text : entries_text Second (file_entries (part q g)) ≡ es ++ entry_text Second whole ++ entries_text Second after =
       cc (entries_text-split Second before (whole ∷ after), entries_text-cons Second whole after, append_assoc es (entry_text Second whole) (entries_text Second after)) in
       record {
+        frames = in_r.0;
         before = before;
-        digests = digests_of (part r g) e;
+        digests = digests_of (part q g) e;
         rest = entries_text Second after ++ rest;
         entries = fitting_front Second before (whole ∷ after) fit;
         entry = (fitting_back Second before (whole ∷ after) fit).0;
         all = all e held;
-        split = grind (arith, append_assoc);
+        split = ap (λ t. (head_text Second q ++ t) ++ rest) text ∙ whole_split (entries_text Second before) (entry_text Second whole) (entries_text Second after)
+            ∙ ap (λ (x : Reel). head_text Second x ++ es ++ entry_text Second whole ++ (entries_text Second after ++ rest)) in_r.1;
       }
 
-  pub all_lie_whole : AllByRecursion (LiesWhole AreAll r (begun_text Second (part r g) ++ rest)) (file_entries (part r f))
+  pub all_lie_whole : AllByRecursion (LiesWhole AreAll r (begun_text Second (part q g) ++ rest)) (file_entries (part r f))
   unfolding file_entries
   all_lie_whole = each (set.items f.0) (λ i d lt. contains_item entries_total f.0 i d lt)
     where
       each : (xs : List Entry) → ((i : ℕ) (d : Entry) → i < length xs → set.contains f.0 (get_or xs i d) ≡ true)
-          → AllByRecursion (LiesWhole AreAll r (begun_text Second (part r g) ++ rest)) (map (own (part r f)) xs)
+          → AllByRecursion (LiesWhole AreAll r (begun_text Second (part q g) ++ rest)) (map (own (part r f)) xs)
       each [] held = tt
       each (x ∷ xs) held = (lies_whole x (held 0 x (omega arith)), each xs (λ i d lt. held (suc i) d (omega arith)))
 
@@ -172,7 +178,7 @@ module _ {c : Recordings} (v w : Version) (h : Contents) (other : Option Content
       let es = entries_text w (file_entries read) in
       let split = after_all (LiesWhole (AreAllDigests h other) h.reel done) (file_entries read) left.rest o.before o.first o.after
       (sym left.split ∙ o.split) all_whole o.not_whole in
-      let few = ends_before w r (record_reel_is r is.reel) left.rest left.fits split.0 o.first o.after split.2 s.more left.bytes left.text s.next in
+      let few = ends_before w r is.reel left.rest left.fits split.0 o.first o.after split.2 s.more left.bytes left.text s.next in
       let text : entries_text w (o.before ++ o.first ∷ []) ≡ es ++ entries_text w (split.0 ++ o.first ∷ []) =
       ap (λ xs. entries_text w (xs ++ o.first ∷ [])) split.1 ∙ ap (entries_text w) (append_assoc (file_entries read) split.0 (o.first ∷ []))
       ∙ entries_text-split w (file_entries read) (split.0 ++ o.first ∷ []) in

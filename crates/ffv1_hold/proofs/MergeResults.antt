@@ -1,17 +1,18 @@
--- What joining two files returns for texts of one reel, and to heads of two.
-use Rattle.ffv1_hold.proofs.Common.{◌≡◌, ℕ, ◌<◌, List, [], ◌∷◌, ◌++◌, length, Option, Some, None, Result, Ok, Err, IfErr, OnOk, IsErrOf, rules, refl, sym, ap, ◌∙◌, subst, inl, inr, arith, append_assoc, length-append, ◌⊎◌, Consumes, Appends, Consumes-nil, Appends-nil, file_limit, Version, Reel, Contents, IsSameReel, joined, HoldFileFault, magic, head_text, entries_text, begun_text, file_entries, file_text, holding_text, IsStated, StopsIn, IsFileReel, IsPartOfReel, IsOutside, IsPartOfHead, HeadShows, Inputs, IsFileOf, IsFileOfSome, StreamBegins, BeginsWithHead, InputRefuses, ShowsNoFault, BothRefuse, LeftRefusesFirst, MergeRefuses, EntriesPass, UnionPasses, ReadsPart, ReadsAll, ReadsOtherHeads, WritesUnion, ReturnsUnion, ReturnsOther, WritesNoEnd, StaysInReadLimit, Facts, both, HeadsRefuse, StopsAtWrite, Stops, MergeIsRefused, part, Recordings, MayTake, HasFileVersion, HeadRefuses, sized_record, WritesAtMost, ReadLog, WriteLog, WritesIfTouched, MergeWent}
+-- What joining two files returns for texts of one record and size, and to heads of two.
+use Rattle.ffv1_hold.proofs.Common.{◌≡◌, ℕ, ◌<◌, List, [], ◌∷◌, ◌++◌, length, Option, Some, None, Result, Ok, Err, IfErr, OnOk, IsErrOf, rules, refl, sym, ap, ◌∙◌, subst, inl, inr, arith, append_assoc, length-append, ◌⊎◌, Consumes, Appends, Consumes-nil, Appends-nil, file_limit, Version, Reel, Contents, AreOfOneRecord, reel_of_both, united, HoldFileFault, magic, head_text, entries_text, begun_text, file_entries, file_text, holding_text, IsStated, StopsIn, IsFileReel, IsPartOfReel, IsOutside, IsPartOfHead, HeadShows, Inputs, IsFileOf, IsFileOfSome, StreamBegins, BeginsWithHead, InputRefuses, ShowsNoFault, BothRefuse, LeftRefusesFirst, MergeRefuses, EntriesPass, UnionPasses, ReadsPart, ReadsAll, ReadsOtherHeads, WritesUnion, ReturnsUnion, ReturnsOther, WritesNoEnd, StaysInReadLimit, Facts, both, HeadsRefuse, StopsAtWrite, Stops, MergeIsRefused, part, Recordings, MayTake, HasFileVersion, HeadRefuses, sized_record, WritesAtMost, ReadLog, WriteLog, WritesIfTouched, MergeWent}
 use Rattle.ffv1_hold.specs.declared.file_fault.HoldFileFault.TheVariants as faults
 use Rattle.ffv1_hold.specs.declared.version.Version.TheVariants.{Second}
 use Rattle.ffv1_hold.specs.JoinedStreams.{devices}
 use Rattle.ffv1_hold.proofs.Bodies.{length-be4}
 use Rattle.ffv1_hold.proofs.Slots.{length-head_text}
 use Rattle.ffv1_hold.proofs.TextLaws.{short_reel, one_reel, same_head, same_name, head_parts, after_magic, text_parts, one_file, fitting_items}
-use Rattle.ffv1_hold.proofs.HeldEntries.{holding-joined, version_of}
+use Rattle.ffv1_hold.proofs.HeldEntries.{version_of}
 use Rattle.ffv1_hold.proofs.FaultLaws.{magic_none, reel_none, sized_cut}
 use Rattle.ffv1_hold.proofs.Returned.{taken_front, taken_all, refused_outside}
 use Rattle.ffv1_hold.proofs.Magics.{begun_none}
 use Rattle.ffv1_hold.proofs.Heads.{head_is_part, head_file}
 use Rattle.ffv1_hold.proofs.MergeFacts.{IsWithin, within-left, within-right, within-both, within-trans, shorter}
+use Rattle.ffv1_hold.proofs.UnionReels.{holding_both}
 use Rattle.ffv1_hold.proofs.MergeFronts.{front_within}
 use Rattle.ffv1_hold.proofs.MergeReadLimits.{front_entries, stays_in_read_limit}
 use Rattle.ffv1_hold.proofs.MergeSteps.{whole_begins, head_begins}
@@ -60,7 +61,7 @@ module _ (c : Recordings) (v : Version) (r : Reel) (is : IsFileReel c r) (has : 
   head_outside faults.Order new s = head_shown faults.Order new s
   head_outside faults.NotASlice new s = head_shown faults.NotASlice new s
 
--- ---- heads of two reels
+-- ---- heads of two records or sizes
 
 -- an input that begins with two heads has one
 one_head : {c : Recordings} (input : Option (List ℕ)) (v : Version) (r q : Reel) → IsFileReel c r → StreamBegins input (head_text v r) → BeginsWithHead c input q
@@ -74,28 +75,33 @@ head_refused : (c : Recordings) (old new : Option (List ℕ)) (g : Reel) (f : Ho
 head_refused c old new g f head refused =
     head_outside c head.version g head.is head.has head.rest f new (subst (λ (o : Option (List ℕ)). HeadRefuses c o new f) head.split refused)
 
-module _ (i : Inputs) (w v : Option (List ℕ)) (g h : Reel) (left : BeginsWithHead i.recordings i.left_old g) (right : BeginsWithHead i.recordings i.right_old h) (other : ¬ (g ≡ h)) where
+module _ (i : Inputs) (w v : Option (List ℕ)) (g h : Reel) (left : BeginsWithHead i.recordings i.left_old g) (right : BeginsWithHead i.recordings i.right_old h) (other : ¬ AreOfOneRecord g h) where
+  -- what is of one record and size with these
+  one_of : (x y : Reel) → x ≡ g → y ≡ h → AreOfOneRecord x y → ⊥
+  one_of x y left_is right_is one = other (subst (λ (r : Reel). AreOfOneRecord r h) left_is (subst (λ (r : Reel). AreOfOneRecord x r) right_is one))
+
   other_refused : (f : HoldFileFault) → MergeIsRefused i w v f → IsOutside f ⊎ (f ≡ faults.OtherReel)
   other_refused f (inl (inl (refused, same), untouched)) = inl (head_refused i.recordings _ _ g f left refused)
   other_refused f (inl (inr (inl (head, refused)), untouched)) = inl (head_refused i.recordings _ _ h f right refused)
   other_refused f (inl (inr (inr (is, heads)), untouched)) = inr is
   other_refused f (inr s) =
-      absurd (other (sym (one_head _ s.left_version s.reel g s.is s.left_head left) ∙ one_head _ s.right_version s.reel h s.is s.right_head right))
+      absurd (one_of s.left_reel s.right_reel (one_head _ s.left_version s.left_reel g s.left_is s.left_head left)
+      (one_head _ s.right_version s.right_reel h s.right_is s.right_head right) s.one)
 
   file_reel : (old new : Option (List ℕ)) (x : Contents) → MayTake i.recordings x.reel → ReadsAll old new x → IsFileReel i.recordings x.reel
-  file_reel old new x taken a = record { reel = taken.1; taken = taken.0; fits = a.file.fits.record' }
+  file_reel old new x taken a = record { reel = a.well_formed.reel; taken = taken; fits = a.file.fits.record' }
 
   other_written : WritesUnion i w v → ⊥
   other_written u =
-      let one = one_head _ _ u.left.reel g (file_reel _ _ u.left u.taken u.read.left_read) (head_begins _ _ _ u.left (0 ∷ []) u.read.left_read.file.taken) left in
-      let two = one_head _ _ u.right.reel h (file_reel _ _ u.right (subst (MayTake i.recordings) u.read.same u.taken) u.read.right_read) (head_begins _ _ _ u.right (0 ∷ []) u.read.right_read.file.taken) right in
-      other (sym one ∙ u.read.same ∙ two)
+      let one = one_head _ _ u.left.reel g (file_reel _ _ u.left u.left_taken u.read.left_read) (head_begins _ _ _ u.left (0 ∷ []) u.read.left_read.file.taken) left in
+      let two = one_head _ _ u.right.reel h (file_reel _ _ u.right u.right_taken u.read.right_read) (head_begins _ _ _ u.right (0 ∷ []) u.read.right_read.file.taken) right in
+      one_of u.left.reel u.right.reel one two u.read.same
 
   pub returns_other : (r : Result (Unit {0}) HoldFileFault) → OnOk r (WritesUnion i w v) → IfErr r (MergeIsRefused i w v) → ReturnsOther r
   returns_other (Ok x) ok err = other_written ok
   returns_other (Err f) ok err = other_refused f err
 
--- ---- texts of one reel
+-- ---- texts of one record and size
 
 -- the slices and origins of a holding
 abbrev facts_of : Contents → Facts
@@ -126,26 +132,25 @@ file_refused : (c : Recordings) (old new : Option (List ℕ)) (v : Version) (h :
 file_refused c old new v h f taken file refused =
     refused_outside c v h file.well_formed taken file.fits f new (subst (λ (o : Option (List ℕ)). InputRefuses c o new f) file.text refused)
 
-module _ (i : Inputs) (a b : Option (List ℕ)) (v w : Version) (g h : Contents) (same : IsSameReel g h)
-    (taken : MayTake i.recordings g.reel) (left : IsFileOf i.left_old v g) (right : IsFileOf i.right_old w h) where
-  right_taken : MayTake i.recordings h.reel
-  right_taken = subst (MayTake i.recordings) same taken
-
+module _ (i : Inputs) (a b : Option (List ℕ)) (v w : Version) (g h : Contents) (same : AreOfOneRecord g.reel h.reel)
+    (taken : MayTake i.recordings g.reel) (right_taken : MayTake i.recordings h.reel) (left : IsFileOf i.left_old v g) (right : IsFileOf i.right_old w h) where
   -- the entries so far are no more than those of both
-  entries_within : EntriesPass i → file_limit < length (holding_text (joined g h))
+  entries_within : EntriesPass i → file_limit < length (holding_text (united g h))
   entries_within p =
       let one = part_of_text _ _ v g p.left left p.read.left_read in
       let two = part_of_text _ _ w h p.right right p.read.right_read in
       let of_left = facts_of p.left in
       let of_right = facts_of p.right in
       let all = both (facts_of g) (facts_of h) in
-      let few = shorter p.left.reel g.reel (both of_left of_right) all
-      (holding-joined p.left p.right p.read.same p.read.left_read.well_formed p.read.right_read.well_formed) (holding-joined g h same left.well_formed right.well_formed)
+      let q = reel_of_both g.reel h.reel in
+      let few = shorter (reel_of_both p.left.reel p.right.reel) q (both of_left of_right) all
+      (holding_both p.left.reel p.right.reel of_left of_right p.read.same p.read.left_read.well_formed p.read.right_read.well_formed)
+      (holding_both g.reel h.reel (facts_of g) (facts_of h) same left.well_formed right.well_formed)
       (within-both of_left of_right all (within-trans of_left (facts_of g) all one.1 (within-left (facts_of g) (facts_of h)))
       (within-trans of_right (facts_of h) all two.1 (within-right (facts_of g) (facts_of h)))) in
       grind (arith, length-append)
 
-  union_passes : UnionPasses i → file_limit < length (holding_text (joined g h))
+  union_passes : UnionPasses i → file_limit < length (holding_text (united g h))
   union_passes u =
       let l = whole_is _ _ v g u.left left u.read.left_read in
       let r = whole_is _ _ w h u.right right u.read.right_read in
@@ -155,7 +160,7 @@ module _ (i : Inputs) (a b : Option (List ℕ)) (v w : Version) (g h : Contents)
   heads_same o =
       let head : (old : Option (List ℕ)) (u : Version) (x : Contents) → MayTake i.recordings x.reel → IsFileOf old u x
       → BeginsWithHead i.recordings old x.reel = λ old u x own file. record {
-        is = record { reel = own.1; taken = own.0; fits = file.fits.record' };
+        is = record { reel = file.well_formed.reel; taken = own; fits = file.fits.record' };
         version = u;
         has = version_of u x file.fits.stated;
         rest = entries_text u (file_entries x) ++ 0 ∷ [];
@@ -163,10 +168,10 @@ module _ (i : Inputs) (a b : Option (List ℕ)) (v w : Version) (g h : Contents)
       } in
       let one = one_head _ o.left_version o.left g.reel o.left_is (whole_begins _ _ _ o.left_taken) (head _ v g taken left) in
       let two = one_head _ o.right_version o.right h.reel o.right_is (whole_begins _ _ _ o.right_taken) (head _ w h right_taken right) in
-      o.other (one ∙ same ∙ sym two)
+      o.other (subst (λ (r : Reel). AreOfOneRecord r o.right) (sym one) (subst (λ (r : Reel). AreOfOneRecord g.reel r) (sym two) same))
 
   abbrev Outcome : HoldFileFault → Type 0
-  Outcome f = IsOutside f ⊎ ((f ≡ faults.Write) ⊎ ((f ≡ faults.TooLong) × (file_limit < length (holding_text (joined g h)))))
+  Outcome f = IsOutside f ⊎ ((f ≡ faults.Write) ⊎ ((f ≡ faults.TooLong) × (file_limit < length (holding_text (united g h)))))
 
   both_refused : (f : HoldFileFault) → BothRefuse i f → Outcome f
   both_refused faults.Write b = inr (inl refl)
@@ -193,7 +198,7 @@ module _ (i : Inputs) (a b : Option (List ℕ)) (v w : Version) (g h : Contents)
     | inr b ↦ both_refused f b
   ]
 
-  pub returns_union : (r : Result (Unit {0}) HoldFileFault) → IfErr r (MergeIsRefused i a b) → ReturnsUnion (joined g h) r
+  pub returns_union : (r : Result (Unit {0}) HoldFileFault) → IfErr r (MergeIsRefused i a b) → ReturnsUnion (united g h) r
   returns_union (Ok x) err = tt
   returns_union (Err f) err = refused f err
 
@@ -225,7 +230,7 @@ module _ (i : Inputs) (w v : Option (List ℕ)) where
   left_first f (inl (inl (r, untaken), untouched)) = inl (head_file i.recordings _ _ f r)
   left_first f (inl (inr (inl ((u, q, is, has, taken), r)), untouched)) = inr (u, q, is, whole_begins _ _ _ taken)
   left_first f (inl (inr (inr (is, heads)), untouched)) = inr (heads.left_version, heads.left, heads.left_is, whole_begins _ _ _ heads.left_taken)
-  left_first f (inr s) = inr (s.left_version, s.reel, s.is, s.left_head)
+  left_first f (inr s) = inr (s.left_version, s.left_reel, s.left_is, s.left_head)
 
   pub writes_no_end : (f : HoldFileFault) → MergeIsRefused i w v f → (f ≡ faults.Write → ⊥) → WritesNoEnd i w v
   writes_no_end f (inl (heads, untouched)) other = inl (subst (λ (o : Option (List ℕ)). Appends w o []) (sym untouched) (Appends-nil w))
@@ -236,20 +241,20 @@ module _ (i : Inputs) (w v : Option (List ℕ)) where
   heads_write (inr (inl (head, r))) = r
   heads_write (inr (inr (is, heads))) = absurd (cc)
 
-  -- after a failed write both heads are of one reel
-  pub write_stops : MergeIsRefused i w v faults.Write → (q : Reel) × IsFileReel i.recordings q × StopsAtWrite i q w v
+  -- after a failed write both heads were read
+  pub write_stops : MergeIsRefused i w v faults.Write → (l r : Reel) × IsFileReel i.recordings l × IsFileReel i.recordings r × StopsAtWrite i l r w v
   write_stops (inl (heads, untouched)) = absurd (heads_write heads)
-  write_stops (inr s) = (s.reel, s.is, s.write refl)
+  write_stops (inr s) = (s.left_reel, s.right_reel, s.left_is, s.right_is, s.write refl)
 
   pub left_stays : (u : Version) (h : Contents) (other : Option Contents) → IsFileOf i.left_old u h → IsFileOfSome i.right_old other → MergeIsRefused i w v faults.Write
       → StaysInReadLimit u h other i.left_old i.left_new w v
   left_stays u h other file also stops = let s = write_stops stops in
-      stays_in_read_limit u s.2.left_version h other s.0 s.1 i.left_old i.left_new i.right_old w v s.2.done file also s.2.left s.2.written
+      stays_in_read_limit u s.4.left_version h other s.0 s.2 i.left_old i.left_new i.right_old w v s.4.done file also s.4.left s.4.written
 
   pub right_stays : (u : Version) (h : Contents) (other : Option Contents) → IsFileOf i.right_old u h → IsFileOfSome i.left_old other → MergeIsRefused i w v faults.Write
       → StaysInReadLimit u h other i.right_old i.right_new w v
   right_stays u h other file also stops = let s = write_stops stops in
-      stays_in_read_limit u s.2.right_version h other s.0 s.1 i.right_old i.right_new i.left_old w v s.2.done file also s.2.right s.2.written
+      stays_in_read_limit u s.4.right_version h other s.1 s.3 i.right_old i.right_new i.left_old w v s.4.done file also s.4.right s.4.written
 
   pub says : (Q : HoldFileFault → Type 0) → ((f : HoldFileFault) → MergeIsRefused i w v f → Q f) → (r : Result (Unit {0}) HoldFileFault)
       → IfErr r (MergeIsRefused i w v) → IfErr r Q
@@ -294,7 +299,7 @@ touched_after log i old new a b c d from to (Err faults.Write) stops went = inl 
 touched_after log i old new a b c d from to (Err f) stops went =
     let e = stops.no_end (λ is. absurd (cc)) in
     inr (inr (
-      begun_text Second (joined e.left e.right),
-      begun_long (joined e.left e.right),
+      begun_text Second (united e.left e.right),
+      begun_long (united e.left e.right),
       record { bytes' = e.written; same = went.few.same; tries' = went.sink' },
     ))

@@ -1,40 +1,52 @@
 -- No two faults are shown by beginnings of one input.
-use Rattle.ffv1_hold.proofs.Common.{record_reel_is, ◌≡◌, ℕ, ◌<◌, ◌≤◌, ◌^◌, List, [], ◌∷◌, ◌++◌, length, Option, Some, None, refl, sym, ap, ◌∙◌, subst, inl, inr, arith, append_assoc, ◌⊎◌, record_limit, SetupFault, TileRules, FirstRecordFault, Recordings, Bool, HasFileVersion, IsFileReel, IsMagic, IsMisnamed, recordings_of, HoldFileFault, Version, Reel, FileEntry, be4, magic, sized_record, head_text, body_text, entries_text, last_of, AreEntries, EntryShows, ReelShows, MagicShows, FileShows}
+use Rattle.ffv1_hold.proofs.Common.{◌≡◌, ℕ, ◌<◌, ◌≤◌, ◌^◌, List, [], ◌∷◌, ◌++◌, length, get_or, Option, Some, None, refl, sym, ap, ◌∙◌, subst, inl, inr, arith, append_assoc, ◌⊎◌, record_limit, SetupFault, FirstRecordFault, Recordings, Bool, HasFileVersion, IsFileReel, IsMagic, recordings_of, HoldFileFault, Version, Reel, FileEntry, be4, magic, sized_record, head_text, body_text, entries_text, last_of, AreEntries, EntryShows, ReelShows, MagicShows, FileShows}
 use Rattle.ffv1_hold.specs.declared.file_fault.HoldFileFault.TheVariants as faults
 use Rattle.ffv1_hold.proofs.NumberTexts.{no_tag, rest_same, number_same, after_number}
 use Rattle.ffv1_hold.proofs.BodyTexts.{same_body, body_one}
 use Rattle.ffv1_hold.proofs.TextLaws.{short_reel, entries_after, none_after, AreFitting, fitting_all, same_sized, same_head, same_name, after_magic, head_parts, sized_parts}
-use Rattle.ffv1_hold.proofs.FaultLaws.{last_from, last_of-none, AreValid, valid_list, entry_kinds, right_none, magic_none, reel_none, not_both}
+use Rattle.ffv1_hold.proofs.FaultLaws.{last_from, last_of-none, AreValid, valid_list, entry_kinds, IsTagFault, not_of_entry, right_none, magic_none, reel_none}
 
-module _ (v : Version) (rules : TileRules) where
+module _ (v : Version) (r : Reel) where
+  -- two faults of one tag
+  tag_one : (last : Option FileEntry) (f g : HoldFileFault) (tag : ℕ) → IsTagFault v r last f tag → IsTagFault v r last g tag → f ≡ g
+  tag_one last f g tag (inl a) (inl b) = a.0 ∙ sym b.0
+  tag_one last f g tag (inl a) (inr b) = let over = a.1 in let end = b.1 in absurd (omega arith)
+  tag_one last f g tag (inr a) (inl b) = let over = b.1 in let end = a.1 in absurd (omega arith)
+  tag_one last f g tag (inr a) (inr b) = a.0 ∙ sym b.0
+
   -- two faults of one entry
-  entry_one : (last : Option FileEntry) (f g : HoldFileFault) (s t y z : List ℕ) → s ++ y ≡ t ++ z → EntryShows v rules last f s
-      → EntryShows v rules last g t → f ≡ g
-  entry_one last f g s t y z same a b = elim (entry_kinds v rules last f s a) [
-    | inl x ↦ grind (arith, entry_kinds, no_tag)
-    | inr x ↦ elim (entry_kinds v rules last g t b) [
-      | inl w ↦ absurd (no_tag (x.0 ++ y) z 1 w.0 (sym (ap (λ q. q ++ y) x.1) ∙ same ∙ ap (λ q. q ++ z) w.2) (λ e. let over = w.3 in omega arith))
-      | inr w ↦ body_one v rules last f g x.0 w.0 y z (rest_same _ _ 1 1 (sym (ap (λ q. q ++ y) x.1) ∙ same ∙ ap (λ q. q ++ z) w.1)) x.2 w.2
+  entry_one : (last : Option FileEntry) (f g : HoldFileFault) (s t y z : List ℕ) → s ++ y ≡ t ++ z → EntryShows v r last f s
+      → EntryShows v r last g t → f ≡ g
+  entry_one last f g s t y z same a b = elim (entry_kinds v r last f s a) [
+    | inl x ↦ elim (entry_kinds v r last g t b) [
+      | inl w ↦
+          let tags : x.0 ≡ w.0 = ap (λ q. get_or q 0 0) (sym (ap (λ q. q ++ y) x.1) ∙ same ∙ ap (λ q. q ++ z) w.1) in
+          tag_one last f g w.0 (subst (IsTagFault v r last f) tags x.2) w.2
+      | inr w ↦ absurd (no_tag (w.0 ++ z) y 1 x.0 (sym (ap (λ q. q ++ z) w.1) ∙ sym same ∙ ap (λ q. q ++ y) x.1) (λ tag. not_of_entry v r last f x.0 x.2 tag))
+    ]
+    | inr x ↦ elim (entry_kinds v r last g t b) [
+      | inl w ↦ absurd (no_tag (x.0 ++ y) z 1 w.0 (sym (ap (λ q. q ++ y) x.1) ∙ same ∙ ap (λ q. q ++ z) w.1) (λ tag. not_of_entry v r last g w.0 w.2 tag))
+      | inr w ↦ body_one v r last f g x.0 w.0 y z (rest_same _ _ 1 1 (sym (ap (λ q. q ++ y) x.1) ∙ same ∙ ap (λ q. q ++ z) w.1)) x.2 w.2
     ]
   ]
 
-  entries_one : (last : Option FileEntry) (fs gs : List FileEntry) → AreValid v rules last fs → AreValid v rules last gs → AreFitting v fs → AreFitting v gs
+  entries_one : (last : Option FileEntry) (fs gs : List FileEntry) → AreValid v r last fs → AreValid v r last gs → AreFitting v fs → AreFitting v gs
       → (f g : HoldFileFault) (s t y z : List ℕ) → (entries_text v fs ++ s) ++ y ≡ (entries_text v gs ++ t) ++ z
-      → EntryShows v rules (last_from last fs) f s → EntryShows v rules (last_from last gs) g t → f ≡ g
+      → EntryShows v r (last_from last fs) f s → EntryShows v r (last_from last gs) g t → f ≡ g
   entries_one last [] [] a b c d f g s t y z same p q = grind (arith, entry_one, none_after)
   entries_one last [] (e ∷ gs) a b c d f g s t y z same p q =
-      absurd (right_none v rules last e ((entries_text v gs ++ t) ++ z) y b.0.0 d.0 b.0.1 f s
+      absurd (right_none v r last e ((entries_text v gs ++ t) ++ z) y b.0.0 d.0 b.0.1 b.0.2 f s
       (ap (λ w. 1 ∷ w) (sym (append_assoc (body_text v e) (entries_text v gs ++ t) z)) ∙ sym (ap (λ x. x ++ z) (entries_after v e gs t)) ∙ sym same
       ∙ ap (λ x. x ++ y) (none_after v s)) p)
   entries_one last (e ∷ fs) [] a b c d f g s t y z same p q =
-      absurd (right_none v rules last e ((entries_text v fs ++ s) ++ y) z a.0.0 c.0 a.0.1 g t
+      absurd (right_none v r last e ((entries_text v fs ++ s) ++ y) z a.0.0 c.0 a.0.1 a.0.2 g t
       (ap (λ w. 1 ∷ w) (sym (append_assoc (body_text v e) (entries_text v fs ++ s) y)) ∙ sym (ap (λ x. x ++ y) (entries_after v e fs s)) ∙ same
       ∙ ap (λ x. x ++ z) (none_after v t)) q)
   entries_one last (e ∷ fs) (h ∷ gs) a b c d f g s t y z same p q =
       let bodies = rest_same _ _ 1 1 (sym (ap (λ x. x ++ y) (entries_after v e fs s)) ∙ same ∙ ap (λ x. x ++ z) (entries_after v h gs t)) in
       let apart = sym (append_assoc (body_text v e) (entries_text v fs ++ s) y) ∙ bodies ∙ append_assoc (body_text v h) (entries_text v gs ++ t) z in
       let one = same_body v e h ((entries_text v fs ++ s) ++ y) ((entries_text v gs ++ t) ++ z) c.0 d.0 apart in
-      cc (entries_one (Some h) fs gs (subst (λ (x : FileEntry). AreValid v rules (Some x) fs) one.0 a.1) b.1 c.1 d.1 f g s t y z one.1 (subst (λ (x : FileEntry). EntryShows v rules (last_from (Some x) fs) f s) one.0 p) q)
+      cc (entries_one (Some h) fs gs (subst (λ (x : FileEntry). AreValid v r (Some x) fs) one.0 a.1) b.1 c.1 d.1 f g s t y z one.1 (subst (λ (x : FileEntry). EntryShows v r (last_from (Some x) fs) f s) one.0 p) q)
 
 -- ---- the head
 
@@ -44,7 +56,6 @@ ShowsRecordLength f s = (w h n : ℕ) × (f ≡ faults.TooLong) × (s ≡ be4 w 
 -- the fault of a record that was read whole after a magic
 abbrev pub IsRecordFault : Bool → HoldFileFault → List ℕ → ℕ → ℕ → Type 0
 IsRecordFault p (faults.Setup f) config w h = FirstRecordFault (recordings_of p) config w h f
-IsRecordFault p faults.Magic config w h = IsMisnamed p config w h
 IsRecordFault p _ config w h = ⊥
 
 abbrev pub ShowsRecord : Bool → HoldFileFault → List ℕ → Type 0
@@ -54,24 +65,18 @@ ShowsRecord p f s =
 pub reel_kinds : (p : Bool) (f : HoldFileFault) (s : List ℕ) → ReelShows p f s → ShowsRecordLength f s ⊎ ShowsRecord p f s
 reel_kinds p faults.TooLong s (w, h, n, split, over, small) = inl (w, h, n, refl, split, over, small)
 reel_kinds p (faults.Setup k) s shown = inr shown
-reel_kinds p faults.Magic s shown = inr shown
 reel_kinds p _ s shown = absurd shown
 
-after_setup_fault : (p : Bool) (f : SetupFault) (g : HoldFileFault) (config : List ℕ) (w h : ℕ) → IsRecordFault p (faults.Setup f) config w h
-    → IsRecordFault p g config w h → faults.Setup f ≡ g
-after_setup_fault p f (faults.Setup g) config w h a b = let both = sym a ∙ b in cc
-after_setup_fault p f faults.Magic config w h a b = absurd (not_both p f config w h a b)
-after_setup_fault p f _ config w h a b = absurd b
-
-after_misnamed : (p : Bool) (g : HoldFileFault) (config : List ℕ) (w h : ℕ) → IsMisnamed p config w h → IsRecordFault p g config w h → faults.Magic ≡ g
-after_misnamed p (faults.Setup g) config w h a b = absurd (not_both p g config w h b a)
-after_misnamed p faults.Magic config w h a b = refl
-after_misnamed p _ config w h a b = absurd b
+setup_fault : (p : Bool) (f : HoldFileFault) (config : List ℕ) (w h : ℕ) → IsRecordFault p f config w h
+    → (k : SetupFault) × (f ≡ faults.Setup k) × FirstRecordFault (recordings_of p) config w h k
+setup_fault p (faults.Setup k) config w h is = (k, refl, is)
+setup_fault p _ config w h is = absurd is
 
 one_record_fault : (p : Bool) (f g : HoldFileFault) (config : List ℕ) (w h : ℕ) → IsRecordFault p f config w h → IsRecordFault p g config w h → f ≡ g
-one_record_fault p (faults.Setup f) g config w h a b = after_setup_fault p f g config w h a b
-one_record_fault p faults.Magic g config w h a b = after_misnamed p g config w h a b
-one_record_fault p _ g config w h a b = absurd a
+one_record_fault p f g config w h a b =
+    let one = setup_fault p f config w h a in
+    let other = setup_fault p g config w h b in
+    let both = sym one.2 ∙ other.2 in cc
 
 record_apart : (w h n : ℕ) (config : List ℕ) (v k : ℕ) (y z : List ℕ) → record_limit < n → n < 2 ^ 32 → length config ≤ record_limit
     → (be4 w ++ be4 h ++ be4 n) ++ y ≡ sized_record config v k ++ z → ⊥
@@ -142,6 +147,5 @@ one_fault q f g s t y z same (inr (inr (w, r, u, r_is, u_split, a))) (inr (inl (
 one_fault q f g s t y z same (inr (inr (w, r, u, r_is, u_split, (fs, p, f_all, f_inner, a)))) (inr (inr (x, o, v, o_is, v_split, (gs, k, g_all, g_inner, b)))) =
     let heads = same_head w x r o (u ++ y) (v ++ z) (short_reel r r_is) (short_reel o o_is) f_all.version g_all.version (sym (append_assoc (head_text w r) u y)
     ∙ sym (ap (λ k. k ++ y) u_split) ∙ same ∙ ap (λ k. k ++ z) v_split ∙ append_assoc (head_text x o) v z) in
-    let rules = ap (λ (k : Reel). k.rules) heads.1 in
-    let fs_all = subst (λ (k : Version). AreEntries k r.rules fs) heads.0 f_all in
-    cc (entries_one x o.rules None fs gs (subst (λ (n : TileRules). AreValid x n None fs) rules (valid_list x r.rules fs fs_all)) (valid_list x o.rules gs g_all) (fitting_all x r (record_reel_is r r_is.reel) fs fs_all.each) (fitting_all x o (record_reel_is o o_is.reel) gs g_all.each) f g p k y z (sym (ap (λ j. j ++ y) (f_inner ∙ ap (λ (n : Version). entries_text n fs ++ p) heads.0)) ∙ heads.2 ∙ ap (λ j. j ++ z) g_inner) (subst (λ (l : Option FileEntry). EntryShows x o.rules l f p) (last_of-none fs) (subst (λ (k : TileRules). EntryShows x k (last_of fs) f p) rules (subst (λ (k : Version). EntryShows k r.rules (last_of fs) f p) heads.0 a))) (subst (λ (l : Option FileEntry). EntryShows x o.rules l g k) (last_of-none gs) b))
+    let fs_all = subst (λ (k : Version). AreEntries k r fs) heads.0 f_all in
+    cc (entries_one x o None fs gs (subst (λ (n : Reel). AreValid x n None fs) heads.1 (valid_list x r fs fs_all)) (valid_list x o gs g_all) (fitting_all x r r_is.reel fs fs_all.each) (fitting_all x o o_is.reel gs g_all.each) f g p k y z (sym (ap (λ j. j ++ y) (f_inner ∙ ap (λ (n : Version). entries_text n fs ++ p) heads.0)) ∙ heads.2 ∙ ap (λ j. j ++ z) g_inner) (subst (λ (l : Option FileEntry). EntryShows x o l f p) (last_of-none fs) (subst (λ (k : Reel). EntryShows x k (last_of fs) f p) heads.1 (subst (λ (k : Version). EntryShows k r (last_of fs) f p) heads.0 a))) (subst (λ (l : Option FileEntry). EntryShows x o l g k) (last_of-none gs) b))

@@ -77,7 +77,7 @@ begins a b x y same few = cc (take-append-drop (length a) b, take-append-le (len
 
 -- no text begins what is unfinished
 text_apart : (c : Recordings) (text s z : List ℕ) → IsHoldingText c text → s ≡ text ++ z → IsPartOfFile c s → ⊥
-text_apart c text s z (h, is, reel, (v, stated, spelled)) same part = text_whole c v h is reel stated z (subst (IsPartOfFile c) (same ∙ ap (λ q. q ++ z) spelled) part)
+text_apart c text s z (h, is, reel, (v, stated, tells, spelled)) same part = text_whole c v h is reel stated tells z (subst (IsPartOfFile c) (same ∙ ap (λ q. q ++ z) spelled) part)
 
 module _ (c : Recordings) (input : List ℕ) (f g : HoldFileFault) where
   shown_both : IsShown c input f → IsShown c input g → f ≡ g
@@ -95,7 +95,7 @@ module _ (c : Recordings) (input : List ℕ) (f g : HoldFileFault) where
   shown_before : IsShown c input f → IsAfterText c input g → ⊥
   shown_before a b =
       let h = b.whole in
-      text_none c h.3.0 h.0 h.1 h.2 h.3.1 b.rest a.seen a.rest f (sym (ap (λ q. q ++ b.rest) h.3.2) ∙ sym b.split ∙ a.split) a.shown
+      text_none c h.3.0 h.0 h.1 h.2 h.3.1 h.3.2 b.rest a.seen a.rest f (sym (ap (λ q. q ++ b.rest) h.3.3) ∙ sym b.split ∙ a.split) a.shown
 
   cut_within : EndsOff c input f → IsOverLimit c input g → ⊥
   cut_within a b = omega (arith, a.within, b.at_limit, ap length b.split, length-append b.seen (b.more ∷ b.rest))

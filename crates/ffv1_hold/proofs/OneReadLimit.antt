@@ -1,5 +1,7 @@
 -- Each text and output has one read_limit.
-use Rattle.ffv1_hold.proofs.Common.{◌≡◌, ℕ, zero, suc, ◌<◌, ◌≤◌, ◌^◌, List, [], ◌∷◌, ◌++◌, length, take, drop, get_or, Contains, Option, Some, None, refl, sym, ap, ◌∙◌, subst, inl, inr, arith, append_assoc, append-nil, length-append, take-append-drop, ◌⊎◌, AllByRecursion, w16, w32, from_be_bytes, tied_itself, Less, Equal, Greater, cases_lt, from_be_bytes-to_be_bytes_2, from_be_bytes-to_be_bytes_4, take-append_seam, drop-append_seam, Entry, bytes_cmp, bytes_total, bytes_antisymmetric, Reel, Contents, digests_of, joined, Version, Second, FileEntry, be2, be4, head_text, origins_text, body_text, entry_text, entries_text, file_entries, file_text, HasText, IsDigest, LiesWhole, AreAllDigests, EndsFirstOpen, IsReadLimitOf}
+use Rattle.ffv1_hold.proofs.Common.{in_frames, ◌≡◌, ℕ, zero, suc, ◌<◌, ◌≤◌, ◌^◌, List, [], ◌∷◌, ◌++◌, length, take, drop, get_or, Contains, Option, Some, None, refl, sym, ap, ◌∙◌, subst, inl, inr, arith, append_assoc, append-nil, length-append, take-append-drop, ◌⊎◌, AllByRecursion, w16, w32, from_be_bytes, tied_itself, Less, Equal, Greater, cases_lt, from_be_bytes-to_be_bytes_2, from_be_bytes-to_be_bytes_4, take-append_seam, drop-append_seam, Entry, bytes_cmp, bytes_total, bytes_antisymmetric, Reel, Contents, digests_of, joined, Version, Second, FileEntry, be2, be4, head_text, origins_text, body_text, entry_text, entries_text, file_entries, file_text, HasText, IsDigest, LiesWhole, AreAllDigests, EndsFirstOpen, IsReadLimitOf}
+use Rattle.ffv1_range.specs.declared.frames.Frames.{Frames}
+use Rattle.ffv1_range.specs.declared.frames.Frames.TheVariants.{Ruled, Any}
 use Rattle.ffv1_hold.proofs.Bodies.{length-be2, length-be4}
 use Rattle.ffv1_hold.proofs.NumberTexts.{same_back, rest_same}
 use Rattle.ffv1_hold.proofs.SliceTexts.{slice_parts}
@@ -224,37 +226,52 @@ module _ (AreAll : FileEntry → List (List ℕ) → Type 0) (decide_all : (e : 
       ≡ head_text Second r ++ (entries_text Second before ++ (entry_text Second f ++ rest))
   whole_parts r f before rest = grind (arith, append_assoc)
 
-  stands_whole : (r : Reel) (bytes : List ℕ) (e : FileEntry) (x : List ℕ) → bytes ≡ head_text Second r ++ x → StandsIn e x → LiesWhole AreAll r bytes e
-  stands_whole r bytes e x is (before, f, rest, all, has, shows, split) =
+  -- it stands in what follows the head of a reel
+  abbrev StandsAfter : Reel → List ℕ → FileEntry → Type 0
+  StandsAfter r bytes e = (x : List ℕ) × (bytes ≡ head_text Second r ++ x) × StandsIn e x
+
+  stands_whole : (frames : Frames) (r : Reel) (bytes : List ℕ) (e : FileEntry) → StandsAfter (in_frames frames r) bytes e → LiesWhole AreAll r bytes e
+  stands_whole frames r bytes e (x, is, (before, f, rest, all, has, shows, split)) =
       let same : f ≡ (e.0, f.1) = λ i. (shows.slice i, f.1) in
       record {
+        frames = frames;
         before = before;
         digests = f.1;
         rest = rest;
         entries = all;
         entry = subst (HasText Second) same has;
         all = shows.all;
-        split = grind (arith, whole_parts);
+        split = is ∙ ap (λ t. head_text Second (in_frames frames r) ++ t) (split ∙ ap (λ g. entries_text Second before ++ (entry_text Second g ++ rest)) same)
+            ∙ sym (whole_parts (in_frames frames r) (e.0, f.1) before rest);
       }
 
-  whole_stands : (r : Reel) (bytes : List ℕ) (e : FileEntry) (x : List ℕ) → bytes ≡ head_text Second r ++ x → LiesWhole AreAll r bytes e → StandsIn e x
-  whole_stands r bytes e x is w = (
-    w.before,
-    (e.0, w.digests),
-    w.rest,
-    w.entries,
-    w.entry,
-    record { slice = refl; all = w.all },
-    same_back (head_text Second r) (head_text Second r) x (entries_text Second w.before ++ (entry_text Second (e.0, w.digests) ++ w.rest)) refl
-        (sym is ∙ w.split ∙ whole_parts r (e.0, w.digests) w.before w.rest),
+  whole_stands : (r : Reel) (bytes : List ℕ) (e : FileEntry) (w : LiesWhole AreAll r bytes e) → StandsAfter (in_frames w.frames r) bytes e
+  whole_stands r bytes e w = (
+    entries_text Second w.before ++ (entry_text Second (e.0, w.digests) ++ w.rest),
+    w.split ∙ whole_parts (in_frames w.frames r) (e.0, w.digests) w.before w.rest,
+    (w.before, (e.0, w.digests), w.rest, w.entries, w.entry, record { slice = refl; all = w.all }, refl),
   )
 
-  decide_whole : (r : Reel) (bytes : List ℕ) (e : FileEntry) → LiesWhole AreAll r bytes e ⊎ (¬ LiesWhole AreAll r bytes e)
-  decide_whole r bytes e = elim (starts (head_text Second r) bytes) [
-    | inr none ↦ grind (arith, whole_parts)
+  decide_after : (r : Reel) (bytes : List ℕ) (e : FileEntry) → StandsAfter r bytes e ⊎ (¬ StandsAfter r bytes e)
+  decide_after r bytes e = elim (starts (head_text Second r) bytes) [
+    | inr none ↦ inr (λ s. none s.0 s.1)
     | inl s ↦ elim (decide_stands e (length s.0) s.0 (omega arith)) [
-      | inl t ↦ inl (stands_whole r bytes e s.0 s.1 t)
-      | inr none ↦ inr (λ w. none (whole_stands r bytes e s.0 s.1 w))
+      | inl t ↦ inl (s.0, s.1, t)
+      | inr none ↦ inr (λ t. none (subst (StandsIn e) (same_back (head_text Second r) (head_text Second r) t.0 s.0 refl (sym t.1 ∙ s.1)) t.2))
+    ]
+  ]
+
+  in_neither : (frames : Frames) (r : Reel) (bytes : List ℕ) (e : FileEntry) → (¬ StandsAfter (in_frames Ruled r) bytes e)
+      → (¬ StandsAfter (in_frames Any r) bytes e) → ¬ StandsAfter (in_frames frames r) bytes e
+  in_neither Ruled r bytes e ruled any = ruled
+  in_neither Any r bytes e ruled any = any
+
+  decide_whole : (r : Reel) (bytes : List ℕ) (e : FileEntry) → LiesWhole AreAll r bytes e ⊎ (¬ LiesWhole AreAll r bytes e)
+  decide_whole r bytes e = elim (decide_after (in_frames Ruled r) bytes e) [
+    | inl t ↦ inl (stands_whole Ruled r bytes e t)
+    | inr ruled ↦ elim (decide_after (in_frames Any r) bytes e) [
+      | inl t ↦ inl (stands_whole Any r bytes e t)
+      | inr any ↦ inr (λ w. in_neither w.frames r bytes e ruled any (whole_stands r bytes e w))
     ]
   ]
 

@@ -1,14 +1,15 @@
 -- The digests that a text gives a slice, by what was read of it: where the next entry follows the slice, the entries that were read give
 -- all of them.
-use Rattle.ffv1_hold.proofs.Common.{record_reel_is, ◌≡◌, ℕ, suc, ◌<◌, cond, Bool, true, false, ◌||◌, List, [], ◌∷◌, ◌++◌, length, map, get_or, Option, Some, None, IfSome, refl, sym, ap, ◌∙◌, subst, inr, arith, append-nil, true≢false, list_any, Consumes, is_eq, eq_by_cmp, Less, false_from_ne_true, Entry, entry_cmp, entries_total, origins_total, origins_antisymmetric, IsRising, Reel, digests_in, Contents, IsHolding, digests_of, joined, rising_rest, items-rising, or_cases, Version, Second, FileEntry, entry_text, entries_text, begun_text, file_entries, IsStated, IsFileEntryOf, file_entry_cmp, next_text, IsFileReel, AreAllDigests, IsFileOf, IsFileOfSome, ReadsAll, Facts, part, both, IsReadUpTo, FollowsAll, ReadsToNext, Recordings}
+use Rattle.ffv1_hold.proofs.Common.{◌≡◌, ℕ, suc, ◌<◌, cond, Bool, true, false, ◌||◌, List, [], ◌∷◌, ◌++◌, length, map, get_or, Option, Some, None, IfSome, refl, sym, ap, ◌∙◌, subst, inr, arith, append-nil, true≢false, list_any, Consumes, is_eq, eq_by_cmp, Less, false_from_ne_true, Entry, entry_cmp, entries_total, origins_total, origins_antisymmetric, IsRising, Reel, digests_in, Contents, IsHolding, digests_of, joined, rising_rest, items-rising, or_cases, Version, Second, FileEntry, entry_text, entries_text, begun_text, file_entries, IsStated, IsFileEntryOf, file_entry_cmp, next_text, IsFileReel, AreAllDigests, IsFileOf, IsFileOfSome, ReadsAll, Facts, part, both, IsReadUpTo, FollowsAll, ReadsToNext, Recordings}
 use Rattle.ffv1_holding.specs.Sets as set
 use Rattle.ffv1_hold.proofs.DigestSets.{has, entry_tie, has-digests_in, digests_rise, same_digests}
-use Rattle.ffv1_hold.proofs.HeldEntries.{above_all, are_entries}
+use Rattle.ffv1_hold.proofs.HeldEntries.{above_all, entries_rise}
 use Rattle.ffv1_hold.proofs.NumberTexts.{no_tag}
 use Rattle.ffv1_hold.proofs.TextLaws.{entries_after, AreFitting, fitting_all}
 use Rattle.ffv1_hold.proofs.Slots.{entries_text-cons, entries_text-none}
 use Rattle.ffv1_hold.proofs.TileTexts.{own}
 use Rattle.ffv1_hold.proofs.MergeFacts.{IsWithin, own_digests}
+use Rattle.ffv1_hold.proofs.UnionReels.{IsInFrames}
 use Rattle.ffv1_hold.proofs.MergeReadLimits.{front_entries, rest_entries, all_lie_whole}
 
 -- ---- the digests that entries give
@@ -80,7 +81,7 @@ rest_states_none w r is e [] bytes None entry below fit up same = refl
 rest_states_none w r is e (g ∷ gs) bytes None entry below fit up same = grind (arith, no_tag, entries_after)
 rest_states_none w r is e rest bytes (Some x) entry below fit up same =
     let one = ap (λ t. t ++ bytes) (entries_text-cons w x [] ∙ ap (λ t. entry_text w x ++ t) (entries_text-none w) ∙ append-nil (entry_text w x)) in
-    let front = front_entries w rest (x ∷ []) [] bytes fit (fitting_all w r (record_reel_is r is.reel) (x ∷ []) (entry, tt)) (same ∙ sym one) in
+    let front = front_entries w rest (x ∷ []) [] bytes fit (fitting_all w r is.reel (x ∷ []) (entry, tt)) (same ∙ sym one) in
     cc (stated_above x front.0 e (subst (IsRising file_entry_cmp) front.1 up) below)
 
 -- the entries that were read give all digests of a slice before the next one
@@ -89,7 +90,7 @@ digests_read : {c : Recordings} (v w : Version) (h : Contents) (r : Reel) (is : 
 digests_read v w h r is old new f next file read e below =
     let some = file_entries (part r f) in
     let left = rest_entries v w h r is old new file f (next_text w next) read.well_formed read.stated read.taken in
-    let up = rising_back some left.rest (subst (IsRising file_entry_cmp) left.split (are_entries v h file.well_formed file.fits.stated).rising) in
+    let up = rising_back some left.rest (subst (IsRising file_entry_cmp) left.split (entries_rise h)) in
     sym (stated_digests h file.well_formed e) ∙ ap (λ (es : List FileEntry). stated_in es e) left.split
     ∙ stated_front some left.rest e (rest_states_none w r is e left.rest left.bytes next read.entry below left.fits up left.text)
     ∙ stated_digests (part r f) read.well_formed e
@@ -141,22 +142,22 @@ left_gives r f g h k e left right = digests_both r f g h k e left right
 pub right_gives : (r : Reel) (f g : Facts) → GiveBoth r g f (both f g)
 right_gives r f g h k e right left = digests_both r f g k h e left right ∙ digests-swap k h e
 
-module _ {c : Recordings} (r : Reel) (is : IsFileReel c r) (old new beside now : Option (List ℕ)) (v w : Version) (f g all : Facts) (next also : Option FileEntry)
-    (read : IsReadTo old new v r f next) (other_read : IsReadTo beside now w r g also) (inside : IsWithin f all) (follows : FollowsAll r all next)
-    (also_follows : FollowsAll r all also) (give : GiveBoth r f g all) where
+module _ {c : Recordings} (r k q : Reel) (in_r : IsInFrames q r) (is : IsFileReel c r) (also_is : IsFileReel c k) (old new beside now : Option (List ℕ))
+    (v w : Version) (f g all : Facts) (next also : Option FileEntry) (read : IsReadTo old new v r f next) (other_read : IsReadTo beside now w k g also)
+    (inside : IsWithin f all) (follows : FollowsAll q all next) (also_follows : FollowsAll q all also) (give : GiveBoth q f g all) where
   are_all : (u : Version) (h : Contents) (other : Option Contents) → IsFileOf old u h → IsFileOfSome beside other → (e : Entry) → set.contains f.0 e ≡ true
-      → AreAllDigests h other (own (part r f) e) (digests_of (part r all) e)
+      → AreAllDigests h other (own (part r f) e) (digests_of (part q all) e)
   are_all u h None file other_file e held = own_digests r f all inside e
-  are_all u h (Some k) file other_file e held =
+  are_all u h (Some other) file other_file e held =
       let there = inside.slices e held in
-      cc (give h k e (digests_read u v h r is old new f next file read e (after_each r all next follows e there)) (digests_read other_file.0 w k r is beside now g also other_file.1 other_read e (after_each r all also also_follows e there)))
+      cc (give h other e (digests_read u v h r is old new f next file read e (after_each q all next follows e there)) (digests_read other_file.0 w other k also_is beside now g also other_file.1 other_read e (after_each q all also also_follows e there)))
 
-  pub stays_beside : IsHolding (part r all) → IsStated Second (part r all) → (rest : List ℕ) → ReadsToNext v r old new beside (begun_text Second (part r all) ++ rest)
+  pub stays_beside : IsHolding (part q all) → IsStated Second (part q all) → (rest : List ℕ) → ReadsToNext v r old new beside (begun_text Second (part q all) ++ rest)
   stays_beside well_formed stated rest = record {
     facts = f;
     well_formed = read.well_formed;
     stated = read.stated;
-    whole = λ u h other file other_file. all_lie_whole r f all well_formed stated inside rest (AreAllDigests h other) (are_all u h other file other_file);
+    whole = λ u h other file other_file. all_lie_whole r q in_r f all well_formed stated inside rest (AreAllDigests h other) (are_all u h other file other_file);
     more = next_text v next;
     next = inr (next, refl, read.entry);
     taken = read.taken;

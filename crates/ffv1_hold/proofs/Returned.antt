@@ -16,7 +16,7 @@ taken_all xs bs (Some rest) is end = is ∙ ap (λ r. bs ++ r) end ∙ append-ni
 
 module _ (c : Recordings) (v : Version) (h : Contents) (is : IsHolding h) (taken : MayTake c h.reel) (fits : FitsInFile v h) where
   own : IsFileReel c h.reel
-  own = record { reel = taken.1; taken = taken.0; fits = fits.record' }
+  own = record { reel = is.reel; taken = taken; fits = fits.record' }
 
   -- no text goes on after another
   text_ends : (w : Version) (g : Contents) → IsHolding g → length g.reel.config ≤ record_limit → IsStated w g → (more : ℕ) (rest : List ℕ)
@@ -35,7 +35,7 @@ module _ (c : Recordings) (v : Version) (h : Contents) (is : IsHolding h) (taken
 
   shows_none : (fault : HoldFileFault) (new : Option (List ℕ)) → StopsIn (FileShows c fault) (Some (file_text v h)) new 0 → ⊥
   shows_none fault new r = let front = taken_front (file_text v h) r.seen new r.taken in
-      text_none c v h is own fits.stated [] r.seen front.0 fault (append-nil (file_text v h) ∙ front.1) r.is
+      text_none c v h is own fits.stated fits.tells [] r.seen front.0 fault (append-nil (file_text v h) ∙ front.1) r.is
 
   -- a refusal of a text is the device's or memory's
   pub refused_outside : (f : HoldFileFault) (new : Option (List ℕ)) → Refuses (IsPartOfFile c) (FileIsWhole c) (FileShows c) (Some (file_text v h)) new 0 f → IsOutside f
@@ -43,14 +43,14 @@ module _ (c : Recordings) (v : Version) (h : Contents) (is : IsHolding h) (taken
   refused_outside faults.Memory new r = tt
   refused_outside faults.Write new r = r
   refused_outside faults.OtherReel new r = r
-  refused_outside faults.Truncated new r = text_whole c v h is own fits.stated []
+  refused_outside faults.Truncated new r = text_whole c v h is own fits.stated fits.tells []
       (subst (IsPartOfFile c) (sym (append-nil (file_text v h) ∙ taken_all (file_text v h) r.seen new r.taken r.at_end)) r.unfinished)
   refused_outside faults.TooLong new (inl r) = shows_none faults.TooLong new r
   refused_outside faults.TooLong new (inr r) = grind (arith, taken_front, length-append)
   refused_outside faults.Trailing new r =
       let w = r.whole in
       let front = taken_front (file_text v h) (r.seen ++ r.more ∷ []) new r.taken in
-      text_ends w.3.0 w.0 w.1 w.2.fits w.3.1 r.more front.0 (front.1 ∙ append_assoc r.seen (r.more ∷ []) front.0 ∙ ap (λ z. z ++ r.more ∷ front.0) w.3.2)
+      text_ends w.3.0 w.0 w.1 w.2.fits w.3.1 r.more front.0 (front.1 ∙ append_assoc r.seen (r.more ∷ []) front.0 ∙ ap (λ z. z ++ r.more ∷ front.0) w.3.3)
   refused_outside faults.Magic new r = shows_none faults.Magic new r
   refused_outside (faults.Setup f) new r = shows_none (faults.Setup f) new r
   refused_outside faults.Tag new r = shows_none faults.Tag new r

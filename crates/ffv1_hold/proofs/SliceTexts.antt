@@ -1,5 +1,5 @@
 -- Slices after their tags are read in one way only, and show one fault at most.
-use Rattle.ffv1_hold.proofs.Common.{◌≡◌, ℕ, ◌<◌, ◌≤◌, ◌^◌, ◌==◌, List, ◌++◌, length, Option, refl, sym, ap, ◌∙◌, subst, inl, inr, arith, append_assoc, length-append, ◌⊎◌, slice_limit, TileRules, IsSliceOf, HoldFileFault, Entry, FileEntry, be2, be4, slice_text, Follows, IsPartOfSlice, IsWrong, SliceShows, IsEntryInPlace}
+use Rattle.ffv1_hold.proofs.Common.{◌≡◌, ℕ, ◌<◌, ◌≤◌, ◌^◌, ◌==◌, List, ◌++◌, length, Option, refl, sym, ap, ◌∙◌, subst, inl, inr, arith, append_assoc, length-append, ◌⊎◌, slice_limit, Reel, Some, IsSliceOf, HoldFileFault, Entry, FileEntry, be2, be4, slice_text, Follows, KeepsMagic, IsPartOfSlice, IsWrong, SliceShows, IsEntryInPlace}
 use Rattle.ffv1_hold.specs.declared.file_fault.HoldFileFault.TheVariants as faults
 use Rattle.ffv1_hold.proofs.Bodies.{length-be2, length-be4}
 use Rattle.ffv1_hold.proofs.NumberTexts.{same_front, same_back, be2_same, number_same, after_number}
@@ -53,33 +53,36 @@ slice_cut e x fits (inr part) = grind (arith, slice_parts, append_assoc, same_le
 abbrev ShowsLength : HoldFileFault → List ℕ → Type 0
 ShowsLength f s = (tile n : ℕ) × (f ≡ faults.TooLong) × (s ≡ be2 tile ++ be4 n) × (slice_limit < n) × (n < 2 ^ 32)
 
-abbrev ShowsWrong : TileRules → Option FileEntry → HoldFileFault → List ℕ → Type 0
-ShowsWrong rules last f s = (e : Entry) × (s ≡ slice_text e) × Fits e × IsWrong rules last e f
+abbrev ShowsWrong : Reel → Option FileEntry → HoldFileFault → List ℕ → Type 0
+ShowsWrong r last f s = (e : Entry) × (s ≡ slice_text e) × Fits e × IsWrong r last e f
 
-slice_kinds : (rules : TileRules) (last : Option FileEntry) (f : HoldFileFault) (s : List ℕ) → SliceShows rules last f s
-    → ShowsLength f s ⊎ ShowsWrong rules last f s
-slice_kinds rules last faults.TooLong s (tile, n, split, over, small) = inl (tile, n, refl, split, over, small)
-slice_kinds rules last faults.NotASlice s (e, split, small, fits, wrong) = inr (e, split, (small, fits), wrong)
-slice_kinds rules last faults.Order s (e, split, small, fits, wrong) = inr (e, split, (small, fits), wrong)
-slice_kinds rules last faults.Tag s shown = absurd shown.4
-slice_kinds rules last faults.Magic s shown = absurd shown.4
-slice_kinds rules last (faults.Setup f) s shown = absurd shown.4
-slice_kinds rules last faults.Truncated s shown = absurd shown.4
-slice_kinds rules last faults.Trailing s shown = absurd shown.4
-slice_kinds rules last faults.Read s shown = absurd shown.4
-slice_kinds rules last faults.Write s shown = absurd shown.4
-slice_kinds rules last faults.Memory s shown = absurd shown.4
-slice_kinds rules last faults.OtherReel s shown = absurd shown.4
+slice_kinds : (r : Reel) (last : Option FileEntry) (f : HoldFileFault) (s : List ℕ) → SliceShows r last f s
+    → ShowsLength f s ⊎ ShowsWrong r last f s
+slice_kinds r last faults.TooLong s (tile, n, split, over, small) = inl (tile, n, refl, split, over, small)
+slice_kinds r last faults.NotASlice s (e, split, small, fits, wrong) = inr (e, split, (small, fits), wrong)
+slice_kinds r last faults.Order s (e, split, small, fits, wrong) = inr (e, split, (small, fits), wrong)
+slice_kinds r last faults.Tag s shown = absurd shown.4
+slice_kinds r last faults.Magic s (e, split, small, fits, wrong) = inr (e, split, (small, fits), wrong)
+slice_kinds r last (faults.Setup f) s shown = absurd shown.4
+slice_kinds r last faults.Truncated s shown = absurd shown.4
+slice_kinds r last faults.Trailing s shown = absurd shown.4
+slice_kinds r last faults.Read s shown = absurd shown.4
+slice_kinds r last faults.Write s shown = absurd shown.4
+slice_kinds r last faults.Memory s shown = absurd shown.4
+slice_kinds r last faults.OtherReel s shown = absurd shown.4
 
 -- what an entry is wrong in
-wrong_kinds : (rules : TileRules) (last : Option FileEntry) (e : Entry) (f : HoldFileFault) → IsWrong rules last e f
-    → ((f ≡ faults.NotASlice) × (¬ IsSliceOf rules e.1 (e.0 == 0) e.0)) ⊎ ((f ≡ faults.Order) × IsSliceOf rules e.1 (e.0 == 0) e.0 × (¬ Follows last e))
-wrong_kinds rules last e faults.NotASlice wrong = inl (refl, wrong)
-wrong_kinds rules last e faults.Order wrong = inr (refl, wrong.0, wrong.1)
-wrong_kinds rules last e _ wrong = absurd wrong
+wrong_kinds : (r : Reel) (last : Option FileEntry) (e : Entry) (f : HoldFileFault) → IsWrong r last e f
+    → ((f ≡ faults.NotASlice) × (¬ IsSliceOf r.rules e.1 (e.0 == 0) e.0))
+    ⊎ (((f ≡ faults.Order) × IsSliceOf r.rules e.1 (e.0 == 0) e.0 × (¬ Follows last e))
+    ⊎ ((f ≡ faults.Magic) × IsSliceOf r.rules e.1 (e.0 == 0) e.0 × Follows last e × (¬ KeepsMagic r last (Some e))))
+wrong_kinds r last e faults.NotASlice wrong = inl (refl, wrong)
+wrong_kinds r last e faults.Order wrong = inr (inl (refl, wrong.0, wrong.1))
+wrong_kinds r last e faults.Magic wrong = inr (inr (refl, wrong.0, wrong.1, wrong.2))
+wrong_kinds r last e _ wrong = absurd wrong
 
-wrong_one : (rules : TileRules) (last : Option FileEntry) (e : Entry) (f g : HoldFileFault) → IsWrong rules last e f → IsWrong rules last e g → f ≡ g
-wrong_one rules last e f g a b = grind (arith, wrong_kinds)
+wrong_one : (r : Reel) (last : Option FileEntry) (e : Entry) (f g : HoldFileFault) → IsWrong r last e f → IsWrong r last e g → f ≡ g
+wrong_one r last e f g a b = grind (arith, wrong_kinds)
 
 -- a length over the limit stands before no whole slice
 length_apart : (tile n : ℕ) (e : Entry) (y z : List ℕ) → slice_limit < n → n < 2 ^ 32 → length e.1 ≤ slice_limit
@@ -91,19 +94,19 @@ long_cut : (tile n : ℕ) (y : List ℕ) → slice_limit < n → n < 2 ^ 32 → 
 long_cut tile n y over small (inl short) = grind (arith, length-append, length-be2, length-be4)
 long_cut tile n y over small (inr (t, m, bytes, split, few, cut)) = grind (arith, append_assoc, same_length_number)
 
-module _ (rules : TileRules) (last : Option FileEntry) where
+module _ (r : Reel) (last : Option FileEntry) where
   -- a slice that is right shows no fault
-  pub slice_none : (e : Entry) (x y : List ℕ) → IsEntryInPlace rules last e → (f : HoldFileFault) (s : List ℕ) → slice_text e ++ x ≡ s ++ y
-      → SliceShows rules last f s → ⊥
+  pub slice_none : (e : Entry) (x y : List ℕ) → IsEntryInPlace r last e → (f : HoldFileFault) (s : List ℕ) → slice_text e ++ x ≡ s ++ y
+      → SliceShows r last f s → ⊥
   slice_none e x y right f s same shown = grind (arith, slice_kinds, length_apart, same_slice, wrong_kinds)
 
   -- two faults of one slice
-  pub slice_one : (f g : HoldFileFault) (s t y z : List ℕ) → s ++ y ≡ t ++ z → SliceShows rules last f s → SliceShows rules last g t → f ≡ g
+  pub slice_one : (f g : HoldFileFault) (s t y z : List ℕ) → s ++ y ≡ t ++ z → SliceShows r last f s → SliceShows r last g t → f ≡ g
   slice_one f g s t y z same a b = grind (arith, slice_kinds, length_apart, same_slice, wrong_one)
 
   -- no beginning of a part of a slice shows one
-  pub part_slice_none : (f : HoldFileFault) (p s y : List ℕ) → p ≡ s ++ y → IsPartOfSlice p → SliceShows rules last f s → ⊥
-  part_slice_none f p s y same part shown = elim (slice_kinds rules last f s shown) [
+  pub part_slice_none : (f : HoldFileFault) (p s y : List ℕ) → p ≡ s ++ y → IsPartOfSlice p → SliceShows r last f s → ⊥
+  part_slice_none f p s y same part shown = elim (slice_kinds r last f s shown) [
     | inl w ↦ long_cut w.0 w.1 y w.4 w.5 (subst IsPartOfSlice (same ∙ ap (λ q. q ++ y) w.3) part)
     | inr w ↦ slice_cut w.0 y w.2.1 (subst IsPartOfSlice (same ∙ ap (λ q. q ++ y) w.1) part)
   ]

@@ -1,10 +1,10 @@
 -- Texts of holdings are read in one way only.
-use Rattle.ffv1_hold.proofs.Common.{◌≡◌, ℕ, ◌<◌, ◌≤◌, ◌^◌, ◌==◌, Bool, true, false, List, [], ◌∷◌, ◌++◌, length, get_or, refl, sym, ap, ◌∙◌, subst, arith, append_assoc, AllByRecursion, record_limit, reel_small, HeadLimits, reel_limits, reel_tiles_few, slice_in_grid, Reel, IsReel, Contents, IsHolding, Version, First, Second, FileEntry, HasFileVersion, Recordings, be4, magic, sized_record, head_text, body_text, entry_text, entries_text, file_entries, file_text, IsStated, IsTextOf, HasText, IsFileEntryOf, IsFileReel, record_reel_is, same_in_frames, ◌*◌}
+use Rattle.ffv1_hold.proofs.Common.{◌≡◌, ℕ, ◌<◌, ◌≤◌, ◌^◌, ◌==◌, Bool, true, false, List, [], ◌∷◌, ◌++◌, length, get_or, refl, sym, ap, ◌∙◌, subst, arith, append_assoc, AllByRecursion, record_limit, reel_small, HeadLimits, reel_limits, reel_tiles_few, slice_in_grid, Reel, IsReel, Contents, IsHolding, Version, First, Second, FileEntry, HasFileVersion, Recordings, be4, magic, sized_record, head_text, body_text, entry_text, entries_text, file_entries, file_text, IsStated, IsTextOf, HasText, IsFileEntryOf, IsFileReel, same_in_frames, ◌*◌}
 use Rattle.ffv1_hold.proofs.NumberTexts.{same_front, same_back, no_tag, rest_same, number_same, after_number}
 use Rattle.ffv1_hold.proofs.DigestTexts.{has_text_after}
 use Rattle.ffv1_hold.proofs.BodyTexts.{same_body}
 use Rattle.ffv1_hold.proofs.Slots.{entries_text-none, entries_text-cons}
-use Rattle.ffv1_hold.proofs.HeldEntries.{are_entries, same_contents, version_of}
+use Rattle.ffv1_hold.proofs.HeldEntries.{all_entries, same_contents, version_of}
 
 -- ---- entries and the end tag
 
@@ -47,7 +47,7 @@ module _ (v : Version) where
 
   -- the entries of a holding whose origins the version can give have texts
   pub fitting_items : (h : Contents) → IsHolding h → IsStated v h → AreFitting v (file_entries h)
-  fitting_items h is stated = fitting_all h.reel is.reel (file_entries h) (are_entries v h is stated).each
+  fitting_items h is stated = fitting_all h.reel is.reel (file_entries h) (all_entries v h is stated)
 
 -- ---- the head
 
@@ -90,7 +90,7 @@ pub record IsShortReel (r : Reel) : Type 0 where
   pub fits : length r.config ≤ record_limit
 
 pub short_reel : {q : Recordings} (r : Reel) → IsFileReel q r → IsShortReel r
-short_reel r is = record { reel = record_reel_is r is.reel; fits = is.fits }
+short_reel r is = record { reel = is.reel; fits = is.fits }
 
 -- two heads that begin the same bytes are of one reel, and the same follows them
 pub one_reel : (v w : Version) (r s : Reel) (x y : List ℕ) → IsShortReel r → IsShortReel s → head_text v r ++ x ≡ head_text w s ++ y → (r ≡ s) × (x ≡ y)
@@ -138,4 +138,4 @@ one_file v w g h g_is h_is g_fits h_fits g_stated h_stated e =
 
 pub one_text : (g h : Contents) (text : List ℕ) → IsHolding g → IsHolding h → length g.reel.config ≤ record_limit → length h.reel.config ≤ record_limit
     → IsTextOf text g → IsTextOf text h → g ≡ h
-one_text g h text g_is h_is g_fits h_fits (v, g_stated, e) (w, h_stated, f) = one_file v w g h g_is h_is g_fits h_fits g_stated h_stated (sym e ∙ f)
+one_text g h text g_is h_is g_fits h_fits (v, g_stated, g_tells, e) (w, h_stated, h_tells, f) = one_file v w g h g_is h_is g_fits h_fits g_stated h_stated (sym e ∙ f)

@@ -1,5 +1,13 @@
--- The text of the entries of two slices of tile 0 (samples 1 and 0 of a tile of one sample), in both versions, and of a digest.
-use Rattle.ffv1_hold.proofs.Common.{◌≡◌, ℕ, List, [], ◌∷◌, ◌++◌, refl, First, Second, FileEntry, magic, be2, be4, slice_text, origins_text, body_text, entries_text, true, false}
+-- The text of the entries of two slices of tile 0 (samples 1 and 0 of a tile of one sample), in both versions, and of a digest; and which first
+-- slices tell a file of any frames.
+use Rattle.ffv1_hold.proofs.Common.{◌≡◌, ℕ, List, [], ◌∷◌, ◌++◌, refl, First, Second, FileEntry, magic, be2, be4, slice_text, origins_text, body_text, entries_text, true, false, true≢false, sym, subst, arith, Reel, IsOfAnyFrames, IsNoKeyframe, TellsMagic}
+use Rattle.ffv1_range.specs.Setup.{SetupValue}
+use Rattle.ffv1_range.specs.Coding.{bit_at, start_of}
+use Rattle.ffv1_range.specs.Frames.{by_frames, HasKey}
+use Rattle.ffv1_range.specs.declared.frames.Frames.TheVariants.{Any}
+use Rattle.ffv1_range.specs.TileHeaders.{profile_rules}
+use Rattle.ffv1_range.proofs.KeyLaws.{one_key}
+use Rattle.ffv1_slice.specs.Slices.{content_of}
 
 abbrev zero_sample : List ℕ
 zero_sample = 253 ∷ 246 ∷ 128 ∷ 0 ∷ 0 ∷ 3 ∷ 0 ∷ 28 ∷ 62 ∷ 160 ∷ 155 ∷ []
@@ -35,3 +43,36 @@ second_magic = refl
 
 any_magic : magic false Second ≡ 70 ∷ 70 ∷ 86 ∷ 49 ∷ 65 ∷ 78 ∷ 89 ∷ 1 ∷ []
 any_magic = refl
+
+-- ---- files of any frames
+
+-- the same sample's slice, where its keyframe bit is 0: its range coding begins below the half of the range
+abbrev between_sample : List ℕ
+between_sample = 125 ∷ 246 ∷ 128 ∷ 0 ∷ 0 ∷ 3 ∷ 0 ∷ 28 ∷ 62 ∷ 160 ∷ 155 ∷ []
+
+between_key : (s : SetupValue) → IsNoKeyframe (by_frames Any (profile_rules s)) between_sample
+unfolding bit_at start_of
+between_key s = record { before = _; starts = refl; after = _; coded = refl }
+
+keyframe_key : (s : SetupValue) → HasKey (by_frames Any (profile_rules s)) (content_of one_sample) true
+unfolding bit_at start_of
+keyframe_key s = record { before = _; starts = refl; after = _; coded = refl }
+
+module _ (r : Reel) (s : SetupValue) (is : r.rules ≡ by_frames Any (profile_rules s)) (any : IsOfAnyFrames r) where
+  -- the first slice has the bit 0
+  between_row : TellsMagic r (((0, between_sample), []) ∷ ((0, one_sample), []) ∷ [])
+  between_row _ = (refl, subst (λ rules. IsNoKeyframe rules between_sample) (sym is) (between_key s))
+
+  -- it has the bit 1
+  keyframe_row : TellsMagic r (((0, one_sample), []) ∷ []) → ⊥
+  keyframe_row tells =
+      true≢false (one_key (by_frames Any (profile_rules s)) (content_of one_sample) true false (keyframe_key s)
+      (subst (λ rules. IsNoKeyframe rules one_sample) is (tells any).1))
+
+  -- it is of another tile
+  other_tile_row : TellsMagic r (((1, between_sample), []) ∷ []) → ⊥
+  other_tile_row tells = let tile = (tells any).0 in omega arith
+
+  -- there is none
+  no_entry_row : TellsMagic r [] → ⊥
+  no_entry_row none = none any

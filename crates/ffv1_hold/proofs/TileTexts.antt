@@ -1,5 +1,5 @@
 -- The entries of one tile, and of the tiles below a number, with their digests, and their text.
-use Rattle.ffv1_hold.proofs.Common.{◌≡◌, ℕ, true, zero, suc, ◌+◌, ◌-◌, ◌*◌, ◌<◌, ◌≤◌, List, [], ◌∷◌, ◌++◌, length, map, take, drop, get_or, refl, sym, ap, ◌∙◌, arith, append_assoc, append-nil, length-append, take-append-drop, true≢false, list_any, eq_by_cmp, record_limit, file_limit, or_cases, get_or_default, get_or-map, length-map, map-append, take_more, Entry, entry_cmp, bytes_total, tile_slices, Contents, IsHolding, AreDigests, digests_of, Second, FileEntry, slice_text, origins_text, entry_text, head_text, entries_text, begun_text, file_entries, holding_text, IsStated, FitsInFile, digests_union, tile_file_entries, file_entries_below, entries_length, size-items, contains_item, contains-tile_slices, flat_map-range_more}
+use Rattle.ffv1_hold.proofs.Common.{◌≡◌, ℕ, true, zero, suc, ◌+◌, ◌-◌, ◌*◌, ◌<◌, ◌≤◌, List, [], ◌∷◌, ◌++◌, length, map, take, drop, get_or, refl, sym, ap, ◌∙◌, arith, append_assoc, append-nil, length-append, take-append-drop, true≢false, list_any, eq_by_cmp, record_limit, file_limit, or_cases, get_or_default, get_or-map, length-map, map-append, take_more, Entry, entry_cmp, bytes_total, tile_slices, Contents, IsHolding, AreDigests, digests_of, Second, FileEntry, slice_text, origins_text, entry_text, head_text, entries_text, begun_text, file_entries, holding_text, IsStated, TellsMagic, FitsInFile, digests_union, tile_file_entries, file_entries_below, entries_length, size-items, contains_item, contains-tile_slices, flat_map-range_more}
 use Rattle.ffv1_holding.specs.Sets as set
 use Rattle.ffv1_hold.proofs.DigestUnions.{union-alone}
 use Rattle.ffv1_hold.proofs.Entries.{entry_text-of}
@@ -120,5 +120,11 @@ stated_begun h is fits q there =
     let within = own_within h q items (sym (set.contains-items h.slices q) ∙ there) in
     omega (arith, within, fits, length-append (head_text Second h.reel) (entries_text Second (map (own h) items)), length-entries_text h is items)
 
-pub fits_within : (h : Contents) → IsHolding h → (length h.reel.config ≤ record_limit) × (length (holding_text h) ≤ file_limit) → FitsInFile Second h
-fits_within h is fits = grind (arith, stated, stated_begun, length-append)
+pub fits_within : (h : Contents) → IsHolding h → TellsMagic h.reel (file_entries h) → (length h.reel.config ≤ record_limit) × (length (holding_text h) ≤ file_limit)
+    → FitsInFile Second h
+fits_within h is tells fits = record {
+  stated = stated_begun h is (omega (arith, fits.1, length-append (begun_text Second h) (0 ∷ [])));
+  tells = tells;
+  record' = fits.0;
+  text = fits.1;
+}

@@ -1,5 +1,5 @@
 -- Entries as they follow each other in a holding file.
-use Rattle.std.specs.Prelude.{◌≡◌, ℕ, ◌≤◌, ◌<◌, ◌^◌, List, [], ◌∷◌, length, Option, Some, None}
+use Rattle.std.specs.Prelude.{◌≡◌, ℕ, ◌≤◌, ◌<◌, ◌^◌, ◌⊎◌, List, [], ◌∷◌, length, Option, Some, None}
 use Rattle.std.specs.List.{AllByRecursion}
 use Rattle.std.specs.declared.cmp.Ordering.{Ordering}
 use Rattle.std.specs.declared.cmp.Ordering.TheVariants.{Less}
@@ -8,9 +8,10 @@ use Rattle.ffv1_range.specs.TileHeaders.{TileRules}
 use Rattle.ffv1_holding.specs.SliceOrder.{Entry, entry_cmp, bytes_cmp}
 use Rattle.ffv1_holding.specs.Rising.{IsRising}
 use Rattle.ffv1_holding.specs.Contents.{IsEntryOf, AreDigests}
+use Rattle.ffv1_holding.specs.Reels.{Reel}
 use Rattle.ffv1_hold.specs.declared.version.Version.{Version}
 use Rattle.ffv1_hold.specs.declared.version.Version.TheVariants.{First, Second}
-use Rattle.ffv1_hold.specs.HoldingText.{FileEntry, origins_limit, HasFileVersion}
+use Rattle.ffv1_hold.specs.HoldingText.{FileEntry, origins_limit, HasFileVersion, IsOfAnyFrames, CanBeFirst, TellsMagic}
 
 -- the last item, if there is one
 abbrev pub last_of : {A : Type 0} → List A → Option A
@@ -22,6 +23,12 @@ last_of (x ∷ y ∷ ys) = last_of (y ∷ ys)
 abbrev pub Follows : Option FileEntry → Entry → Type 0
 Follows None e = Unit {0}
 Follows (Some last) e = entry_cmp last.0 e ≡ Less
+
+-- What comes after the last entry, a slice or the end, keeps the magic right: where no entry stands before, a slice has to tell it.
+abbrev pub KeepsMagic : Reel → Option FileEntry → Option Entry → Type 0
+KeepsMagic r (Some last) next = Unit {0}
+KeepsMagic r None (Some e) = CanBeFirst r e
+KeepsMagic r None None = ¬ IsOfAnyFrames r
 
 -- a digest stands after the last one, if there is one
 abbrev pub FollowsDigest : Option (List ℕ) → List ℕ → Type 0
@@ -50,11 +57,12 @@ pub record IsFileEntryOf (v : Version) (rules : TileRules) (e : FileEntry) : Typ
 abbrev pub file_entry_cmp : FileEntry → FileEntry → Ordering
 file_entry_cmp a b = entry_cmp a.0 b.0
 
--- slices of their tiles, in rising order of tile and bytes, in a version that the recording's files have
-pub record AreEntries (v : Version) (rules : TileRules) (es : List FileEntry) : Type 0 where
-  pub version : HasFileVersion v rules.is_profile
-  pub each : AllByRecursion (IsFileEntryOf v rules) es
+-- slices of their tiles, in rising order of tile and bytes, in a version that the recording's files have, the first of which tells the magic
+pub record AreEntries (v : Version) (r : Reel) (es : List FileEntry) : Type 0 where
+  pub version : HasFileVersion v r.rules.is_profile
+  pub each : AllByRecursion (IsFileEntryOf v r.rules) es
   pub rising : IsRising file_entry_cmp es
+  pub first : (es ≡ []) ⊎ TellsMagic r es
 
 -- what has a text after a slice, in whatever order
 abbrev pub HasTextAfter : Version → List (List ℕ) → Type 0

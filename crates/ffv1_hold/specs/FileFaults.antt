@@ -1,27 +1,25 @@
 -- Which bytes begin a holding file, and which show a fault in it. Judged are, in byte order: the magic, which gives the version, and
--- whether the recording is of the profile; the record's length; the setup, after the record, and then whether the magic is right; each tag;
--- each slice's length; after a slice's bytes whether they are a slice of its tile, and then whether it stands in order; and in version 2
--- the count of its digests, and each digest, whether it stands in order.
-use Rattle.std.specs.Prelude.{ℕ, Bool, true, false, ◌≡◌, ◌==◌, ◌+◌, ◌^◌, ◌<◌, ◌≤◌, ◌⊎◌, List, [], ◌∷◌, ◌++◌, length, take, Option, Some, Result, Ok, Err}
+-- whether the slices are of the profile; the record's length; the setup, after the record; each tag; each slice's length; after a slice's
+-- bytes whether they are a slice of its tile, whether it stands in order, and then, at the first, whether the magic is right, as at an end tag
+-- before any; and in version 2 the count of its digests, and each digest, whether it stands in order.
+use Rattle.std.specs.Prelude.{ℕ, Bool, true, false, ◌≡◌, ◌==◌, ◌+◌, ◌^◌, ◌<◌, ◌≤◌, ◌⊎◌, List, [], ◌∷◌, ◌++◌, length, take, Option, Some, None, Result, Ok, Err}
 use Rattle.std.specs.List.{flat_map}
 use Rattle.std.specs.Io.KnownBytes.{IsAtEnd}
 use Rattle.ffv1_bits.specs.Limits.{slice_limit, record_limit, file_limit}
 use Rattle.ffv1_devices.specs.Logs.{ReadLog, GoesOn}
-use Rattle.ffv1_range.specs.Setup.{RecordingValue}
-use Rattle.ffv1_range.specs.TileHeaders.{TileRules, is_in_profile}
 use Rattle.ffv1_slice.specs.Slices.{IsSliceOf}
 use Rattle.ffv1_hold.specs.declared.file_fault.HoldFileFault.{HoldFileFault}
 use Rattle.ffv1_hold.specs.declared.file_fault.HoldFileFault.TheVariants as faults
 use Rattle.ffv1_hold.specs.declared.version.Version.{Version}
 use Rattle.ffv1_hold.specs.declared.version.Version.TheVariants.{First, Second}
 use Rattle.ffv1_holding.specs.SliceOrder.{Entry}
-use Rattle.ffv1_holding.specs.Reels.{Reel, IsRecordReel, IsRecordingFor, FirstRecordFault, WantsMemory}
+use Rattle.ffv1_holding.specs.Reels.{Reel, IsReel, FirstRecordFault, WantsMemory}
 use Rattle.ffv1_holding.specs.declared.recordings.Recordings.{Recordings}
 use Rattle.ffv1_holding.specs.declared.recordings.Recordings.TheVariants.{Profile, Any}
 use Rattle.ffv1_holding.specs.Contents.{Contents, IsHolding, IsEntryOf}
 use Rattle.ffv1_hold.specs.HoldingText.{TakesFile, FileEntry, HasFileVersion, origins_limit, magic, be2, be4, sized_record, head_text, slice_text, entries_text, IsTextOf}
 use Rattle.ffv1_hold.specs.Reading.{Refuses, StopsAt}
-use Rattle.ffv1_hold.specs.FileEntries.{last_of, Follows, FollowsDigest, IsDigest, AreOrigins, AreEntries}
+use Rattle.ffv1_hold.specs.FileEntries.{last_of, Follows, KeepsMagic, FollowsDigest, IsDigest, AreOrigins, AreEntries}
 
 -- a beginning of one: some of its tile and its length, or both and some of its bytes
 abbrev pub IsPartOfSlice : List ℕ → Type 0
@@ -32,15 +30,16 @@ abbrev pub SliceIsTooLong : HoldFileFault → List ℕ → Type 0
 SliceIsTooLong faults.TooLong s = (tile n : ℕ) × (s ≡ be2 tile ++ be4 n) × (slice_limit < n) × (n < 2 ^ 32)
 SliceIsTooLong _ s = ⊥
 
--- an entry after the last one is no slice of its tile, or it is one in the wrong place
-abbrev pub IsWrong : TileRules → Option FileEntry → Entry → HoldFileFault → Type 0
-IsWrong rules last e faults.NotASlice = ¬ IsSliceOf rules e.1 (e.0 == 0) e.0
-IsWrong rules last e faults.Order = IsSliceOf rules e.1 (e.0 == 0) e.0 × (¬ Follows last e)
-IsWrong rules last e _ = ⊥
+-- an entry after the last one is no slice of its tile, or it is one in the wrong place, or one that shows that the magic is wrong
+abbrev pub IsWrong : Reel → Option FileEntry → Entry → HoldFileFault → Type 0
+IsWrong r last e faults.NotASlice = ¬ IsSliceOf r.rules e.1 (e.0 == 0) e.0
+IsWrong r last e faults.Order = IsSliceOf r.rules e.1 (e.0 == 0) e.0 × (¬ Follows last e)
+IsWrong r last e faults.Magic = IsSliceOf r.rules e.1 (e.0 == 0) e.0 × Follows last e × (¬ KeepsMagic r last (Some e))
+IsWrong r last e _ = ⊥
 
-abbrev pub SliceShows : TileRules → Option FileEntry → HoldFileFault → List ℕ → Type 0
-SliceShows rules last faults.TooLong s = SliceIsTooLong faults.TooLong s
-SliceShows rules last f s = (e : Entry) × (s ≡ slice_text e) × (e.0 < 2 ^ 16) × (length e.1 ≤ slice_limit) × IsWrong rules last e f
+abbrev pub SliceShows : Reel → Option FileEntry → HoldFileFault → List ℕ → Type 0
+SliceShows r last faults.TooLong s = SliceIsTooLong faults.TooLong s
+SliceShows r last f s = (e : Entry) × (s ≡ slice_text e) × (e.0 < 2 ^ 16) × (length e.1 ≤ slice_limit) × IsWrong r last e f
 
 -- ---- the digests after a slice
 
@@ -68,46 +67,50 @@ ShowsAfter Second f s = OriginsShow f s
 -- ---- an entry after its tag
 
 -- a slice of its tile, in its place
-abbrev pub IsEntryInPlace : TileRules → Option FileEntry → Entry → Type 0
-IsEntryInPlace rules last e = IsEntryOf rules e × Follows last e × (e.0 < 2 ^ 16)
+abbrev pub IsEntryInPlace : Reel → Option FileEntry → Entry → Type 0
+IsEntryInPlace r last e = IsEntryOf r.rules e × Follows last e × (e.0 < 2 ^ 16) × KeepsMagic r last (Some e)
 
 -- a beginning of its slice, or the slice, which is right, and a beginning of what stands after it
-abbrev pub IsPartOfBody : Version → TileRules → Option FileEntry → List ℕ → Type 0
-IsPartOfBody v rules last s = IsPartOfSlice s
-    ⊎ ((e : Entry) × (part : List ℕ) × (s ≡ slice_text e ++ part) × IsEntryInPlace rules last e × IsPartAfter v part)
+abbrev pub IsPartOfBody : Version → Reel → Option FileEntry → List ℕ → Type 0
+IsPartOfBody v r last s = IsPartOfSlice s
+    ⊎ ((e : Entry) × (part : List ℕ) × (s ≡ slice_text e ++ part) × IsEntryInPlace r last e × IsPartAfter v part)
 
-abbrev pub BodyShows : Version → TileRules → Option FileEntry → HoldFileFault → List ℕ → Type 0
-BodyShows v rules last f s = SliceShows rules last f s
-    ⊎ ((e : Entry) × (seen : List ℕ) × (s ≡ slice_text e ++ seen) × IsEntryInPlace rules last e × ShowsAfter v f seen)
+abbrev pub BodyShows : Version → Reel → Option FileEntry → HoldFileFault → List ℕ → Type 0
+BodyShows v r last f s = SliceShows r last f s
+    ⊎ ((e : Entry) × (seen : List ℕ) × (s ≡ slice_text e ++ seen) × IsEntryInPlace r last e × ShowsAfter v f seen)
 
 -- ---- entries in rising order
 
-abbrev pub IsPartOfEntry : Version → TileRules → Option FileEntry → List ℕ → Type 0
-IsPartOfEntry v rules last s = (s ≡ []) ⊎ ((body : List ℕ) × (s ≡ 1 ∷ body) × IsPartOfBody v rules last body)
+abbrev pub IsPartOfEntry : Version → Reel → Option FileEntry → List ℕ → Type 0
+IsPartOfEntry v r last s = (s ≡ []) ⊎ ((body : List ℕ) × (s ≡ 1 ∷ body) × IsPartOfBody v r last body)
 
-abbrev pub EntryShows : Version → TileRules → Option FileEntry → HoldFileFault → List ℕ → Type 0
-EntryShows v rules last faults.Tag s = (tag : ℕ) × (s ≡ tag ∷ []) × (1 < tag)
-EntryShows v rules last f s = (body : List ℕ) × (s ≡ 1 ∷ body) × BodyShows v rules last f body
+-- the end tag stands where only an entry could tell the magic
+abbrev pub EndShows : Reel → Option FileEntry → HoldFileFault → List ℕ → Type 0
+EndShows r last faults.Magic s = (s ≡ 0 ∷ []) × (¬ KeepsMagic r last None)
+EndShows r last _ s = ⊥
+
+abbrev pub EntryShows : Version → Reel → Option FileEntry → HoldFileFault → List ℕ → Type 0
+EntryShows v r last faults.Tag s = (tag : ℕ) × (s ≡ tag ∷ []) × (1 < tag)
+EntryShows v r last f s = EndShows r last f s ⊎ ((body : List ℕ) × (s ≡ 1 ∷ body) × BodyShows v r last f body)
 
 -- entries, and a beginning of the next, or of the end
-abbrev pub IsPartOfEntries : Version → TileRules → List ℕ → Type 0
-IsPartOfEntries v rules s = (es : List FileEntry) × (part : List ℕ) × AreEntries v rules es × (s ≡ entries_text v es ++ part)
-    × IsPartOfEntry v rules (last_of es) part
+abbrev pub IsPartOfEntries : Version → Reel → List ℕ → Type 0
+IsPartOfEntries v r s = (es : List FileEntry) × (part : List ℕ) × AreEntries v r es × (s ≡ entries_text v es ++ part)
+    × IsPartOfEntry v r (last_of es) part
 
-abbrev pub EntriesShow : Version → TileRules → HoldFileFault → List ℕ → Type 0
-EntriesShow v rules f s = (es : List FileEntry) × (seen : List ℕ) × AreEntries v rules es × (s ≡ entries_text v es ++ seen)
-    × EntryShows v rules (last_of es) f seen
+abbrev pub EntriesShow : Version → Reel → HoldFileFault → List ℕ → Type 0
+EntriesShow v r f s = (es : List FileEntry) × (seen : List ℕ) × AreEntries v r es × (s ≡ entries_text v es ++ seen)
+    × EntryShows v r (last_of es) f seen
 
 -- ---- the size and the record
 
--- the files that are read: those of recordings of the profile, or of any
+-- the files that are read: those whose slices are of the profile, or any
 abbrev pub MayRead : Recordings → Bool → Type 0
 MayRead Profile of_profile = of_profile ≡ true
 MayRead Any of_profile = Unit {0}
 
--- .. and in them those of their records' own rules
 abbrev pub MayTake : Recordings → Reel → Type 0
-MayTake recordings r = MayRead recordings r.rules.is_profile × IsRecordReel r
+MayTake recordings r = MayRead recordings r.rules.is_profile
 
 -- as which recordings the record after a magic is read
 abbrev pub recordings_of : Bool → Recordings
@@ -116,7 +119,7 @@ recordings_of false = Any
 
 -- the record is one at the reel's size, of those that are read, and within its limit
 pub record IsFileReel (recordings : Recordings) (r : Reel) : Type 0 where
-  pub reel : IsRecordReel r
+  pub reel : IsReel r
   pub taken : MayRead recordings r.rules.is_profile
   pub fits : length r.config ≤ record_limit
 
@@ -124,20 +127,11 @@ pub record IsFileReel (recordings : Recordings) (r : Reel) : Type 0 where
 abbrev pub IsPartOfReel : List ℕ → Type 0
 IsPartOfReel s = (length s < 12) ⊎ ((w h n : ℕ) × (config : List ℕ) × (s ≡ be4 w ++ be4 h ++ be4 n ++ config) × (n ≤ record_limit) × (length config < n))
 
--- a record of the profile after the magic of other recordings
-abbrev pub IsMisnamed : Bool → List ℕ → ℕ → ℕ → Type 0
-IsMisnamed true config width height = ⊥
-IsMisnamed false config width height =
-    (recording : RecordingValue) × IsRecordingFor Any config width height recording × (is_in_profile recording ≡ true)
-
 abbrev pub ReelShows : Bool → HoldFileFault → List ℕ → Type 0
 ReelShows of_profile faults.TooLong s = (w h n : ℕ) × (s ≡ be4 w ++ be4 h ++ be4 n) × (record_limit < n) × (n < 2 ^ 32)
 ReelShows of_profile (faults.Setup f) s =
     (config : List ℕ) × (w h : ℕ) × (s ≡ sized_record config w h) × (length config ≤ record_limit) × (w < 2 ^ 32) × (h < 2 ^ 32)
     × FirstRecordFault (recordings_of of_profile) config w h f
-ReelShows of_profile faults.Magic s =
-    (config : List ℕ) × (w h : ℕ) × (s ≡ sized_record config w h) × (length config ≤ record_limit) × (w < 2 ^ 32) × (h < 2 ^ 32)
-    × IsMisnamed of_profile config w h
 ReelShows of_profile _ s = ⊥
 
 -- the size and the record are whole, after which memory for the setup is wanted
@@ -174,13 +168,13 @@ MagicShows recordings _ s = ⊥
 abbrev pub IsPartOfFile : Recordings → List ℕ → Type 0
 IsPartOfFile recordings s = IsPartOfMagic recordings s
     ⊎ ((of_profile : Bool) × (v : Version) × (part : List ℕ) × IsMagic recordings of_profile v × (s ≡ magic of_profile v ++ part) × IsPartOfReel part)
-    ⊎ ((v : Version) × (r : Reel) × (part : List ℕ) × IsFileReel recordings r × (s ≡ head_text v r ++ part) × IsPartOfEntries v r.rules part)
+    ⊎ ((v : Version) × (r : Reel) × (part : List ℕ) × IsFileReel recordings r × (s ≡ head_text v r ++ part) × IsPartOfEntries v r part)
 
 -- the beginning of a file whose last byte shows the fault
 abbrev pub FileShows : Recordings → HoldFileFault → List ℕ → Type 0
 FileShows recordings f s = MagicShows recordings f s
     ⊎ ((of_profile : Bool) × (v : Version) × (seen : List ℕ) × IsMagic recordings of_profile v × (s ≡ magic of_profile v ++ seen) × ReelShows of_profile f seen)
-    ⊎ ((v : Version) × (r : Reel) × (seen : List ℕ) × IsFileReel recordings r × (s ≡ head_text v r ++ seen) × EntriesShow v r.rules f seen)
+    ⊎ ((v : Version) × (r : Reel) × (seen : List ℕ) × IsFileReel recordings r × (s ≡ head_text v r ++ seen) × EntriesShow v r f seen)
 
 -- a text of a holding whose reel is one of a file
 abbrev pub IsHoldingText : Recordings → List ℕ → Type 0

@@ -1,13 +1,16 @@
 -- The texts of a holding (own): holding files of version 1, which give its slices, and of version 2, which give their origins too. Those of
--- recordings out of the profile have a name of their own, and no version 1.
-use Rattle.std.specs.Prelude.{ℕ, ◌≡◌, ◌≤◌, Bool, true, List, [], ◌∷◌, ◌++◌, length, map, Option, if◌then◌else◌}
+-- recordings out of the profile, or of any frames, have a name of their own, and no version 1.
+use Rattle.std.specs.Prelude.{ℕ, ◌≡◌, ◌≤◌, Bool, true, false, List, [], ◌∷◌, ◌++◌, length, map, Option, if◌then◌else◌}
 use Rattle.std.specs.List.{flat_map}
 use Rattle.std.specs.Io.KnownBytes.{Consumes}
 use Rattle.std.specs.Int.{w16, w32, to_be_bytes}
 use Rattle.ffv1_bits.specs.Limits.{record_limit, file_limit}
+use Rattle.ffv1_range.specs.TileHeaders.{TileRules}
+use Rattle.ffv1_range.specs.Frames.{HasKey}
+use Rattle.ffv1_slice.specs.Slices.{content_of}
 use Rattle.ffv1_holding.specs.SliceOrder.{Entry}
 use Rattle.ffv1_holding.specs.Sets as set
-use Rattle.ffv1_holding.specs.Reels.{Reel}
+use Rattle.ffv1_holding.specs.Reels.{Reel, IsOwnReel}
 use Rattle.ffv1_holding.specs.Contents.{Contents, digests_of}
 use Rattle.ffv1_hold.specs.declared.origins.TheConstants.{ORIGINS_LIMIT}
 use Rattle.ffv1_hold.specs.declared.version.Version.{Version}
@@ -32,7 +35,7 @@ abbrev pub version_number : Version → ℕ
 version_number First = 1
 version_number Second = 2
 
--- What files begin with, by whether their recordings are of the profile: FFV1HLD and the version; or FFV1ANY and 1, where the version is 2.
+-- What files begin with, by whether their slices are of the profile: FFV1HLD and the version; or FFV1ANY and 1, where the version is 2.
 abbrev pub magic : Bool → Version → List ℕ
 magic of_profile v = 70 ∷ 70 ∷ 86 ∷ 49 ∷ (if of_profile then 72 else 65) ∷ (if of_profile then 76 else 78) ∷ (if of_profile then 68 else 89)
     ∷ (if of_profile then version_number v else 1) ∷ []
@@ -94,13 +97,36 @@ abbrev pub IsStated : Version → Contents → Type 0
 IsStated First h = (h.origins ≡ set.empty) × HasFileVersion First h.reel.rules.is_profile
 IsStated Second h = (e : Entry) → set.contains h.slices e ≡ true → length (digests_of h e) ≤ origins_limit
 
+-- ---- the frames, which the first entry tells
+
+-- slices of any frames, by a record of the profile
+abbrev pub IsOfAnyFrames : Reel → Type 0
+IsOfAnyFrames r = (r.rules.is_profile ≡ false) × ((own : Reel) × IsOwnReel own r × (own.rules.is_profile ≡ true))
+
+-- the first slice of a frame that is no keyframe: its keyframe bit is 0 (RFC 9043, section 4.4)
+abbrev pub IsNoKeyframe : TileRules → List ℕ → Type 0
+IsNoKeyframe rules slice = HasKey rules (content_of slice) false
+
+-- A file of any frames of such a record has one of these first, which is of tile 0: else it is written as one of keyframes.
+abbrev pub CanBeFirst : Reel → Entry → Type 0
+CanBeFirst r e = IsOfAnyFrames r → (e.0 ≡ 0) × IsNoKeyframe r.rules e.1
+
+-- the entries of a whole file tell that its magic is right
+abbrev pub TellsMagic : Reel → List FileEntry → Type 0
+TellsMagic r [] = ¬ IsOfAnyFrames r
+TellsMagic r (e ∷ es) = CanBeFirst r e.0
+
+-- ---- texts that are files
+
 -- a text of a holding: that of version 2, or, where it is of the profile and has no origins, that of version 1
 abbrev pub IsTextOf : List ℕ → Contents → Type 0
-IsTextOf text h = (v : Version) × IsStated v h × (text ≡ file_text v h)
+IsTextOf text h = (v : Version) × IsStated v h × TellsMagic h.reel (file_entries h) × (text ≡ file_text v h)
 
--- A holding has a file of a version where that can give its origins, and its text and its record are within their limits.
+-- A holding has a file of a version where that can give its origins, its first slice tells its magic, and its text and its record are within
+-- their limits.
 pub record FitsInFile (v : Version) (h : Contents) : Type 0 where
   pub stated : IsStated v h
+  pub tells : TellsMagic h.reel (file_entries h)
   pub record' : length h.reel.config ≤ record_limit
   pub text : length (file_text v h) ≤ file_limit
 

@@ -1,15 +1,16 @@
 -- What joining two holding files as streams comes to (own).
-use Rattle.std.specs.Prelude.{◌≡◌, ◌≢◌, Option, Result, OnOk, IfErr, IsErrOf}
+use Rattle.std.specs.Prelude.{◌≢◌, Option, Result, OnOk, IfErr, IsErrOf}
 use Rattle.ffv1_bits.specs.Limits.{file_limit}
 use Rattle.ffv1_devices.specs.Logs.{ReadLog, WriteLog}
 use Rattle.ffv1_holding.specs.Reels.{Reel}
-use Rattle.ffv1_holding.specs.Contents.{Contents, IsSameReel, joined}
+use Rattle.ffv1_holding.specs.Contents.{Contents}
 use Rattle.ffv1_holding.specs.declared.recordings.Recordings.{Recordings}
 use Rattle.ffv1_hold.specs.declared.file_fault.HoldFileFault.{HoldFileFault}
 use Rattle.ffv1_hold.specs.declared.file_fault.HoldFileFault.TheVariants as faults
 use Rattle.ffv1_hold.specs.declared.version.Version.{Version}
 use Rattle.ffv1_hold.specs.FileFaults.{MayTake}
 use Rattle.ffv1_hold.specs.MergedStreams.{Inputs, inputs_read, IsFileOf, IsFileOfSome, WritesUnion, ReturnsUnion, BeginsWithHead, ReturnsOther, MergeRefuses, LeftRefusesFirst, WritesNoEnd, WritesFrontSoFar, WritesAtMost, StaysInReadLimit}
+use Rattle.ffv1_hold.specs.UnitedHoldings.{AreOfOneRecord, united}
 use Rattle.ffv1_hold.specs.MergeLogs.{Devices, MergeWent}
 
 -- the devices by their logs
@@ -22,13 +23,13 @@ inputs_of recordings old new = inputs_read recordings old.left new.left old.righ
 
 -- By the files of these recordings, where the result is so, and the devices were and are so:
 pub record JoinsStreams (recordings : Recordings) (result : Result (Unit {0}) HoldFileFault) (old new : Devices) : Type 0 where
-  -- Both inputs are files of holdings of one reel, and the text of their union was written.
+  -- Both inputs are files of holdings of one record and size, and the text of their union was written.
   pub union : OnOk result (WritesUnion (inputs_of recordings old new) old.sink.contents new.sink.contents)
   -- For such inputs the result is that, `Read`, `Write` or `Memory`, or `TooLong` where the union has no text.
-  pub only : (v w : Version) (g h : Contents) → IsSameReel g h → MayTake recordings g.reel → IsFileOf old.left.remaining v g
-      → IsFileOf old.right.remaining w h → ReturnsUnion (joined g h) result
-  -- For inputs that begin with heads of two reels the result is `OtherReel`, `Read` or `Memory`.
-  pub other : (g h : Reel) → BeginsWithHead recordings old.left.remaining g → BeginsWithHead recordings old.right.remaining h → ¬ (g ≡ h)
+  pub only : (v w : Version) (g h : Contents) → AreOfOneRecord g.reel h.reel → MayTake recordings g.reel → MayTake recordings h.reel
+      → IsFileOf old.left.remaining v g → IsFileOf old.right.remaining w h → ReturnsUnion (united g h) result
+  -- For inputs that begin with heads of two records or sizes the result is `OtherReel`, `Read` or `Memory`.
+  pub other : (g h : Reel) → BeginsWithHead recordings old.left.remaining g → BeginsWithHead recordings old.right.remaining h → ¬ AreOfOneRecord g h
       → ReturnsOther result
   -- The bytes that were read show the fault, and it is the first: what was taken of the other input shows none.
   pub fault : IfErr result (MergeRefuses (inputs_of recordings old new))

@@ -1,6 +1,7 @@
 pub mod HoldingText
 pub mod Reading
 pub mod Saving
+pub mod UnitedHoldings
 pub mod FileEntries
 pub mod FileFaults
 pub mod ReadLimits

@@ -5,7 +5,7 @@ use Rattle.ffv1_bits.specs.Limits.{record_limit, file_limit}
 use Rattle.ffv1_devices.specs.Logs.{ReadLog}
 use Rattle.ffv1_devices.specs.Writing.{WritesFront}
 use Rattle.ffv1_holding.specs.Reels.{Reel}
-use Rattle.ffv1_holding.specs.Contents.{Contents, IsHolding, IsSameReel, joined}
+use Rattle.ffv1_holding.specs.Contents.{Contents, IsHolding}
 use Rattle.ffv1_holding.specs.declared.recordings.Recordings.{Recordings}
 use Rattle.ffv1_hold.specs.declared.file_fault.HoldFileFault.{HoldFileFault}
 use Rattle.ffv1_hold.specs.declared.file_fault.HoldFileFault.TheVariants as faults
@@ -15,6 +15,7 @@ use Rattle.ffv1_hold.specs.HoldingText.{HasFileVersion, head_text, begun_text, f
 use Rattle.ffv1_hold.specs.Reading.{Refuses}
 use Rattle.ffv1_hold.specs.FileFaults.{MayTake, IsFileReel, IsPartOfFile, IsHoldingText, FileIsWhole, FileShows, IsOutside}
 use Rattle.ffv1_hold.specs.ReadLimits.{IsReadLimitOf}
+use Rattle.ffv1_hold.specs.UnitedHoldings.{AreOfOneRecord, united}
 
 -- which files are read, and what both inputs have left, before and after
 pub record Inputs : Type 0 where
@@ -53,29 +54,30 @@ pub record ReadsAll (old new : Option (List ℕ)) (h : Contents) : Type 0 where
   pub file : TakesFile old new h
   pub at_end : IsAtEnd new
 
--- both inputs were read to their ends, and were files of these holdings of one reel
+-- both inputs were read to their ends, and were files of these holdings of one record and size
 pub record ReadsBoth (i : Inputs) (left right : Contents) : Type 0 where
   pub left_read : ReadsAll i.left_old i.left_new left
   pub right_read : ReadsAll i.right_old i.right_new right
-  pub same : IsSameReel left right
+  pub same : AreOfOneRecord left.reel right.reel
 
 -- they were, and the text of the union was written
 pub record WritesUnion (i : Inputs) (old new : Option (List ℕ)) : Type 0 where
   pub left : Contents
   pub right : Contents
   pub read : ReadsBoth i left right
-  pub taken : MayTake i.recordings left.reel
-  pub fits : FitsInFile Second (joined left right)
-  pub written : Appends old new (holding_text (joined left right))
+  pub left_taken : MayTake i.recordings left.reel
+  pub right_taken : MayTake i.recordings right.reel
+  pub fits : FitsInFile Second (united left right)
+  pub written : Appends old new (holding_text (united left right))
 
--- what is returned for two texts of one reel whose union is this
+-- what is returned for two texts of one record and size whose union is this
 abbrev pub ReturnsUnion : Contents → Result (Unit {0}) HoldFileFault → Type 0
 ReturnsUnion union (Ok _) = Unit {0}
 ReturnsUnion union (Err f) = IsOutside f ⊎ ((f ≡ faults.Write) ⊎ ((f ≡ faults.TooLong) × (file_limit < length (holding_text union))))
 
 -- ---- heads
 
--- both heads were read, and nothing after them, and they are of two reels
+-- both heads were read, and nothing after them, and they are of two records or sizes
 pub record ReadsOtherHeads (i : Inputs) : Type 0 where
   pub left : Reel
   pub right : Reel
@@ -87,7 +89,7 @@ pub record ReadsOtherHeads (i : Inputs) : Type 0 where
   pub right_has : HasFileVersion right_version right.rules.is_profile
   pub left_taken : Consumes i.left_old i.left_new (head_text left_version left)
   pub right_taken : Consumes i.right_old i.right_new (head_text right_version right)
-  pub other : ¬ (left ≡ right)
+  pub other : ¬ AreOfOneRecord left right
 
 -- the input begins with a head of the reel, which is one of a file that is read
 pub record BeginsWithHead (recordings : Recordings) (input : Option (List ℕ)) (r : Reel) : Type 0 where
@@ -97,7 +99,7 @@ pub record BeginsWithHead (recordings : Recordings) (input : Option (List ℕ)) 
   pub rest : List ℕ
   pub split : input ≡ Some (head_text version r ++ rest)
 
--- what is returned for inputs that begin with heads of two reels
+-- what is returned for inputs that begin with heads of two records or sizes
 abbrev pub ReturnsOther : Result (Unit {0}) HoldFileFault → Type 0
 ReturnsOther (Ok _) = ⊥
 ReturnsOther (Err f) = IsOutside f ⊎ (f ≡ faults.OtherReel)
@@ -113,25 +115,25 @@ pub record ReadsPart (old new : Option (List ℕ)) (h : Contents) : Type 0 where
   pub more : List ℕ
   pub taken : Consumes old new (begun_text version h ++ more)
 
--- so far these of one reel were read of both inputs
+-- so far these of one record and size were read of both inputs
 pub record ReadsSoFar (i : Inputs) (left right : Contents) : Type 0 where
   pub left_read : ReadsPart i.left_old i.left_new left
   pub right_read : ReadsPart i.right_old i.right_new right
-  pub same : IsSameReel left right
+  pub same : AreOfOneRecord left.reel right.reel
 
 -- The head and the entries so far, each once, pass the limit.
 pub record EntriesPass (i : Inputs) : Type 0 where
   pub left : Contents
   pub right : Contents
   pub read : ReadsSoFar i left right
-  pub over : file_limit < length (begun_text Second (joined left right))
+  pub over : file_limit < length (begun_text Second (united left right))
 
--- The inputs were read as texts of one reel, and the text of their union passes the limit.
+-- The inputs were read as texts of one record and size, and the text of their union passes the limit.
 pub record UnionPasses (i : Inputs) : Type 0 where
   pub left : Contents
   pub right : Contents
   pub read : ReadsBoth i left right
-  pub over : file_limit < length (holding_text (joined left right))
+  pub over : file_limit < length (holding_text (united left right))
 
 -- ---- refusals
 
@@ -188,8 +190,8 @@ pub record WritesEntries (i : Inputs) (old new : Option (List ℕ)) : Type 0 whe
   pub right : Contents
   pub left_begins : BeginsWithPart i.left_old left
   pub right_begins : BeginsWithPart i.right_old right
-  pub same : IsSameReel left right
-  pub written : Appends old new (begun_text Second (joined left right))
+  pub same : AreOfOneRecord left.reel right.reel
+  pub written : Appends old new (begun_text Second (united left right))
 
 -- no end tag: nothing was written, or the head and whole entries
 abbrev pub WritesNoEnd : Inputs → Option (List ℕ) → Option (List ℕ) → Type 0
@@ -200,7 +202,7 @@ pub record WritesFrontSoFar (i : Inputs) (old new : Option (List ℕ)) : Type 0 
   pub left : Contents
   pub right : Contents
   pub read : ReadsSoFar i left right
-  pub front : WritesFront old new (holding_text (joined left right))
+  pub front : WritesFront old new (holding_text (united left right))
 
 -- no more bytes than these were written
 pub record WritesAtMost (old new : Option (List ℕ)) (most : ℕ) : Type 0 where

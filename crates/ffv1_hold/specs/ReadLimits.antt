@@ -2,7 +2,8 @@
 -- written.
 use Rattle.std.specs.Prelude.{ℕ, ◌≡◌, ◌⊎◌, List, [], ◌∷◌, ◌++◌, length, Contains, Option, Some, None}
 use Rattle.std.specs.List.{AllByRecursion}
-use Rattle.ffv1_holding.specs.Reels.{Reel}
+use Rattle.ffv1_range.specs.declared.frames.Frames.{Frames}
+use Rattle.ffv1_holding.specs.Reels.{Reel, in_frames}
 use Rattle.ffv1_holding.specs.Contents.{Contents, digests_of, joined}
 use Rattle.ffv1_hold.specs.declared.version.Version.{Version}
 use Rattle.ffv1_hold.specs.declared.version.Version.TheVariants.{Second}
@@ -15,15 +16,17 @@ abbrev pub AreAllDigests : Contents → Option Contents → FileEntry → List (
 AreAllDigests h None e digests = AllByRecursion (Contains digests) e.1
 AreAllDigests h (Some other) e digests = digests ≡ digests_of (joined h other) e.0
 
--- The entry lies whole in the bytes: after the head of the reel and whole entries its slice stands there, with digests that are all.
+-- The entry lies whole in the bytes: after the head of the reel, in its frames or in any, and whole entries its slice stands there, with digests
+-- that are all.
 pub record LiesWhole (AreAll : FileEntry → List (List ℕ) → Type 0) (r : Reel) (bytes : List ℕ) (e : FileEntry) : Type 0 where
+  pub frames : Frames
   pub before : List FileEntry
   pub digests : List (List ℕ)
   pub rest : List ℕ
   pub entries : AllByRecursion (HasText Second) before
   pub entry : HasText Second (e.0, digests)
   pub all : AreAll e digests
-  pub split : bytes ≡ head_text Second r ++ entries_text Second before ++ entry_text Second (e.0, digests) ++ rest
+  pub split : bytes ≡ head_text Second (in_frames frames r) ++ entries_text Second before ++ entry_text Second (e.0, digests) ++ rest
 
 -- The place in a holding's text where the first of its entries that doesn't lie whole in the bytes ends.
 pub record EndsFirstOpen (v : Version) (h : Contents) (other : Option Contents) (bytes : List ℕ) (place : ℕ) : Type 0 where

@@ -1,16 +1,18 @@
 //! The entries of a holding file (own): slices with their footers (RFC 9043, section 4.9), their tiles, and their origins.
-ghost use Rattle.std.specs.Prelude.{◌≡◌, ◌^◌, ◌<◌, ◌≤◌, ◌↔◌, ◌==◌, length, IsTrue, Option, IfSome, OnOk, IfOk, IfErr};
+ghost use Rattle.std.specs.Prelude.{◌≡◌, ◌^◌, ◌<◌, ◌≤◌, ◌↔◌, ◌==◌, length, IsTrue, Option, None, Some, IfSome, IfNone, OnOk, IfOk, IfErr};
 ghost use Rattle.ffv1_bits.specs.Limits.{slice_limit, file_limit};
+ghost use Rattle.ffv1_bits.specs.Parity.{AreBytes};
 ghost use Rattle.ffv1_slice.specs.Slices.{IsSliceOf};
 ghost use Rattle.ffv1_hold.specs.Inner.Reading.{ReadsText, Never};
 ghost use Rattle.ffv1_hold.specs.HoldingText.{FileEntry, slice_text};
-ghost use Rattle.ffv1_hold.specs.FileEntries.{Follows, IsFileEntryOf};
+ghost use Rattle.ffv1_hold.specs.FileEntries.{Follows, KeepsMagic, IsFileEntryOf};
 ghost use Rattle.ffv1_hold.specs.Inner.FileEntries.{next_text};
 ghost use Rattle.ffv1_hold.specs.FileFaults.{IsPartOfSlice, SliceIsTooLong, IsWrong, IsPartOfEntry, EntryShows};
 
 use crate::blocks::read_over;
 use crate::fields::read_field;
 use crate::file_fault::HoldFileFault;
+use crate::firsts::{can_be_first, is_of_any_frames};
 use crate::number::{read_u16, read_u32};
 use crate::origins::read_after_slice;
 use crate::version::Version;
@@ -74,17 +76,24 @@ impl TileSlice {
         Ok(by_tile.then(by_bytes))
     }
 
-    /// Whether it is a slice of its tile, and then whether it follows the last one, which `follows` says.
-    fn judge(&self, reel: &Reel<Recording>, follows: bool) -> Result<(), HoldFileFault>
+    /// Whether it is a slice of its tile, then whether it follows the last one, which `follows` says, and then, where it is the `first`,
+    /// whether it can be that.
+    fn judge(&self, reel: &Reel<Recording>, follows: bool, first: bool) -> Result<(), HoldFileFault>
         ensures slice { OnOk result (IsSliceOf reel.now.rules self.now.1 (self.now.0 == 0) self.now.0) }
         ensures place { OnOk result (IsTrue follows) }
-        ensures err { (last : Option FileEntry) → (IsTrue follows ↔ Follows last self.now) → IfErr result (IsWrong reel.now.rules last self.now) }
+        ensures keeps { (last : Option FileEntry) → (IsTrue first ↔ (last ≡ None)) → OnOk result (KeepsMagic reel.now last (Some self.now)) }
+        ensures bytes { OnOk result (IsTrue first → AreBytes self.now.1) }
+        ensures err { (last : Option FileEntry) → (IsTrue follows ↔ Follows last self.now) → (IsTrue first ↔ (last ≡ None))
+            → IfErr result (IsWrong reel.now last self.now) }
     {
         if reel.read_slice(&self.bytes, self.tile == 0) != Ok(self.tile as usize) {
             return Err(HoldFileFault::NotASlice);
         }
         if !follows {
             return Err(HoldFileFault::Order);
+        }
+        if first && !can_be_first(reel, self.tile, &self.bytes) {
+            return Err(HoldFileFault::Magic);
         }
         Ok(())
     }
@@ -148,7 +157,8 @@ fn read_tile_slice<S: Source>(
     }
 }
 
-/// Reads the next entry over the last one, which it follows, or returns `None` at the end tag.
+/// Reads the next entry over the last one, which it follows, or returns `None` at the end tag. Where there is no last one, what is next
+/// keeps the magic right.
 pub(crate) fn read_entry<S: Source>(
     alloc: Global,
     source: &mut S,
@@ -158,17 +168,21 @@ pub(crate) fn read_entry<S: Source>(
     last: Option<HeldSlice>,
 ) -> Result<Option<HeldSlice>, HoldFileFault>
     requires { place.old ≤ file_limit }
-    ensures read { ReadsText (next_text version) (IsPartOfEntry version reel.now.rules last) Never (EntryShows version reel.now.rules last)
+    ensures read { ReadsText (next_text version) (IsPartOfEntry version reel.now last) Never (EntryShows version reel.now last)
         (S.log source.old) (S.log source.new) place.old place.new result }
-    ensures entry { IfOk result (λ r. IfSome r (λ e. IsFileEntryOf version reel.now.rules e × Follows last e.0)) }
+    ensures end { IfOk result (λ r. IfNone r (KeepsMagic reel.now last None)) }
+    ensures bytes { last ≡ None → IfOk result (λ r. IfSome r (λ e. AreBytes e.0.1)) }
+    ensures entry { IfOk result (λ r. IfSome r (λ e. IsFileEntryOf version reel.now.rules e × Follows last e.0 × KeepsMagic reel.now last (Some e.0))) }
 {
+    let first = last.is_none();
     let mut tag = [0u8; 1];
     read_field(source, place, &mut tag)?;
     match tag[0] {
+        0 if first && is_of_any_frames(reel) => Err(HoldFileFault::Magic),
         0 => Ok(None),
         1 => {
             let (slice, follows) = read_tile_slice(alloc, source, place, last)?;
-            slice.judge(reel, follows)?;
+            slice.judge(reel, follows, first)?;
             let origins = read_after_slice(alloc, source, place, version)?;
             Ok(Some(HeldSlice { slice, origins }))
         }

@@ -9,7 +9,8 @@ use std::alloc::{AllocError, AllocFailed};
 /// Why a holding file was not read or written.
 #[derive(Clone, Copy, Debug, PartialEq, Eq)]
 pub enum HoldFileFault {
-    /// The first eight bytes are other than `FFV1HLD` and the version 1 or 2.
+    /// The first eight bytes begin no file that is read; or they are the magic of any frames, of a record of the profile, and the first slice
+    /// does not tell so.
     Magic,
     /// The record has no setup for the size. `Memory` is never this fault's cause.
     Setup(SetupFault),

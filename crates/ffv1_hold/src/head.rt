@@ -62,7 +62,7 @@ pub(crate) fn read_reel<S: Source>(
     judge_reel(alloc, of_profile, config, width, height)
 }
 
-/// The reel of a record that was read whole after a magic, and of a size that was.
+/// The reel of a record that was read whole after a magic, and of a size that was: of any frames after that of others than the profile.
 fn judge_reel(
     alloc: Global,
     of_profile: bool,
@@ -77,8 +77,8 @@ fn judge_reel(
 {
     let recordings = recordings_of(of_profile);
     match Reel::of_record(alloc, recordings, config, width, height) {
-        Ok(reel) if !of_profile && reel.is_of_profile() => Err(HoldFileFault::Magic),
-        Ok(reel) => Ok(reel),
+        Ok(reel) if of_profile => Ok(reel),
+        Ok(reel) => Ok(reel.into_any_frames()),
         Err(SetupFault::Memory) => Err(HoldFileFault::Memory),
         Err(fault) => Err(HoldFileFault::Setup(fault)),
     }

@@ -1,10 +1,11 @@
 //! A holding file that is read entry by entry (own).
-ghost use Rattle.std.specs.Prelude.{◌≡◌, ◌≤◌, None, IfSome, IfNone, IfOk, OnOk};
+ghost use Rattle.std.specs.Prelude.{◌≡◌, ◌≤◌, None, Some, IfSome, IfNone, IfOk, OnOk};
 ghost use Rattle.std.specs.Io.KnownBytes.{IsAtEnd};
 ghost use Rattle.ffv1_bits.specs.Limits.{file_limit};
+ghost use Rattle.ffv1_bits.specs.Parity.{AreBytes};
 ghost use Rattle.ffv1_hold.specs.Inner.Reading.{ReadsText};
 ghost use Rattle.ffv1_hold.specs.HoldingText.{HasFileVersion, head_text};
-ghost use Rattle.ffv1_hold.specs.FileEntries.{Follows, IsFileEntryOf};
+ghost use Rattle.ffv1_hold.specs.FileEntries.{Follows, KeepsMagic, IsFileEntryOf};
 ghost use Rattle.ffv1_hold.specs.FileFaults.{IsFileReel};
 ghost use Rattle.ffv1_hold.specs.Inner.FileFaults.{IsPartOfHead, HeadIsWhole, HeadShows, ReadsNextEntry};
 
@@ -66,10 +67,13 @@ impl HoldReader {
         reel: &Reel<Recording>,
     ) -> Result<(), HoldFileFault>
         requires { self.old.place ≤ file_limit }
-        ensures read { ReadsNextEntry self.old.version reel.now.rules self.old.held self.new.held
+        ensures read { ReadsNextEntry self.old.version reel.now self.old.held self.new.held
             (S.log source.old) (S.log source.new) self.old.place self.new.place result }
         ensures entry { OnOk result (IfSome self.new.held (IsFileEntryOf self.old.version reel.now.rules)) }
         ensures follows { OnOk result (IfSome self.new.held (λ e. Follows self.old.held e.0)) }
+        ensures keeps { OnOk result (IfSome self.new.held (λ e. KeepsMagic reel.now self.old.held (Some e.0))) }
+        ensures end_keeps { OnOk result (IfNone self.new.held (KeepsMagic reel.now self.old.held None)) }
+        ensures bytes { self.old.held ≡ None → OnOk result (IfSome self.new.held (λ e. AreBytes e.0.1)) }
         ensures version { self.new.version ≡ self.old.version }
         ensures end { OnOk result (IfNone self.new.held (IsAtEnd (S.log source.new).remaining)) }
     {

@@ -7,6 +7,7 @@ mod blocks;
 mod entry;
 mod fields;
 mod file_fault;
+mod firsts;
 mod head;
 mod hold_reader;
 mod laws;

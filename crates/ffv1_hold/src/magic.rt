@@ -12,10 +12,10 @@ const FIRST: [u8; 8] = *b"FFV1HLD\x01";
 /// That of version 2, of a recording of the profile.
 const SECOND: [u8; 8] = *b"FFV1HLD\x02";
 
-/// That of version 2, of a recording out of the profile.
+/// That of version 2, of a recording out of the profile, or of any frames.
 const ANY: [u8; 8] = *b"FFV1ANY\x01";
 
-/// What a magic says: whether the recording is of the profile, and the version.
+/// What a magic says: whether the slices are of the profile, and the version.
 #[derive(Clone, Copy)]
 pub(crate) struct Magic {
     pub(crate) of_profile: bool,

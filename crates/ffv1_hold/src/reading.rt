@@ -4,7 +4,7 @@ ghost use Rattle.std.specs.Io.KnownBytes.{IsAtEnd};
 ghost use Rattle.ffv1_bits.specs.Limits.{file_limit};
 ghost use Rattle.ffv1_holding.specs.Contents.{Contents, IsEntryOf, IsHolding, AreDigests, no_slices, with_entry};
 ghost use Rattle.ffv1_hold.specs.declared.version.Version.{Version};
-ghost use Rattle.ffv1_hold.specs.HoldingText.{HasFileVersion, file_text, IsStated, FitsInFile};
+ghost use Rattle.ffv1_hold.specs.HoldingText.{HasFileVersion, file_text, file_entries, IsStated, TellsMagic, FitsInFile};
 ghost use Rattle.ffv1_hold.specs.FileFaults.{ReadsFile, MayTake, Returns};
 ghost use Rattle.ffv1_holding.specs.declared.recordings.Recordings.TheVariants.{Profile};
 ghost use Rattle.ffv1_hold.specs.Inner.FileFaults.{ReadsEntries};
@@ -17,7 +17,7 @@ use ffv1_holding::{Holding, Recordings};
 use ffv1_range::Recording;
 use std::alloc::Global;
 
-/// Reads a holding file of a recording of the profile, of either version, to the end of the input. One of version 1 gives no origins. It is
+/// Reads a holding file of the profile, of either version, to the end of the input. One of version 1 gives no origins. It is
 /// `read_holding` of such files.
 pub fn read_hold<R: Source>(alloc: Global, source: &mut R) -> Result<Holding, HoldFileFault>
     // The whole input is the holding's text of version 2, or, where it has no origins, that of version 1. Or the bytes that were
@@ -38,12 +38,13 @@ pub fn read_hold<R: Source>(alloc: Global, source: &mut R) -> Result<Holding, Ho
 }
 
 /// Reads a holding file of these recordings, to the end of the input: of the profile, of either version; and of any, of other recordings
-/// too, which have a magic of their own.
+/// too, and of any frames of one of the profile, which have a magic of their own.
 ///
 /// The faults are judged in byte order, those of the first eight bytes too, and at most 2^31 + 1 bytes are read. `Read` is returned only if
 /// the source counted a failure: an interrupted try is made again, and 65 in a row are a failure. Returns `Memory` if an allocation fails.
 /// Both are returned only before a fault is met; within the record, memory for its setup is wanted where `read_scoped` says.
-/// `Magic` is returned also for a record of the profile after the magic of other recordings, once the record was read.
+/// `Magic` is returned also for a record of the profile after the magic of other recordings, where the first entry is no slice of tile 0 with
+/// the keyframe bit 0: before its digests, where it is a slice and in order; or at the end tag, where there is no entry.
 pub fn read_holding<R: Source>(
     alloc: Global,
     recordings: Recordings,
@@ -94,6 +95,7 @@ fn read_entries<R: Source>(
     ensures end { OnOk result (IsAtEnd (R.log source.new).remaining) }
     ensures well_formed { OnOk result (IsHolding holding.new) }
     ensures stated { OnOk result (IsStated reader.old.version holding.new) }
+    ensures tells { OnOk result (TellsMagic holding.new.reel (file_entries holding.new)) }
     ensures reel { OnOk result (holding.new.reel ≡ holding.old.reel) }
 {
     reader.advance(alloc, source, holding.reel())?;

@@ -1,17 +1,18 @@
 //! Writing a holding file (own).
-ghost use Rattle.std.specs.Prelude.{◌≡◌, ◌<◌, ◌≤◌, ◌↔◌, ◌++◌, ◌^◌, ◌∷◌, ◌+◌, ◌*◌, [], length, slice_index_or, IfSome, IfNone, IsErrOf, IsTrue};
+ghost use Rattle.std.specs.Prelude.{◌≡◌, ◌<◌, ◌≤◌, ◌↔◌, ◌++◌, ◌^◌, ◌⊎◌, ◌∷◌, ◌+◌, ◌*◌, [], length, slice_index_or, IfSome, IfNone, IsErrOf, IsTrue};
 ghost use Rattle.ffv1_bits.specs.Limits.{slice_limit, record_limit, file_limit};
 ghost use Rattle.ffv1_holding.specs.Sets as set;
 ghost use Rattle.ffv1_devices.specs.Results.{WritesAll};
 ghost use Rattle.ffv1_holding.specs.TileSets.{tile_slices};
-ghost use Rattle.ffv1_holding.specs.Reels.{reel_tiles};
-ghost use Rattle.ffv1_hold.specs.HoldingText.{origins_limit, be2, be4, magic, head_text, slice_text, FileEntry, origins_text, entry_text, entries_text, file_entries, holding_text, IsStated, FitsInFile};
-ghost use Rattle.ffv1_holding.specs.Contents.{IsHolding, AreDigests};
+ghost use Rattle.ffv1_holding.specs.Reels.{IsReel, IsRecordReel, reel_tiles};
+ghost use Rattle.ffv1_hold.specs.HoldingText.{origins_limit, be2, be4, magic, head_text, slice_text, FileEntry, origins_text, entry_text, entries_text, file_entries, holding_text, IsStated, TellsMagic, FitsInFile};
+ghost use Rattle.ffv1_holding.specs.Contents.{IsHolding, AreOwnEntries, AreDigests};
 ghost use Rattle.ffv1_hold.specs.Inner.Saving.{AreWithinLimit, AreWritable, tile_file_entries, entries_length};
 ghost use Rattle.ffv1_hold.specs.Saving.{SavesFile};
 ghost use Rattle.ffv1_hold.specs.Inner.Merging.{digests_union};
 
 use crate::file_fault::HoldFileFault;
+use crate::firsts::tells_magic;
 use crate::magic::written_magic;
 use crate::origins::ORIGINS_LIMIT;
 use crate::union::{union_count, write_union};
@@ -20,9 +21,11 @@ use ffv1_bits::{FILE_LIMIT, RECORD_LIMIT};
 use ffv1_devices::{Sink, WriteFailed, write_field, write_pair};
 use ffv1_holding::{Framed, Holding, Reel};
 
-/// Writes the holding file of a holding, of version 2. Its magic says whether the slices are of the profile.
+/// Writes the holding file of a holding, of version 2. Its magic says whether the slices are of the profile: a holding of any frames of a
+/// record of the profile has another magic than one by the record's own rules.
 ///
-/// Returns `TooLong` exactly if the record has more than 2^24 bytes or the file would have more than 2^31, before
+/// Returns `Magic` exactly if such a holding has no slice whose keyframe bit is 0, before anything is written: `into_own_frames` then
+/// gives the holding that has a file. Else returns `TooLong` exactly if the record has more than 2^24 bytes or the file would have more than 2^31, before
 /// anything is written; more than 2^26 origins of one slice never fit. After `Write`, which is returned only if the sink counted a failure,
 /// a front of the file was written; the first failure that is no interruption is reported. No other fault is returned: nothing is
 /// allocated.
@@ -32,8 +35,17 @@ pub fn write_hold<S: Framed, W: Sink>(
 ) -> Result<(), HoldFileFault>
     ensures saved { SavesFile result holding.now (W.log sink.old) (W.log sink.new) }
     ensures well_formed { IsHolding holding.now }
-    ensures untouched { IsErrOf result HoldFileFault.TooLong → sink.new ≡ sink.old }
+    ensures untouched { (IsErrOf result HoldFileFault.TooLong ⊎ IsErrOf result HoldFileFault.Magic) → sink.new ≡ sink.old }
+
+    // `Magic` is returned exactly where the first slice does not tell that the magic is right: so neither for a holding by the record's own
+    // rules, nor for one with a slice that is none by these.
+    ensures unnamed { IsErrOf result HoldFileFault.Magic ↔ (¬ TellsMagic holding.now.reel (file_entries holding.now)) }
+    ensures own { IsRecordReel holding.now.reel → ¬ IsErrOf result HoldFileFault.Magic }
+    ensures between { ¬ AreOwnEntries holding.now → ¬ IsErrOf result HoldFileFault.Magic }
 {
+    if !tells_magic(holding) {
+        return Err(HoldFileFault::Magic);
+    }
     if !fits_in_file(holding) {
         return Err(HoldFileFault::TooLong);
     }
@@ -69,9 +81,10 @@ pub(crate) fn write_head<R: Framed, S: Sink>(
 }
 
 /// The width and the height of the frames.
-fn size_of<R: Framed>(reel: &Reel<R>) -> (u32, u32)
+pub(crate) fn size_of<R: Framed>(reel: &Reel<R>) -> (u32, u32)
     ensures width { result.0 ≡ reel.now.setup.width }
     ensures height { result.1 ≡ reel.now.setup.height }
+    ensures well_formed { IsReel reel.now }
 {
     let recording = reel.recording();
     (recording.width(), recording.height())

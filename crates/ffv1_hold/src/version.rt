@@ -6,6 +6,6 @@
 pub enum Version {
     /// Its magic is `FFV1HLD` and 1.
     First,
-    /// Its magic is `FFV1HLD` and 2, or, of a recording out of the profile, `FFV1ANY` and 1. It alone is written.
+    /// Its magic is `FFV1HLD` and 2, or, of a recording out of the profile or of any frames, `FFV1ANY` and 1. It alone is written.
     Second,
 }

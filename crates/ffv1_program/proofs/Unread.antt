@@ -169,7 +169,7 @@ module _ {Device : Type 0} (is_at : List ℕ → Device → Type 0) (log : Devic
         subst Untaken (sym same) (went_held is_at log GivesUpWithin stops.index words old new all
         (subst (λ p. IfCopyUnread GivesUpWithin (map log old) (map log new) (faults.Read p)) same unread))
     take_unread recordings remaining width height o o' x y (Err (faults.Read path)) (inr (inr (held, text, in_order, taken, inl (breaks, kept)))) unread = absurd breaks
-    take_unread recordings remaining width height o o' x y (Err (faults.Read path)) (inr (inr (held, text, in_order, taken, inr (is, has, wrote, printed)))) unread = absurd (cc)
+    take_unread recordings remaining width height o o' x y (Err (faults.Read path)) (inr (inr (held, text, in_order, taken, inr (is, made)))) unread = absurd (cc)
     take_unread recordings remaining width height o o' x y (Err fault) reported unread = tt
 
     abbrev Unplayed : CommandPath → Type 0
@@ -223,7 +223,7 @@ module _ {Device : Type 0} (recordings : Recordings) (is_at : List ℕ → Devic
   join_unread remaining o o' x y (Err (faults.Read path)) (inl (inr (i, there, (whole, text, joined, (last, inl (inr (is, read)))), later), kept)) unread = absurd (cc)
   join_unread remaining o o' x y (Err (faults.Read path)) (inl (inr (i, there, (whole, text, joined, (last, inr (is, other))), later), kept)) unread = absurd (cc)
   join_unread remaining o o' x y (Err (faults.Read path)) (inr (whole, text, joined, inl (breaks, kept))) unread = absurd breaks
-  join_unread remaining o o' x y (Err (faults.Read path)) (inr (whole, text, joined, inr (is, has, wrote, printed))) unread = absurd (cc)
+  join_unread remaining o o' x y (Err (faults.Read path)) (inr (whole, text, joined, inr (is, made))) unread = absurd (cc)
   join_unread remaining o o' x y (Err fault) reported unread = tt
 
 -- ---- two streams that are joined

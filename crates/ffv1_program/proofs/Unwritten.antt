@@ -99,8 +99,8 @@ module _ (o o' x y : WriteLog) where
   both_lost path file text (inr (same, wrote, breaks)) = subst Lost (sym same) breaks.tries'
 
   made_lost : (path : CommandPath) (h : Contents) (text : List ℕ) → MadeBreaks h text o o' x y (faults.Write path) → Lost path
-  made_lost path h text (inl ((same, fits, breaks), kept)) = subst Lost (sym same) breaks.tries'
-  made_lost path h text (inr (is, has, wrote, breaks)) =
+  made_lost path h text (inl ((same, (filed, of, fits, breaks)), kept)) = subst Lost (sym same) breaks.tries'
+  made_lost path h text (inr (is, (file, saved, wrote, breaks))) =
       let same : path ≡ paths.StandardOutput = cc in
       subst Lost (sym same) breaks.tries'
 

@@ -9,12 +9,13 @@ use Rattle.ffv1_commands.specs.Devices.{WriteStops}
 use Rattle.ffv1_commands.specs.declared.fault.CliFault.{CliFault}
 use Rattle.ffv1_commands.specs.declared.fault.CliFault.TheVariants as faults
 use Rattle.ffv1_commands.specs.declared.path.CommandPath.{CommandPath}
-use Rattle.ffv1_commands.specs.Holdings.{HasFile, IsFileFault, HoldingStops, SavingBreaks, IsMade, MadeBreaks}
+use Rattle.ffv1_commands.specs.TakenFrames.{IsFiled}
+use Rattle.ffv1_commands.specs.Holdings.{IsFileFault, IsSavedFile, HoldingStops, SavingBreaks, IsMade, MadeBreaks}
 
 -- Why the file of a holding and then a text were not written whole: it has none, or a front of them was written.
 abbrev pub MadeStops : Contents → List ℕ → (out_before out_after text_before text_after : Option (List ℕ)) → CliFault → Type 0
 MadeStops h text out_before out_after text_before text_after (faults.Write path) =
-    WriteStops (holding_text h) text out_before out_after text_before text_after (faults.Write path)
+    (filed : Contents) × IsFiled h filed × WriteStops (holding_text filed) text out_before out_after text_before text_after (faults.Write path)
 MadeStops h text out_before out_after text_before text_after fault = IsFileFault h fault
 
 -- ---- over the log of the file
@@ -28,7 +29,7 @@ ReadsHeld recordings path (Err fault) old new = HoldingStops recordings path fau
 
 -- the file of a holding was written to OUT, or it was not
 abbrev pub SavesNamed : {T : Type 0} → Result T CliFault → Contents → (old new : WriteLog) → Type 0
-SavesNamed (Ok x) h old new = HasFile h × Writes old new (holding_text h)
+SavesNamed (Ok x) h old new = (file : List ℕ) × IsSavedFile h file × Writes old new file
 SavesNamed (Err fault) h old new = SavingBreaks h old new fault
 
 -- the file and then the text were written, or they were not written whole

@@ -1,5 +1,5 @@
 use Rattle.std.proofs.Common.{◌≡◌, rules, refl}
-use Rattle.ffv1_holding.specs.Contents.{joined}
+use Rattle.ffv1_hold.specs.UnitedHoldings.{united}
 use Rattle.ffv1_hold.specs.MergedStreams.{WritesFrontSoFar, inputs_read}
 use Rattle.ffv1_hold.specs.declared.file_fault.HoldFileFault.TheVariants.{Write}
 use Rattle.ffv1_commands.specs.Fault.{of_merge}
@@ -38,8 +38,8 @@ returns-in-Err-clause-other g c one two left right other =
     rw c.of_merge.ensures (returns_other_heads c.in-Err.fault (c.in-Err.ensures.streams.other one two left right other))
 
 pub returns-in-Err-clause-only : goal.returns-in-Err-clause-only
-returns-in-Err-clause-only g c v w one two same taken left right =
-    rw c.of_merge.ensures (returns_files (joined one two) c.in-Err.fault (c.in-Err.ensures.streams.only v w one two same taken left right))
+returns-in-Err-clause-only g c v w one two same taken also left right =
+    rw c.of_merge.ensures (returns_files (united one two) c.in-Err.fault (c.in-Err.ensures.streams.only v w one two same taken also left right))
 
 pub returns-in-Err-clause-untouched : goal.returns-in-Err-clause-untouched
 returns-in-Err-clause-untouched g c =

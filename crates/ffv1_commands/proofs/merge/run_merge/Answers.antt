@@ -15,8 +15,8 @@ returns-clause-other g c one two left right other =
     (subst (λ (o : Option (List ℕ)). BeginsWithHead c.args.recordings o two) (sym (ap remaining_of c.new-2.ensures.log)) right) other
 
 pub returns-clause-only : goal.returns-clause-only
-returns-clause-only g c v w one two same taken left right =
-    c.merge_of.ensures.only v w one two same taken (subst (λ (o : Option (List ℕ)). IsFileOf o v one) (sym (ap remaining_of c.new.ensures.log)) left)
+returns-clause-only g c v w one two same taken also left right =
+    c.merge_of.ensures.only v w one two same taken also (subst (λ (o : Option (List ℕ)). IsFileOf o v one) (sym (ap remaining_of c.new.ensures.log)) left)
     (subst (λ (o : Option (List ℕ)). IsFileOf o w two) (sym (ap remaining_of c.new-2.ensures.log)) right)
 
 pub returns-clause-ok : goal.returns-clause-ok

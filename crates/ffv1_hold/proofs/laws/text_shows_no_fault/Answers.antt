@@ -10,9 +10,9 @@ returns-clause-text c q v h is taken fits fault shown = shown.0 (refused_outside
 pub returns-clause-beginnings : goal.returns-clause-beginnings
 returns-clause-beginnings c q text held =
     let h = held.0 in
-    let same = held.3.2 in (
-      λ seen rest fault split shown. text_none q held.3.0 h held.1 held.2 held.3.1 [] seen rest fault (append-nil _ ∙ sym same ∙ split) shown,
-      λ part. text_whole q held.3.0 h held.1 held.2 held.3.1 [] (subst (IsPartOfFile q) (same ∙ sym (append-nil _)) part),
+    let same = held.3.3 in (
+      λ seen rest fault split shown. text_none q held.3.0 h held.1 held.2 held.3.1 held.3.2 [] seen rest fault (append-nil _ ∙ sym same ∙ split) shown,
+      λ part. text_whole q held.3.0 h held.1 held.2 held.3.1 held.3.2 [] (subst (IsPartOfFile q) (same ∙ sym (append-nil _)) part),
     )
 
 pub returns-clause-unfinished : goal.returns-clause-unfinished

@@ -1,4 +1,4 @@
-use Rattle.ffv1_hold.proofs.Common.{◌≡◌, ◌-◌, ◌++◌, IfSome, IfNone, IsAtEnd, file_limit, TakesText, IsHolding, entries_text, file_entries, IsStated, last_of, Follows, IsFileEntryOf, next_text}
+use Rattle.ffv1_hold.proofs.Common.{◌≡◌, ◌-◌, ◌++◌, IfSome, IfNone, IsAtEnd, file_limit, TakesText, IsHolding, entries_text, file_entries, IsStated, last_of, Follows, IsFileEntryOf, next_text, [], ◌⊎◌, Some, None, TellsMagic, KeepsMagic}
 use Rattle.ffv1_hold.proofs.reading.read_entries.Given as goal
 
 -- What was taken is the text of the entries so far, and of the one that is held after the last of them, or of the end tag.
@@ -12,6 +12,9 @@ invariant-loop-reader g l = record {
   reel : l.holding.reel ≡ l.fn.holding.reel;
   entry : IfSome l.reader.held (IsFileEntryOf l.fn.reader.version l.fn.holding.reel.rules);
   follows : IfSome l.reader.held (λ e. Follows (last_of (file_entries l.holding)) e.0);
+  begun : (file_entries l.holding ≡ []) ⊎ TellsMagic l.fn.holding.reel (file_entries l.holding);
+  keeps : IfSome l.reader.held (λ e. KeepsMagic l.fn.holding.reel (last_of (file_entries l.holding)) (Some e.0));
+  end_keeps : IfNone l.reader.held (KeepsMagic l.fn.holding.reel (last_of (file_entries l.holding)) None);
   at_end : IfNone l.reader.held (IsAtEnd (g.R.Source.log l.source).remaining);
 }
 

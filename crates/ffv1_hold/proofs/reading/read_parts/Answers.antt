@@ -24,11 +24,11 @@ returns-in_err-read_entries g c =
     let same = ap (λ (h : Contents). h.reel) c.in_ok-holding.ensures in
     let v = c.read_head.new.self.version in
     let reel = c.in_ok-holding.holding.reel in
-    rw (p.1, p.2) (StopsAt-after (IsPartOfEntries v reel.rules) (IsPartOfFile c.args.recordings) (EntriesAreWhole v reel) (FileIsWhole c.args.recordings) (EntriesShow v reel.rules) (FileShows c.args.recordings) _ _ _ _ _
+    rw (p.1, p.2) (StopsAt-after (IsPartOfEntries v reel) (IsPartOfFile c.args.recordings) (EntriesAreWhole v reel) (FileIsWhole c.args.recordings) (EntriesShow v reel) (FileShows c.args.recordings) _ _ _ _ _
     (head_text v r) c.in_ok-reel.ensures.read _ c.in_err-read_entries.ensures.read
-    (λ s part. file_from_entries_part v r is s (subst (λ (x : Reel). IsPartOfEntries v x.rules s) same part))
+    (λ s part. file_from_entries_part v r is s (subst (λ (x : Reel). IsPartOfEntries v x s) same part))
     (λ f s whole. file_from_whole_entries v r is f s (subst (λ (x : Reel). EntriesAreWhole v x f s) same whole))
-    (λ f s shown. file_from_entries_fault v r is f s (subst (λ (x : Reel). EntriesShow v x.rules f s) same shown)))
+    (λ f s shown. file_from_entries_fault v r is f s (subst (λ (x : Reel). EntriesShow v x f s) same shown)))
 
 pub returns : goal.returns
 returns g c =
@@ -43,7 +43,7 @@ returns g c =
     ∙ ap (λ (x : Reel). head_text v x ++ entries ++ 0 ∷ []) (sym reel)) all in
     record {
       well_formed = more.well_formed;
-      taken = subst (MayTake c.args.recordings) (sym reel) (first.reel.taken, first.reel.reel);
+      taken = subst (MayTake c.args.recordings) (sym reel) first.reel.taken;
       file = grind (arith, common_steps);
       at_end = more.end;
       tries' = whole.tries';

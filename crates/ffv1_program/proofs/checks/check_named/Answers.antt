@@ -1,4 +1,4 @@
-use Rattle.std.proofs.Common.{rules, sym, ◌∙◌}
+use Rattle.std.proofs.Common.{sym, ◌∙◌}
 use Rattle.ffv1_commands.proofs.CheckCommandSteps.{check_of_bytes}
 use Rattle.ffv1_program.proofs.Unread.{check_unread}
 use Rattle.ffv1_program.proofs.Unwritten.{check_unwritten}
@@ -10,8 +10,8 @@ returns g c recordings =
     let both = c.device-first.ensures.bytes ∙ sym c.device-second.ensures.bytes in
     let bytes = check_of_bytes _ _ _ _ _ _ r c.check_of.ensures.reported in
     record {
-      does = search (rules, rw c.device-second.ensures.bytes at (bytes.ok both));
-      stops = search (rules, rw c.device-second.ensures.bytes at (bytes.err both));
+      does = rw c.device-second.ensures.bytes at (bytes.ok both);
+      stops = rw c.device-second.ensures.bytes at (bytes.err both);
       keeps = c.check_of.ensures.untouched;
       names = bytes.names;
       refuses = tt;

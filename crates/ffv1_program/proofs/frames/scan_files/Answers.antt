@@ -1,4 +1,3 @@
-use Rattle.std.proofs.Common.{rules}
 use Rattle.ffv1_commands.proofs.ScanCommandSteps.{scan_of_bytes}
 use Rattle.ffv1_commands.proofs.MendCommandSteps.{of_list_so}
 use Rattle.ffv1_commands.specs.declared.path.CommandPath.TheVariants.{Ranges}
@@ -11,8 +10,8 @@ returns g c recordings =
     let r = c.scan_of.result in
     let bytes = scan_of_bytes _ _ _ _ _ _ r c.scan_of.ensures.scans in
     record {
-      does = search (rules, rw (c.device.ensures.bytes, c.device-2.ensures.bytes) at bytes.ok);
-      stops = search (rules, rw (c.device.ensures.bytes, c.device-2.ensures.bytes) at bytes.err);
+      does = rw (c.device.ensures.bytes, c.device-2.ensures.bytes) at bytes.ok;
+      stops = rw (c.device.ensures.bytes, c.device-2.ensures.bytes) at bytes.err;
       keeps = of_list_so Ranges r (λ kept. kept.1) c.scan_of.ensures.in_turn;
       refuses = tt;
       names = c.scan_of.ensures.names;

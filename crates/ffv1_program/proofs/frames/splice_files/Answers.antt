@@ -25,10 +25,10 @@ returns g c recordings out =
     let tries = ap (λ (log : WriteLog). log.tries) c.make_after.ensures.log in
     record {
       does = made_ok all c.make_after.result _ _ c.make_after.ensures.ok
-          (rw after (search (rules, rw (copies, c.as_slice.ensures.value) at bytes.ok)));
+          (rw after (rw (copies, c.as_slice.ensures.value) at bytes.ok));
       stops = made_err all c.make_after.result _ _ _ _ _ c.make_after.ensures.err
-          (rw after (search (rules, rw (copies, c.as_slice.ensures.value) at bytes.ok)))
-          (rw after (search (rules, rw (copies, c.as_slice.ensures.value) at bytes.err)));
+          (rw after (rw (copies, c.as_slice.ensures.value) at bytes.ok))
+          (rw after (rw (copies, c.as_slice.ensures.value) at bytes.err));
       keeps = made_kept _ all c.make_after.result c.args.made.now _ c.make_after.new.made _ UnlessWriting c.make_after.ensures.err (λ _. tt)
           c.splice_of-all.ensures.untouched;
       unread = made_says _ all c.make_after.result _ _ c.make_after.ensures.err tt

@@ -12,9 +12,9 @@ returns g c out =
     let others = ap (map (λ source. (g.F.Buffered.Source.log source).remaining)) c.as_mut_slice.ensures.value ∙ c.in_ok-others.ensures.bytes in
     let at = rw (c.as_slice.ensures.value, ← c.as_mut_slice.ensures.value) at c.in_ok-others.ensures.at in
     record {
-      does = all_ok r _ (search (rules, rw (c.in_ok-first.ensures.bytes, others, c.as_slice.ensures.value) at bytes.ok));
-      stops = all_err r _ (search (rules, rw (c.in_ok-first.ensures.bytes, others, c.as_slice.ensures.value) at bytes.err));
-      keeps = all_err r _ (search (rules, c.join_of.ensures.untouched));
+      does = all_ok r _ (rw (c.in_ok-first.ensures.bytes, others, c.as_slice.ensures.value) at bytes.ok);
+      stops = all_err r _ (rw (c.in_ok-first.ensures.bytes, others, c.as_slice.ensures.value) at bytes.err);
+      keeps = all_err r _ c.join_of.ensures.untouched;
       unread = all_err r _ (join_unread c.args.recordings (g.F.FileSystem.files c.args.files.now).is_buffered_at g.F.Buffered.Source.log c.args.others.now.items _ _ at _
           c.in_ok-first.first c.join_of.new.first c.in_ok-first.ensures.at _ _ _ _ _ r c.join_of.ensures.reported c.join_of.ensures.unread);
       unwritten = all_err r _ (err_out_also _ _ _ r inr (join_unwritten _ _ _ _ _ _ c.args.recordings _ _ _ r c.join_of.ensures.reported));

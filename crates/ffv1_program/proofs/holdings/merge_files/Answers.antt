@@ -13,10 +13,10 @@ returns g c =
     let r = c.merge_of.result in
     let bytes = merge_of_bytes c.args.recordings _ _ r c.merge_of.ensures.reported in
     record {
-      does = all_ok r _ (search (rules, rw (c.in-Ok.ensures.bytes, c.in-Ok-opened.ensures.bytes) at bytes.ok));
+      does = all_ok r _ (rw (c.in-Ok.ensures.bytes, c.in-Ok-opened.ensures.bytes) at bytes.ok);
       stops = all_err r _ (merging_stops c.args.recordings (IsEither c.args.out.now c.args.left.now c.args.right.now) (g.F.FileSystem.files c.args.files.now).cannot_open_at
           c.args.left.now c.args.right.now _ _ _ _ r (rw (c.in-Ok.ensures.bytes, c.in-Ok-opened.ensures.bytes) at bytes.err)
-          (search (rules, rw (c.in-Ok.ensures.bytes, c.in-Ok-opened.ensures.bytes) at bytes.leaves)));
+          (rw (c.in-Ok.ensures.bytes, c.in-Ok-opened.ensures.bytes) at bytes.leaves));
       keeps = all_err r _ (err_both r _ _ (not_begun c.args.recordings (g.F.Device.Source.log c.in-Ok.left).remaining
           (g.F.Device.Source.log c.in-Ok-opened.right).remaining _ r bytes.err c.merge_of.ensures.untouched)
           (touched_bytes paths.Out g.O.Sink.log c.args.made.now c.merge_of.new.out r c.merge_of.ensures.out_untouched));

@@ -1,4 +1,4 @@
-use Rattle.std.proofs.Common.{rules, inr}
+use Rattle.std.proofs.Common.{inr}
 use Rattle.ffv1_commands.proofs.RestoreSteps.{restore_of_bytes}
 use Rattle.ffv1_program.proofs.Runs.{all_ok, all_err}
 use Rattle.ffv1_program.proofs.Unread.{unread_as, restore_unread}
@@ -11,9 +11,9 @@ returns g c out =
     let bytes = restore_of_bytes c.args.recordings (g.F.Buffered.Source.log c.in_ok-file.file)
     (g.F.Buffered.Source.log c.restore_of.new.file) _ _ _ _ r c.restore_of.ensures.reported in
     record {
-      does = all_ok r _ (search (rules, rw c.in_ok-file.ensures.bytes at bytes.ok));
-      stops = all_err r _ (search (rules, rw c.in_ok-file.ensures.bytes at bytes.err));
-      keeps = all_err r _ (search (rules, c.restore_of.ensures.untouched));
+      does = all_ok r _ (rw c.in_ok-file.ensures.bytes at bytes.ok);
+      stops = all_err r _ (rw c.in_ok-file.ensures.bytes at bytes.err);
+      keeps = all_err r _ c.restore_of.ensures.untouched;
       names = all_err r _ bytes.names;
       refuses = tt;
       unread = all_err r _ (unread_as _ _ r (λ path unread. (c.in_ok-file.file, c.restore_of.new.file, c.in_ok-file.ensures.at, unread))

@@ -11,8 +11,8 @@ returns g c out =
     let copies = ap (map (λ source. (g.F.Device.Source.log source).remaining)) c.as_mut_slice.ensures.value ∙ c.in_ok-copies.ensures.bytes in
     let at = rw (c.as_slice.ensures.value, ← c.as_mut_slice.ensures.value) at c.in_ok-copies.ensures.at in
     record {
-      does = search (rules, rw (c.device.ensures.bytes, copies, c.as_slice.ensures.value) at bytes.ok);
-      stops = search (rules, rw (c.device.ensures.bytes, copies, c.as_slice.ensures.value) at bytes.err);
+      does = rw (c.device.ensures.bytes, copies, c.as_slice.ensures.value) at bytes.ok;
+      stops = rw (c.device.ensures.bytes, copies, c.as_slice.ensures.value) at bytes.err;
       keeps = c.take_of.ensures.untouched;
       unread = take_unread (g.F.FileSystem.files c.args.files.now).is_device_at g.F.Device.Source.log c.args.copies.now.items _ _ at _ c.device.result
           c.take_of.new.configuration c.device.ensures.at c.args.recordings _ _ _ _ _ _ _ r c.take_of.ensures.reported c.take_of.ensures.unread;

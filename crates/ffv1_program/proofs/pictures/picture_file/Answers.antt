@@ -1,4 +1,4 @@
-use Rattle.std.proofs.Common.{rules, inr}
+use Rattle.std.proofs.Common.{inr}
 use Rattle.ffv1_commands.proofs.PictureSteps.{picture_of_bytes, any_picture_of_bytes}
 use Rattle.ffv1_program.proofs.Unread.{unread_as, picture_unread, any_picture_unread}
 use Rattle.ffv1_program.proofs.Unwritten.{err_out_also, picture_unwritten, any_picture_unwritten}
@@ -9,8 +9,8 @@ returns-in-Profile g c out =
     let r = c.picture_of.result in
     let bytes = picture_of_bytes _ _ _ _ _ _ r c.picture_of.ensures.reported in
     rw c.in-Profile.is (record {
-      does = search (rules, rw c.in_ok-file.ensures.bytes at bytes.ok);
-      stops = search (rules, rw c.in_ok-file.ensures.bytes at bytes.err);
+      does = rw c.in_ok-file.ensures.bytes at bytes.ok;
+      stops = rw c.in_ok-file.ensures.bytes at bytes.err;
       keeps = c.picture_of.ensures.untouched;
       refuses = tt;
       names = bytes.names;
@@ -24,8 +24,8 @@ returns g c out =
     let r = c.any_picture_of.result in
     let bytes = any_picture_of_bytes _ _ _ _ _ _ r c.any_picture_of.ensures.reported in
     rw c.in-Any.is (record {
-      does = search (rules, rw c.in_ok-file.ensures.bytes at bytes.ok);
-      stops = search (rules, rw c.in_ok-file.ensures.bytes at bytes.err);
+      does = rw c.in_ok-file.ensures.bytes at bytes.ok;
+      stops = rw c.in_ok-file.ensures.bytes at bytes.err;
       keeps = c.any_picture_of.ensures.untouched;
       refuses = tt;
       names = bytes.names;

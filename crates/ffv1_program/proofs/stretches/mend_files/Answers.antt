@@ -41,10 +41,10 @@ returns g c recordings =
     let tries = ap (λ (log : WriteLog). log.tries) c.make_after.ensures.log in
     record {
       does = made_ok good c.make_after.result _ _ c.make_after.ensures.ok
-          (rw after (search (rules, rw (c.device.ensures.bytes, inputs, c.as_slice-2.ensures.value) at bytes.ok)));
+          (rw after (rw (c.device.ensures.bytes, inputs, c.as_slice-2.ensures.value) at bytes.ok));
       stops = made_err good c.make_after.result _ _ _ _ _ c.make_after.ensures.err
-          (rw after (search (rules, rw (c.device.ensures.bytes, inputs, c.as_slice-2.ensures.value) at bytes.ok)))
-          (rw after (search (rules, rw (c.device.ensures.bytes, inputs, c.as_slice-2.ensures.value) at bytes.err)));
+          (rw after (rw (c.device.ensures.bytes, inputs, c.as_slice-2.ensures.value) at bytes.ok))
+          (rw after (rw (c.device.ensures.bytes, inputs, c.as_slice-2.ensures.value) at bytes.err));
       keeps = err_both c.make_after.result _ _
           (made_kept _ good c.make_after.result c.args.made.now _ c.make_after.new.made _ (IfOfList paths.List) c.make_after.ensures.err (λ _. tt)
           (of_list_so paths.List good (λ same. (same.1, same.2)) c.mend_of-good.ensures.untouched))

@@ -1,6 +1,6 @@
 use Rattle.ffv1_hold.proofs.Common.{common_steps, ◌≡◌, ℕ, ◌+◌, ◌≤◌, subst, arith, file_limit, Less, Equal, Greater, err_from_is_err_and, IsTurn, Ordering, AllGoOn}
 use Rattle.ffv1_hold.proofs.JoinSteps.{AllGoOn-trans, OneStops-after, left_read, right_read, left_stops, right_stops, wrote, entry_stopped}
-use Rattle.ffv1_hold.proofs.MergeSteps.{entry_stops, left_shows_none, less_stands, greater_stands, equal_stands, left_refused, right_refused, left_now_shows_none, ends, same_version_entry}
+use Rattle.ffv1_hold.proofs.MergeSteps.{entry_stops, left_shows_none, less_stands, greater_stands, equal_stands, left_refused, right_refused, left_now_shows_none, next_is, ends, same_version_entry}
 use Rattle.ffv1_hold.proofs.merging.Merge.merge_entries.Given.{Over}
 use Rattle.ffv1_hold.proofs.merging.Merge.merge_entries.Goals.{In_ok-write_entry}
 use Rattle.ffv1_hold.proofs.merging.Merge.merge_entries.Goals as goal
@@ -9,9 +9,9 @@ room_left : (left long room : ℕ) → left + long ≡ room → room ≤ file_li
 room_left left long room is fits = omega arith
 
 pub returns-in_err-write_entry-clause-err : goal.returns-in_err-write_entry-clause-err
-returns-in_err-write_entry-clause-err g c start same is first =
+returns-in_err-write_entry-clause-err g c start left_same right_same is first =
     let p = err_from_is_err_and c.from_residual.result c.from_residual.ensures.1 in
-    rw (p.1, p.2) (entry_stops start _ _ _ _ _ _ _ _ (c.loop-entry.invariant.stands start same is first).1 _ c.in-Some.entry.now c.in-Some.others.now
+    rw (p.1, p.2) (entry_stops start _ _ _ _ _ _ _ _ (c.loop-entry.invariant.stands start left_same right_same is first).1 _ c.in-Some.entry.now c.in-Some.others.now
     c.in-Some.order _ c.in-Some.ensures.some c.in_err-write_entry.ensures.stops)
 
 pub returns-in_err-write_entry-clause-went : goal.returns-in_err-write_entry-clause-went
@@ -40,9 +40,9 @@ loop-entry-preserved-in-Continue-branch-2 g c =
     let done = c.in_ok-write_entry.ensures in
     let read = c.in_ok-advance-in-Less.ensures in
     record {
-      stands = λ start same is first. let now = inv.stands start same is first in
-          less_stands start _ _ _ _ _ _ _ _ now.1 _ _ _ _ done.0.bytes' done.1 _ _ now.0 c.args.reel.now.rules same turn _ _ _ _ read.version
-          read.read.text read.entry read.follows read.end;
+      stands = λ start left_same right_same is first. let now = inv.stands start left_same right_same is first in
+          less_stands start _ _ _ _ _ _ _ _ now.1 _ _ _ _ done.0.bytes' done.1 _ _ now.0 _ _ left_same right_same turn _ _ _ _ read.version
+          read.read.text (next_is _ _ _ _ _ read.entry read.follows read.keeps read.end_keeps read.end);
       room = room_left _ _ _ done.1 inv.room;
       left_place = read.read.text.within;
       right_place = inv.right_place;
@@ -52,12 +52,12 @@ loop-entry-preserved-in-Continue-branch-2 g c =
     }
 
 pub returns-in_err-advance-in-Less-clause-err : goal.returns-in_err-advance-in-Less-clause-err
-returns-in_err-advance-in-Less-clause-err g c start same is first =
+returns-in_err-advance-in-Less-clause-err g c start left_same right_same is first =
     let p = err_from_is_err_and c.from_residual-in_err-advance-in-Less.result c.from_residual-in_err-advance-in-Less.ensures.1 in
     let turn = turn_is g (goal.at.returns-in_err-advance-in-Less-clause-err g c).In_ok-write_entry Less c.in-Less.is in
-    let now = c.loop-entry.invariant.stands start same is first in
+    let now = c.loop-entry.invariant.stands start left_same right_same is first in
     let done = c.in_ok-write_entry.ensures in
-    rw (p.1, p.2) (left_refused start _ _ _ _ _ _ _ _ now.1 _ _ _ _ done.0.bytes' done.1 _ _ now.0 c.args.reel.now.rules same Less turn turn.0 _ _
+    rw (p.1, p.2) (left_refused start _ _ _ _ _ _ _ _ now.1 _ _ _ _ done.0.bytes' done.1 _ _ now.0 _ _ left_same right_same Less turn turn.0 _ _
     c.in_err-advance-in-Less.ensures.read.fault)
 
 pub returns-in_err-advance-in-Less-clause-went : goal.returns-in_err-advance-in-Less-clause-went
@@ -75,9 +75,9 @@ loop-entry-preserved-in-Continue-branch-3 g c =
     let done = c.in_ok-write_entry.ensures in
     let read = c.in_ok-advance-in-Greater.ensures in
     record {
-      stands = λ start same is first. let now = inv.stands start same is first in
-          greater_stands start _ _ _ _ _ _ _ _ now.1 _ _ _ _ done.0.bytes' done.1 _ _ now.0 c.args.reel.now.rules same turn _ _ _ _ read.version
-          read.read.text read.entry read.follows read.end;
+      stands = λ start left_same right_same is first. let now = inv.stands start left_same right_same is first in
+          greater_stands start _ _ _ _ _ _ _ _ now.1 _ _ _ _ done.0.bytes' done.1 _ _ now.0 _ _ left_same right_same turn _ _ _ _ read.version
+          read.read.text (next_is _ _ _ _ _ read.entry read.follows read.keeps read.end_keeps read.end);
       room = room_left _ _ _ done.1 inv.room;
       left_place = inv.left_place;
       right_place = read.read.text.within;
@@ -87,12 +87,12 @@ loop-entry-preserved-in-Continue-branch-3 g c =
     }
 
 pub returns-in_err-advance-in-Greater-clause-err : goal.returns-in_err-advance-in-Greater-clause-err
-returns-in_err-advance-in-Greater-clause-err g c start same is first =
+returns-in_err-advance-in-Greater-clause-err g c start left_same right_same is first =
     let p = err_from_is_err_and c.from_residual-in_err-advance-in-Greater.result c.from_residual-in_err-advance-in-Greater.ensures.1 in
     let turn = turn_is g (goal.at.returns-in_err-advance-in-Greater-clause-err g c).In_ok-write_entry Greater c.in-Greater.is in
-    let now = c.loop-entry.invariant.stands start same is first in
+    let now = c.loop-entry.invariant.stands start left_same right_same is first in
     let done = c.in_ok-write_entry.ensures in
-    rw (p.1, p.2) (right_refused start _ _ _ _ _ _ _ _ now.1 _ _ _ _ done.0.bytes' done.1 _ _ now.0 c.args.reel.now.rules same Greater turn _ turn.0 _ _
+    rw (p.1, p.2) (right_refused start _ _ _ _ _ _ _ _ now.1 _ _ _ _ done.0.bytes' done.1 _ _ now.0 _ _ left_same right_same Greater turn _ turn.0 _ _
     (left_shows_none start _ _ _ _ _ _ _ _ now.1) _ c.in_err-advance-in-Greater.ensures.read.fault)
 
 pub returns-in_err-advance-in-Greater-clause-went : goal.returns-in_err-advance-in-Greater-clause-went
@@ -104,12 +104,12 @@ returns-in_err-advance-in-Greater-clause-went g c =
 -- ---- both have the entry that was written
 
 pub returns-in_err-advance-in-Equal-clause-err : goal.returns-in_err-advance-in-Equal-clause-err
-returns-in_err-advance-in-Equal-clause-err g c start same is first =
+returns-in_err-advance-in-Equal-clause-err g c start left_same right_same is first =
     let p = err_from_is_err_and c.from_residual-in_err-advance-in-Equal.result c.from_residual-in_err-advance-in-Equal.ensures.1 in
     let turn = turn_is g (goal.at.returns-in_err-advance-in-Equal-clause-err g c).In_ok-write_entry Equal c.in-Equal.is in
-    let now = c.loop-entry.invariant.stands start same is first in
+    let now = c.loop-entry.invariant.stands start left_same right_same is first in
     let done = c.in_ok-write_entry.ensures in
-    rw (p.1, p.2) (left_refused start _ _ _ _ _ _ _ _ now.1 _ _ _ _ done.0.bytes' done.1 _ _ now.0 c.args.reel.now.rules same Equal turn turn.0 _ _
+    rw (p.1, p.2) (left_refused start _ _ _ _ _ _ _ _ now.1 _ _ _ _ done.0.bytes' done.1 _ _ now.0 _ _ left_same right_same Equal turn turn.0 _ _
     c.in_err-advance-in-Equal.ensures.read.fault)
 
 pub returns-in_err-advance-in-Equal-clause-went : goal.returns-in_err-advance-in-Equal-clause-went
@@ -119,15 +119,15 @@ returns-in_err-advance-in-Equal-clause-went g c =
     (left_stops _ _ _ _ _ _ _ _ _ _ c.loop-entry.invariant.right_place c.in_err-advance-in-Equal.ensures.read))
 
 pub returns-in_err-advance-in-Equal-2-clause-err : goal.returns-in_err-advance-in-Equal-2-clause-err
-returns-in_err-advance-in-Equal-2-clause-err g c start same is first =
+returns-in_err-advance-in-Equal-2-clause-err g c start left_same right_same is first =
     let p = err_from_is_err_and c.from_residual-in_err-advance-in-Equal-2.result c.from_residual-in_err-advance-in-Equal-2.ensures.1 in
     let turn = turn_is g (goal.at.returns-in_err-advance-in-Equal-2-clause-err g c).In_ok-write_entry Equal c.in-Equal.is in
-    let now = c.loop-entry.invariant.stands start same is first in
+    let now = c.loop-entry.invariant.stands start left_same right_same is first in
     let done = c.in_ok-write_entry.ensures in
     let read = c.in_ok-advance-in-Equal.ensures in
-    rw (p.1, p.2) (right_refused start _ _ _ _ _ _ _ _ now.1 _ _ _ _ done.0.bytes' done.1 _ _ now.0 c.args.reel.now.rules same Equal turn _ turn.1 _ _
-    (left_now_shows_none start _ _ _ _ _ _ _ _ now.1 _ _ _ _ done.0.bytes' done.1 _ _ now.0 c.args.reel.now.rules same turn _ _ _
-    read.read.text read.entry read.follows read.end) _ c.in_err-advance-in-Equal-2.ensures.read.fault)
+    rw (p.1, p.2) (right_refused start _ _ _ _ _ _ _ _ now.1 _ _ _ _ done.0.bytes' done.1 _ _ now.0 _ _ left_same right_same Equal turn _ turn.1 _ _
+    (left_now_shows_none start _ _ _ _ _ _ _ _ now.1 _ _ _ _ done.0.bytes' done.1 _ _ now.0 _ _ left_same right_same turn _ _ _
+    read.read.text (next_is _ _ _ _ _ read.entry read.follows read.keeps read.end_keeps read.end)) _ c.in_err-advance-in-Equal-2.ensures.read.fault)
 
 pub returns-in_err-advance-in-Equal-2-clause-went : goal.returns-in_err-advance-in-Equal-2-clause-went
 returns-in_err-advance-in-Equal-2-clause-went g c =
@@ -145,9 +145,9 @@ loop-entry-preserved g c =
     let read = c.in_ok-advance-in-Equal.ensures in
     let also = c.in_ok-advance-in-Equal-2.ensures in
     record {
-      stands = λ start same is first. let now = inv.stands start same is first in
-          equal_stands start _ _ _ _ _ _ _ _ now.1 _ _ _ _ done.0.bytes' done.1 _ _ now.0 c.args.reel.now.rules same turn _ _ _
-          read.read.text read.entry read.follows read.end _ _ _ _ _ read.version also.version also.read.text also.entry also.follows also.end;
+      stands = λ start left_same right_same is first. let now = inv.stands start left_same right_same is first in
+          equal_stands start _ _ _ _ _ _ _ _ now.1 _ _ _ _ done.0.bytes' done.1 _ _ now.0 _ _ left_same right_same turn _ _ _
+          read.read.text (next_is _ _ _ _ _ read.entry read.follows read.keeps read.end_keeps read.end) _ _ _ _ _ read.version also.version also.read.text (next_is _ _ _ _ _ also.entry also.follows also.keeps also.end_keeps also.end);
       room = room_left _ _ _ done.1 inv.room;
       left_place = read.read.text.within;
       right_place = also.read.text.within;
@@ -157,6 +157,6 @@ loop-entry-preserved g c =
     }
 
 pub returns-clause-ok : goal.returns-clause-ok
-returns-clause-ok g c start same is first =
+returns-clause-ok g c start left_same right_same is first =
     let none = rw c.in_default.is at c.next_entry.ensures.none in
-    ends start _ _ _ _ _ _ _ _ none.0 none.1 (c.loop-entry.invariant.stands start same is first).1
+    ends start _ _ _ _ _ _ _ _ none.0 none.1 (c.loop-entry.invariant.stands start left_same right_same is first).1

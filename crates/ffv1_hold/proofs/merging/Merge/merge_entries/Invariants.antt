@@ -4,7 +4,7 @@ use Rattle.ffv1_hold.proofs.merging.Merge.merge_entries.Given as goal
 -- Both inputs are read as far as what was written.
 abbrev pub invariant-loop-entry : goal.invariant-loop-entry
 invariant-loop-entry g l = record {
-  stands : (start : Start) → l.reel.rules ≡ start.reel.rules → AreVersions start l.initial.self.lefts.version l.initial.self.rights.version
+  stands : (start : Start) → l.reels.left ≡ start.left_reel → l.reels.right ≡ start.right_reel → AreVersions start l.initial.self.lefts.version l.initial.self.rights.version
       → Stands start (g.R.Source.log l.initial.left).remaining (g.Q.Source.log l.initial.right).remaining
       (g.W.Sink.log l.initial.sink).contents l.initial.self.lefts.place l.initial.self.rights.place l.initial.self.room l.initial.self.lefts.held
       l.initial.self.rights.held
@@ -14,8 +14,8 @@ invariant-loop-entry g l = record {
   room : l.self.room ≤ file_limit;
   left_place : l.self.lefts.place ≤ file_limit;
   right_place : l.self.rights.place ≤ file_limit;
-  left_entry : IfSome l.self.lefts.held (IsFileEntryOf l.self.lefts.version l.reel.rules);
-  right_entry : IfSome l.self.rights.held (IsFileEntryOf l.self.rights.version l.reel.rules);
+  left_entry : IfSome l.self.lefts.held (IsFileEntryOf l.self.lefts.version l.reels.left.rules);
+  right_entry : IfSome l.self.rights.held (IsFileEntryOf l.self.rights.version l.reels.right.rules);
   went : AllGoOn (record { left = g.R.Source.log l.initial.left; right = g.Q.Source.log l.initial.right; sink = g.W.Sink.log l.initial.sink })
       (record { left = g.R.Source.log l.left; right = g.Q.Source.log l.right; sink = g.W.Sink.log l.sink })
       (l.initial.self.lefts.place, l.initial.self.rights.place) (l.self.lefts.place, l.self.rights.place);
